@@ -20,6 +20,7 @@ pub mod CaseCorrect
 pub mod CaseEnds
 pub mod CaseLines
 pub mod CaseParts
+pub mod CasePieces
 pub mod CaseTaken
 pub mod Comparisons
 pub mod Conditionals
@@ -32,6 +33,7 @@ pub mod Forms
 pub mod Invoking
 pub mod Lets
 pub mod Loops
+pub mod NamedBranches
 pub mod Names
 pub mod Negatives
 pub mod NewCodes

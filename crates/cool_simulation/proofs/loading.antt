@@ -8,5 +8,11 @@ pub mod LoadedSpans
 pub mod LoadedStrings
 pub mod LoadedTables
 pub mod LoadedText
+pub mod MarkedTexts
 pub mod PartsOfLines
+pub mod PartsOfMarks
+pub mod QuietFeatures
+pub mod QuietPrograms
+pub mod SettledFeatures
 pub mod StartState
+pub mod WatchedImages

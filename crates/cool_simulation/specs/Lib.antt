@@ -3,6 +3,7 @@ pub mod ByteStrings
 pub mod Loadings
 pub mod MainRun
 pub mod Pictures
+pub mod Quiet
 pub mod Shown
 pub mod Simulation
 pub mod SpansLoaded

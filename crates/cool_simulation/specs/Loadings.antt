@@ -1,8 +1,10 @@
 -- A program in a machine: what stands in text and data once its image is loaded.
-use Rattle.std.specs.Prelude.{◌≡◌, ℕ, ◌+◌, ◌*◌, ◌%◌, ◌<◌, ◌≤◌, List, [], length, map, codes, slice_get, Some, Contains, Bool as Truth}
-use Rattle.mips_isa.specs.declared.address_map.TheConstants.{DATA_START, HEAP_START}
+use Rattle.std.specs.Prelude.{◌≡◌, ℕ, ◌+◌, ◌*◌, ◌%◌, ◌<◌, ◌≤◌, List, [], length, map, codes, slice_get, Option, Some, None, Contains, Bool as Truth, true, false}
+use Rattle.mips_isa.specs.declared.address_map.TheConstants.{DATA_START, HEAP_START, TEXT_START}
 use Rattle.mips_isa.specs.Assembly.{start_name}
 use Rattle.mips_isa.specs.Bytes.{Bytes, word}
+use Rattle.mips_isa.specs.Decoding.{decoded}
+use Rattle.mips_isa.specs.Machine.{word_of_text}
 use Rattle.mips_isa.specs.Lines.{Name, WordItem, Number, Address}
 use Rattle.cool_syntax.specs.declared.file_tree.Feature.TheVariants.{Method}
 use Rattle.cool_syntax.specs.declared.file_tree.MethodDef.{MethodDef}
@@ -26,14 +28,54 @@ use Rattle.cool_consts.specs.Labels.{int_constant, string_constant}
 use Rattle.cool_codegen.specs.Code.{Context, truth_label}
 use Rattle.cool_codegen.specs.Features.{method_code}
 use Rattle.cool_emit.specs.Programs.{IsBuildable, initializer_code, program_constants}
+use Rattle.cool_emit.specs.SpansOfPrograms.{context_of}
 use Rattle.cool_simulation.specs.Pictures.{bit, word_of as number_word}
+use Rattle.cool_simulation.specs.Quiet.{IsQuietInitializer, IsQuietMethod}
+use Rattle.cool_simulation.specs.Visits.{Visit, program_begun}
 
--- a program, the names of its files, the world of its machine, and memory as it was loaded
+-- A run of the source that is watched, by its input and its steps. The world's text is the quiet one: where a span of the program begins, it has a word
+-- that is no instruction, so that a run over it which does not trap passes no such place. Beside it stands the whole text, which has the same
+-- words elsewhere, and in which the pieces of code between parts have no mark.
+pub record Watch (table : List Class) (files : List (List ℕ)) (world : World) : Type 0 where
+  pub text : List ℕ
+  pub marked : ℕ → Truth
+  pub same : (a : ℕ) → a % 4 ≡ 0 → TEXT_START ≤ a → marked a ≡ false → word_of_text world.text a ≡ word_of_text text a
+  pub traps : (a : ℕ) → a % 4 ≡ 0 → TEXT_START ≤ a → marked a ≡ true → decoded (word_of_text world.text a) ≡ None
+  pub methods : (c : ClassId) (k : ℕ) (m : MethodDef) → 5 ≤ c.0 → c.0 < length table → slice_get (features_of table c) k ≡ Some (Method m)
+      → IsQuietMethod marked (context_of table files c k) (program_constants table files) m.formals (world.place (method_label table (User c k))) m.body
+  pub initializers : (c : ClassId) → c.0 < length table → IsQuietInitializer marked table files (program_constants table files) c (world.place (initializer table c))
+  pub input : List ℕ
+  pub steps : ℕ
+
+-- a program, the names of its files, the world of its machine, and memory as it was loaded; and what is watched of its runs, if anything
 pub record Loading : Type 0 where
   pub table : List Class
   pub files : List (List ℕ)
   pub world : World
   pub memory : Bytes
+  pub watch : Option (Watch table files world)
+
+-- the whole text, which is the world's where nothing is watched
+abbrev pub watched_text : {table : List Class} {files : List (List ℕ)} {world : World} → Option (Watch table files world) → List ℕ
+watched_text {world = w} None = w.text
+watched_text (Some h) = h.text
+
+abbrev pub whole_text : Loading → List ℕ
+whole_text l = watched_text l.watch
+
+-- the world with the whole text
+abbrev pub whole : Loading → World
+whole l = record l.world { text = whole_text l }
+
+-- where a span begins that is watched
+abbrev pub marks : {table : List Class} {files : List (List ℕ)} {world : World} → Option (Watch table files world) → ℕ → Truth
+marks None = λ a. false
+marks (Some h) = h.marked
+
+-- what the watched run begins; anything, where none is watched
+abbrev pub Watched : {table : List Class} {files : List (List ℕ)} {world : World} → Option (Watch table files world) → Visit → Type 0
+Watched None x = Unit {0}
+Watched {table = p} (Some h) x = program_begun p h.input h.steps x
 
 abbrev pub constants : Loading → Constants
 constants l = program_constants l.table l.files
@@ -76,15 +118,15 @@ pub record InData (w : World) (a size : ℕ) : Type 0 where
   pub from : DATA_START ≤ a
   pub to : a + 4 * size ≤ w.segments.data_end
 
--- The code of the program stands under its labels, and its data are as the layout and the constants say.
+-- The code of the program stands under its labels, that of methods and initializers in the whole text; and its data are as the layout and the constants say.
 pub record IsLoaded (l : Loading) : Type 0 where
   pub buildable : IsBuildable l.table l.files
   pub tags : l.world.tags ≡ record { int = tag l.table (class_number 2); bool = tag l.table (class_number 3); string = tag l.table (class_number 4) }
   -- text
   pub routines : (r : Routine) → HasLines l.world (l.world.place (routine_label r)) (routine_lines r)
   pub methods : (c : ClassId) (k : ℕ) (m : MethodDef) → 5 ≤ c.0 → c.0 < length l.table → slice_get (features_of l.table c) k ≡ Some (Method m)
-      → HasLines l.world (l.world.place (method_label l.table (User c k))) (method_code (context l c k) (constants l) m.formals m.body)
-  pub initializers : (c : ClassId) → c.0 < length l.table → HasLines l.world (l.world.place (initializer l.table c)) (initializer_code l.table l.files (constants l) c)
+      → HasLines (whole l) (l.world.place (method_label l.table (User c k))) (method_code (context l c k) (constants l) m.formals m.body)
+  pub initializers : (c : ClassId) → c.0 < length l.table → HasLines (whole l) (l.world.place (initializer l.table c)) (initializer_code l.table l.files (constants l) c)
   -- data
   pub integers : (n : ℕ) → Contains (constants l).integers n → IntAt l.world l.memory HEAP_START (l.world.place (int_constant (integer_number (constants l).integers n))) n
   pub strings : (bytes : List ℕ) → Contains (constants l).strings bytes

@@ -1,5 +1,5 @@
 -- What the run of a whole program in a machine comes to, for a run of the source with so many steps.
-use Rattle.std.specs.Prelude.{◌≡◌, ℕ, ◌+◌, ◌-◌, ◌*◌, ◌<◌, ◌≤◌, false, List}
+use Rattle.std.specs.Prelude.{◌≡◌, ℕ, ◌+◌, ◌-◌, ◌*◌, ◌<◌, ◌≤◌, false, List, None}
 use Rattle.mips_isa.specs.declared.address_map.TheConstants.{HEAP_START, STACK_END}
 use Rattle.mips_isa.specs.Assembly.{start_name}
 use Rattle.mips_isa.specs.Calls.{State as Machine}
@@ -9,8 +9,10 @@ use Rattle.cool_runtime.specs.Reaches.{World, Reaches, OnTheWay, stands, exits}
 use Rattle.cool_runtime.specs.Machines.{At, Pointers, Console}
 use Rattle.cool_meaning.specs.Values.{start}
 use Rattle.cool_meaning.specs.SourceRun.{End, Done, Failed, GoesOn, IsStuck, Run, run}
-use Rattle.cool_simulation.specs.Loadings.{Loading, IsLoaded}
+use Rattle.cool_simulation.specs.Loadings.{Loading, IsLoaded, Watched}
 use Rattle.cool_simulation.specs.Pictures.{Map, Pictures, Shows}
+use Rattle.cool_simulation.specs.Simulation.{Passes}
+use Rattle.cool_simulation.specs.Visits.{Visit, program_begun}
 
 -- The machine stands at the first line of a program: memory is as loaded, nothing of heap and stack is taken, and the source's state is empty.
 pub record Starts (l : Loading) (input : List ℕ) (q : Pointers) (map : Map) (console : Console) (s : Machine) : Type 0 where
@@ -38,6 +40,13 @@ ComesTo w s n most output left (Failed e) = Reaches w s 0 most (exits 3 (Leaves 
 ComesTo w s n most output left GoesOn = Reaches w s n most (stands (Leaves output left))
 ComesTo w s n most output left IsStuck = Unit {0}
 
+-- the same of a machine whose run is watched
+abbrev pub PassesTo : Loading → Machine → ℕ → ℕ → List ℕ → List ℕ → End → Type 0
+PassesTo l s n most output left Done = Passes l s 0 most (exits 0 (Leaves output left))
+PassesTo l s n most output left (Failed e) = Passes l s 0 most (exits 3 (Leaves output left))
+PassesTo l s n most output left GoesOn = Passes l s n most (stands (Leaves output left))
+PassesTo l s n most output left IsStuck = Unit {0}
+
 -- heap and stack are to reach as far as the meters of a run say, and what the run writes and takes is on the way
 pub record RunRoom (w : World) (r : Run) : Type 0 where
   pub heap : HEAP_START + (4 * r.words + 64) ≤ w.top
@@ -49,6 +58,12 @@ abbrev pub RunsMain : Loading → Type 0
 RunsMain l = (input : List ℕ) (q : Pointers) (map : Map) (console : Console) (s : Machine) (n : ℕ) → Starts l input q map console s → RunRoom l.world (run l.table l.files input n)
     → ComesTo l.world s n (64 * (run l.table l.files input n).work) (run l.table l.files input n).output (run l.table l.files input n).left (run l.table l.files input n).end
 
+-- the same where a run is watched: on the way it pictures visits of the run, wherever it stands at a marked word
+abbrev pub PassesMain : Loading → Type 0
+PassesMain l = (input : List ℕ) (q : Pointers) (map : Map) (console : Console) (s : Machine) (n : ℕ) → Starts l input q map console s → RunRoom l.world (run l.table l.files input n)
+    → ((x : Visit) → program_begun l.table input n x → Watched l.watch x)
+    → PassesTo l s n (64 * (run l.table l.files input n).work) (run l.table l.files input n).output (run l.table l.files input n).left (run l.table l.files input n).end
+
 -- a program runs so wherever it is loaded
 abbrev pub AlwaysRuns : List Class → List (List ℕ) → Type 0
-AlwaysRuns p files = (w : World) (m : Bytes) → IsLoaded (record { table = p; files = files; world = w; memory = m }) → RunsMain (record { table = p; files = files; world = w; memory = m })
+AlwaysRuns p files = (w : World) (m : Bytes) → IsLoaded (record { table = p; files = files; world = w; memory = m; watch = None }) → RunsMain (record { table = p; files = files; world = w; memory = m; watch = None })

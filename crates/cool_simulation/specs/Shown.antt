@@ -1,17 +1,15 @@
 -- That a debugger shows what the rules say: the machine comes to the first word of the code of each expression that is begun, and there each
 -- name in scope is at home in the word that its span tells, which pictures the name's value.
-use Rattle.std.specs.Prelude.{◌≡◌, ℕ, ◌+◌, ◌*◌, ◌<◌, ◌≤◌, ◌⊎◌, List, [], length, map as each, slice_get, Some, Contains}
+use Rattle.std.specs.Prelude.{◌≡◌, ℕ, ◌+◌, ◌*◌, ◌<◌, ◌≤◌, List, [], length, map as each, Contains, None}
 use Rattle.mips_isa.specs.declared.address_map.TheConstants.{TEXT_START}
 use Rattle.mips_isa.specs.Assembly.{image_of}
 use Rattle.mips_isa.specs.Bytes.{Bytes}
 use Rattle.mips_isa.specs.Calls.{State as Machine, Running}
 use Rattle.mips_isa.specs.ImageBounds.{ImageParts}
 use Rattle.mips_isa.specs.Run.{run_image}
-use Rattle.cool_syntax.specs.declared.file_tree.Feature.TheVariants.{Method}
-use Rattle.cool_syntax.specs.declared.file_tree.MethodDef.{MethodDef}
 use Rattle.cool_classes.specs.declared.class_id.ClassId.{ClassId}
 use Rattle.cool_classes.specs.declared.method.MethodRef.TheVariants.{User}
-use Rattle.cool_classes.specs.Chains.{Below, Class, features_of}
+use Rattle.cool_classes.specs.Chains.{Below, Class}
 use Rattle.cool_classes.specs.ClimbedChains.{chain}
 use Rattle.cool_classes.specs.Features.{HasMethod, formals_of}
 use Rattle.cool_rules.specs.Scopes.{Binding}
@@ -20,9 +18,9 @@ use Rattle.cool_runtime.specs.Reaches.{World, Reaches, stands}
 use Rattle.cool_runtime.specs.Standing.{sizes}
 use Rattle.cool_runtime.specs.Machines.{Pointers, Console}
 use Rattle.cool_layout.specs.Labels.{initializer, method_label}
-use Rattle.cool_codegen.specs.Spans.{Span, method_spans, spans}
+use Rattle.cool_codegen.specs.Spans.{Span, spans}
 use Rattle.cool_emit.specs.Programs.{program_lines}
-use Rattle.cool_emit.specs.SpansOfPrograms.{initializer_spans, program_spans}
+use Rattle.cool_emit.specs.SpansOfPrograms.{program_spans}
 use Rattle.cool_codegen.specs.Variables.{Named}
 use Rattle.cool_classes.specs.declared.class_id.Ty.{Ty}
 use Rattle.cool_syntax.specs.Tree.{Tree}
@@ -36,34 +34,11 @@ use Rattle.cool_simulation.specs.Accord.{AreLimits, Limits}
 use Rattle.cool_simulation.specs.Loadings.{IsLoaded, Loading, constants, context}
 use Rattle.cool_simulation.specs.MainRun.{RunRoom, Starts}
 use Rattle.cool_simulation.specs.Pictures.{Map}
-use Rattle.cool_simulation.specs.Simulation.{Begins, Called, CodeAt, Room}
+use Rattle.cool_simulation.specs.Simulation.{Begins, Called, CodeAt, IsSpan, Room, Shown}
 use Rattle.cool_simulation.specs.Theorem.{IsCompilable}
 use Rattle.cool_simulation.specs.Visits.{Visit, Visits, begun, program_begun}
 use Rattle.cool_simulation.specs.WrittenPrograms.{IsWritten}
 use Rattle.lists.specs.Bytes.{AreBytes}
-
--- a span of a feature of the program, where the program is loaded
-abbrev pub IsSpan : Loading → ClassId → ℕ → Span → Type 0
-IsSpan l c f span =
-    ((m : MethodDef) × (slice_get (features_of l.table c) f ≡ Some (Method m)) × Contains (method_spans sizes (context l c f) (constants l) m.formals (l.world.place (method_label l.table (User c f))) m.body) span)
-    ⊎ Contains (initializer_spans sizes l.table l.files (constants l) (l.world.place (initializer l.table c)) c) (record { class = c; feature = f; span = span })
-
--- The machine stands at the first word of the span of a visited expression, and pictures the visit: the names in the span's scope are those
--- of its environment, each at home in its word, and the words picture the values in its state.
-pub record Shown (l : Loading) (x : Visit) (s : Machine) : Type 0 where
-  pub span : Span
-  pub there : IsSpan l x.class x.feature span
-  pub tree_is : span.tree ≡ x.tree
-  pub first_is : span.first ≡ x.first
-  pub own : ClassId
-  pub scope : List Binding
-  pub made : fitting.World
-  pub pointers : Pointers
-  pub memory : Bytes
-  pub map : Map
-  pub console : Console
-  pub from : pointers.pc ≡ span.from
-  pub begins : Begins l x.class own x.self scope span.scope x.environment made span.depth pointers memory map console x.state s
 
 -- from s the machine comes to such a state after some number of instructions, where heap and stack hold what the run is to reach
 abbrev pub Comes : World → Machine → (Machine → Type 0) → Type 0
@@ -101,8 +76,8 @@ ProgramShown l =
 -- So it is wherever a program is loaded.
 abbrev pub ProgramsShown : Type 0
 ProgramsShown =
-    (p : List Class) (names : List (List ℕ)) → IsWritten p → (w : World) (m : Bytes) → IsLoaded (record { table = p; files = names; world = w; memory = m })
-    → ProgramShown (record { table = p; files = names; world = w; memory = m })
+    (p : List Class) (names : List (List ℕ)) → IsWritten p → (w : World) (m : Bytes) → IsLoaded (record { table = p; files = names; world = w; memory = m; watch = None })
+    → ProgramShown (record { table = p; files = names; world = w; memory = m; watch = None })
 
 -- The machine of an image comes to a visit: after some number of instructions it stands, with the program loaded, at the first word of a span
 -- that the table of code has for the visited expression, and pictures the visit.
@@ -111,6 +86,7 @@ pub record ComesTo (p : List Class) (names : List (List ℕ)) (image : ImagePart
   pub table_is : loading.table ≡ p
   pub files_are : loading.files ≡ names
   pub text_is : loading.world.text ≡ image.text
+  pub unwatched : loading.watch ≡ None
   pub loaded : IsLoaded loading
   pub count : ℕ
   pub machine : Machine

@@ -1,22 +1,25 @@
 -- What the code of an expression, of a call and of a run is to do: it leads from a state of the machine that pictures the source's to one
 -- that pictures what evaluation comes to, within so many instructions, heap and stack for its meters.
-use Rattle.std.specs.Prelude.{◌≡◌, ℕ, ◌+◌, ◌-◌, ◌*◌, ◌<◌, ◌≤◌, ◌⊎◌, ℤ, pos, negsuc, suc, false, List, [], ◌++◌, length, map as each, slice_get, Some, Contains}
+use Rattle.std.specs.Prelude.{◌≡◌, ℕ, ◌+◌, ◌-◌, ◌*◌, ◌<◌, ◌≤◌, ◌⊎◌, ℤ, pos, negsuc, suc, true, false, List, [], ◌++◌, length, map as each, slice_get, Some, Contains}
 use Rattle.mips_isa.specs.declared.address_map.TheConstants.{STACK_END}
 use Rattle.mips_isa.specs.Bytes.{Bytes, word}
-use Rattle.mips_isa.specs.Calls.{State as Machine}
+use Rattle.mips_isa.specs.Calls.{State as Machine, Running}
+use Rattle.mips_isa.specs.Run.{run}
+use Rattle.cool_syntax.specs.declared.file_tree.Feature.TheVariants.{Method}
+use Rattle.cool_syntax.specs.declared.file_tree.MethodDef.{MethodDef}
 use Rattle.cool_syntax.specs.Tree.{Tree, Trees, tree_size, trees_size}
 use Rattle.cool_syntax.specs.TreesWithinLimits.{IsTreeWithin, AreTreesWithin}
 use Rattle.cool_classes.specs.declared.class_id.ClassId.{ClassId}
 use Rattle.cool_classes.specs.declared.class_id.Ty.{Ty}
 use Rattle.cool_classes.specs.declared.method.MethodRef.TheVariants.{User}
-use Rattle.cool_classes.specs.Chains.{Below}
+use Rattle.cool_classes.specs.Chains.{Below, features_of}
 use Rattle.cool_classes.specs.Features.{HasMethod, formals_of}
 use Rattle.cool_classes.specs.ClimbedChains.{chain}
 use Rattle.cool_classes.specs.LawfulTables.{MayInherit}
 use Rattle.cool_rules.specs.Scopes.{Binding}
 use Rattle.cool_rules.specs.Scopes as scopes
 use Rattle.cool_rules.specs.Typing.{HasType, HaveTypes}
-use Rattle.cool_runtime.specs.Reaches.{Reaches, OnTheWay, stands, exits}
+use Rattle.cool_runtime.specs.Reaches.{Goal, OnTheWay, Reaches, stands, exits}
 use Rattle.cool_runtime.specs.Standing.{HasLines, sizes}
 use Rattle.cool_runtime.specs.Machines.{At, Pointers, Console}
 use Rattle.cool_layout.specs.Labels.{method_label, initializer}
@@ -24,16 +27,20 @@ use Rattle.cool_codegen.specs.declared.variables.Variable.{Variable}
 use Rattle.cool_codegen.specs.Variables.{Named}
 use Rattle.cool_codegen.specs.Variables as variables
 use Rattle.cool_codegen.specs.Code.{code, arguments_code}
+use Rattle.cool_codegen.specs.Spans.{Span, arguments_spans, method_spans, spans}
+use Rattle.cool_emit.specs.SpansOfPrograms.{initializer_spans}
 use Rattle.cool_codegen.specs.Asked.{integers_in, integers_in_all, strings_in, strings_in_all}
 use Rattle.cool_meaning.specs.Values.{Value, State, Environment, class_of, location_of}
 use Rattle.cool_meaning.specs.Meters.{Error, Outcome, Val, Stop, On, Stuck, Metered}
 use Rattle.cool_meaning.specs.SourceRun.{error_text}
-use Rattle.cool_meaning.specs.Evaluation.{Calls, Body, Initials, eval, eval_all}
+use Rattle.cool_meaning.specs.Evaluation.{Call, Calls, Body, Initials, eval, eval_all}
 use Rattle.cool_meaning.proofs.FittingValues.{AllFit, Fits, meant}
 use Rattle.cool_meaning.proofs.FittingValues as fitting
 use Rattle.cool_meaning.proofs.SoundEvaluation.{Scene}
-use Rattle.cool_simulation.specs.Loadings.{Loading, constants, context}
+use Rattle.cool_simulation.specs.Loadings.{Loading, Watched, constants, context, marks, whole, whole_text}
 use Rattle.cool_simulation.specs.Pictures.{Map, Pic, Pictures, Kept, Grown, Shows}
+use Rattle.cool_simulation.specs.Quiet.{ArePushesFree, IsQuiet}
+use Rattle.cool_simulation.specs.Visits.{Visit, Visits, all_begun, begun}
 
 -- Where a run stands
 
@@ -65,6 +72,37 @@ pub record Begins (l : Loading) (c k : ClassId) (self : Value) (scope : List Bin
   pub frame : q.fp + 12 ≤ STACK_END
   pub scene : Scene l.table made c k self scope env
   pub fits : AllFit l.table made st.store made
+
+-- a span of a feature of the program, where the program is loaded
+abbrev pub IsSpan : Loading → ClassId → ℕ → Span → Type 0
+IsSpan l c f span =
+    ((m : MethodDef) × (slice_get (features_of l.table c) f ≡ Some (Method m)) × Contains (method_spans sizes (context l c f) (constants l) m.formals (l.world.place (method_label l.table (User c f))) m.body) span)
+    ⊎ Contains (initializer_spans sizes l.table l.files (constants l) (l.world.place (initializer l.table c)) c) (record { class = c; feature = f; span = span })
+
+-- The machine stands at the first word of the span of a visited expression, and pictures the visit: the names in the span's scope are those
+-- of its environment, each at home in its word, and the words picture the values in its state.
+pub record Shown (l : Loading) (x : Visit) (s : Machine) : Type 0 where
+  pub span : Span
+  pub there : IsSpan l x.class x.feature span
+  pub tree_is : span.tree ≡ x.tree
+  pub first_is : span.first ≡ x.first
+  pub own : ClassId
+  pub scope : List Binding
+  pub made : fitting.World
+  pub pointers : Pointers
+  pub memory : Bytes
+  pub map : Map
+  pub console : Console
+  pub from : pointers.pc ≡ span.from
+  pub begins : Begins l x.class own x.self scope span.scope x.environment made span.depth pointers memory map console x.state s
+
+-- Runs
+
+-- From s the machine comes to the goal in lo to hi instructions, or within hi to an exit by a limit. Wherever it stands on the way at a word that
+-- is watched, it pictures a visit of the watched run. Where nothing is watched, this is Reaches.
+pub record Passes (l : Loading) (s : Machine) (lo hi : ℕ) (goal : Goal) : Type 0 where
+  pub reaches : Reaches (whole l) s lo hi goal
+  pub visits : (m : ℕ) (t : Machine) → m < reaches.count → run (whole_text l) l.world.segments m s ≡ Running t → marks l.watch t.core.pc ≡ true → (x : Visit) × Watched l.watch x × Shown l x t
 
 -- What evaluation comes to
 
@@ -121,9 +159,9 @@ pub record Paused (t : State) (s : Machine) : Type 0 where
 -- From s, with n steps, the machine comes to what an evaluation comes to, within so many instructions; each step takes one at least.
 -- Where no rule applies, nothing is said.
 abbrev pub Runs : {A : Type 0} → Loading → Machine → ℕ → ℕ → (A → State → Machine → Type 0) → Outcome A → Type 0
-Runs l s n most K (Val v t left) = Reaches l.world s (n - left) most (stands (K v t))
-Runs l s n most K (Stop e t) = Reaches l.world s 0 most (exits 3 (Stopped l e t))
-Runs l s n most K (On t) = Reaches l.world s n most (stands (Paused t))
+Runs l s n most K (Val v t left) = Passes l s (n - left) most (stands (K v t))
+Runs l s n most K (Stop e t) = Passes l s 0 most (exits 3 (Stopped l e t))
+Runs l s n most K (On t) = Passes l s n most (stands (Paused t))
 Runs l s n most K Stuck = Unit {0}
 
 -- what is written and taken up to there is on the way of the whole run
@@ -142,36 +180,46 @@ pub record Room {A : Type 0} (l : Loading) (q : Pointers) (besides : ℕ) (r : M
 
 -- Expressions
 
--- the code of an expression stands at pc, and its constants, places and depth are within the limits
+-- a span of a feature, with no mark in the pieces of its code
+pub record Placed (l : Loading) (c : ClassId) (f : ℕ) (x : Span) : Type 0 where
+  pub there : IsSpan l c f x
+  pub quiet : IsQuiet (marks l.watch) (context l c f) (constants l) x
+
+-- the code of an expression stands at pc, its constants, places and depth are within the limits, and its spans are those of the feature
 pub record CodeAt (l : Loading) (c : ClassId) (f : ℕ) (vs : List Named) (d first pc : ℕ) (t : Tree) : Type 0 where
-  pub lines : HasLines l.world pc (code (context l c f) (constants l) vs d first t)
+  pub lines : HasLines (whole l) pc (code (context l c f) (constants l) vs d first t)
   pub integers : (n : ℕ) → Contains (integers_in t) n → Contains (constants l).integers n
   pub strings : (bytes : List ℕ) → Contains (strings_in l.files t) bytes → Contains (constants l).strings bytes
   pub within : IsTreeWithin (length l.files) t
   pub small : d + tree_size t ≤ 8000
+  pub spans : (x : Span) → Contains (spans sizes (context l c f) (constants l) vs d first pc t) x → Placed l c f x
 
 pub record AllCodeAt (l : Loading) (c : ClassId) (f : ℕ) (vs : List Named) (d first pc : ℕ) (ts : Trees) : Type 0 where
-  pub lines : HasLines l.world pc (arguments_code (context l c f) (constants l) vs d first ts)
+  pub lines : HasLines (whole l) pc (arguments_code (context l c f) (constants l) vs d first ts)
   pub integers : (n : ℕ) → Contains (integers_in_all ts) n → Contains (constants l).integers n
   pub strings : (bytes : List ℕ) → Contains (strings_in_all l.files ts) bytes → Contains (constants l).strings bytes
   pub within : AreTreesWithin (length l.files) ts
   pub small : d + trees_size ts ≤ 8000
+  pub spans : (x : Span) → Contains (arguments_spans sizes (context l c f) (constants l) vs d first pc ts) x → Placed l c f x
+  pub pushes : ArePushesFree (marks l.watch) (context l c f) (constants l) vs d first pc ts
 
--- The code of an expression does what the expression means, where calls with at most b steps do. Four instructions are left over for the
--- push of its value.
-pub record Correct (l : Loading) (calls : Calls) (b : ℕ) (t : Tree) : Type 0 where
+-- The code of an expression does what the expression means, where calls with at most b steps do, and what it begins is among what the watched run
+-- begins. Four instructions are left over for the push of its value.
+pub record Correct (l : Loading) (calls : Calls) (begun_in : Call → Visits) (b : ℕ) (t : Tree) : Type 0 where
   pub runs : (c : ClassId) (f : ℕ) (k : ClassId) (self : Value) (scope : List Binding) (vs : List Named) (env : Environment) (made : fitting.World) (d first : ℕ) (q : Pointers) (m : Bytes) (map : Map) (console : Console)
       (st : State) (s : Machine) (n : ℕ) (type : Ty) → n ≤ b → Begins l c k self scope vs env made d q m map console st s → HasType l.table c scope t type → CodeAt l c f vs d first q.pc t
       → Room l q 0 (eval l.table calls self env t st n)
+      → ((x : Visit) → begun l.table calls begun_in c f self env first t st n x → Watched l.watch x)
       → Runs l s n (64 * (eval l.table calls self env t st n).work - 4)
       (Done l (record q { pc = q.pc + sizes (code (context l c f) (constants l) vs d first t) }) m map st (eval l.table calls self env t st n).words)
       (eval l.table calls self env t st n).outcome
 
 -- the same of arguments, each pushed; three instructions more are for a last push that ends at the limit
-pub record AllCorrect (l : Loading) (calls : Calls) (b : ℕ) (ts : Trees) : Type 0 where
+pub record AllCorrect (l : Loading) (calls : Calls) (begun_in : Call → Visits) (b : ℕ) (ts : Trees) : Type 0 where
   pub runs : (c : ClassId) (f : ℕ) (k : ClassId) (self : Value) (scope : List Binding) (vs : List Named) (env : Environment) (made : fitting.World) (d first : ℕ) (q : Pointers) (m : Bytes) (map : Map) (console : Console)
       (st : State) (s : Machine) (n : ℕ) (types : List Ty) → n ≤ b → Begins l c k self scope vs env made d q m map console st s → HaveTypes l.table c scope ts types → AllCodeAt l c f vs d first q.pc ts
       → Room l q 0 (eval_all l.table calls self env ts st n)
+      → ((x : Visit) → all_begun l.table calls begun_in c f self env first ts st n x → Watched l.watch x)
       → Runs l s n (64 * (eval_all l.table calls self env ts st n).work + 3)
       (AllDone l (record q { pc = q.pc + sizes (arguments_code (context l c f) (constants l) vs d first ts) }) m map st (eval_all l.table calls self env ts st n).words)
       (eval_all l.table calls self env ts st n).outcome
@@ -196,18 +244,20 @@ pub record Called (l : Loading) (k : ClassId) (self : Value) (vs : List Value) (
 
 -- Calls with at most b steps do what they mean. A method's frame has three words; an initializer has a frame for each class of the chain
 -- of its class, and gives its object, whatever its call gives.
-pub record CallsCorrect (l : Loading) (calls : Calls) (b : ℕ) : Type 0 where
+pub record CallsCorrect (l : Loading) (calls : Calls) (begun_in : Call → Visits) (b : ℕ) : Type 0 where
   pub body : (owner : ClassId) (i : ℕ) (self : Value) (k : ClassId) (vs : List Value) (made : fitting.World) (q : Pointers) (m : Bytes) (map : Map) (console : Console) (st : State) (s : Machine) (n : ℕ) → n ≤ b
       → HasMethod l.table (User owner i) → Below l.table k owner → Called l k self vs made q m map console st s → q.pc ≡ l.world.place (method_label l.table (User owner i))
       → AllFit l.table made vs (each (meant l.table k) (formals_of l.table (User owner i))) → Room l q 12 (calls (Body owner i self vs) st n)
+      → ((x : Visit) → begun_in (Body owner i self vs) st n x → Watched l.watch x)
       → Runs l s n (64 * (calls (Body owner i self vs) st n).work + 17)
       (Done l (record q { pc = q.ra; sp = q.sp + 4 * length vs }) m map st (calls (Body owner i self vs) st n).words) (calls (Body owner i self vs) st n).outcome
   pub initials : (c : ClassId) (self : Value) (k : ClassId) (made : fitting.World) (q : Pointers) (m : Bytes) (map : Map) (console : Console) (st : State) (s : Machine) (n : ℕ) → n ≤ b
       → c.0 < length l.table → Below l.table k c → Called l k self [] made q m map console st s → q.pc ≡ l.world.place (initializer l.table c)
       → Room l q (12 * length (chain l.table c)) (calls (Initials c self) st n)
+      → ((x : Visit) → begun_in (Initials c self) st n x → Watched l.watch x)
       → Runs l s n (64 * (calls (Initials c self) st n).work + 20 * length (chain l.table c))
       (λ v. Done l (record q { pc = q.ra }) m map st (calls (Initials c self) st n).words self) (calls (Initials c self) st n).outcome
 
 -- what expressions may count on: calls with fewer steps
-abbrev pub AllCallsCorrect : Loading → Calls → ℕ → Type 0
-AllCallsCorrect l calls b = (m : ℕ) → m < b → CallsCorrect l calls m
+abbrev pub AllCallsCorrect : Loading → Calls → (Call → Visits) → ℕ → Type 0
+AllCallsCorrect l calls begun_in b = (m : ℕ) → m < b → CallsCorrect l calls begun_in m

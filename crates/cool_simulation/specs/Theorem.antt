@@ -21,6 +21,7 @@ use Rattle.cool_simulation.specs.MainRun.{AlwaysRuns}
 use Rattle.cool_simulation.specs.Simulation.{AllCallsCorrect}
 use Rattle.cool_simulation.specs.WrittenPrograms.{IsWritten}
 use Rattle.lists.specs.Bytes.{AreBytes}
+use Rattle.cool_simulation.specs.Visits.{begun_within}
 
 -- names of files: short texts
 abbrev pub AreFileNames : List (List ℕ) → Type 0
@@ -82,4 +83,4 @@ ProgramsRun = (p : List Class) (names : List (List ℕ)) → IsWritten p → Alw
 -- The code of each method and of each initializer of a program that is loaded does what its call means (`Simulation.antt`), for any number of
 -- steps.
 abbrev pub CallsMean : Type 0
-CallsMean = (l : Loading) → IsLoaded l → IsWritten l.table → (n : ℕ) → AllCallsCorrect l (calls_within l.table n) n
+CallsMean = (l : Loading) → IsLoaded l → IsWritten l.table → (n : ℕ) → AllCallsCorrect l (calls_within l.table n) (begun_within l.table n) n

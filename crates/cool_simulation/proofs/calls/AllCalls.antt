@@ -15,24 +15,26 @@ use Rattle.cool_simulation.proofs.ground.EvaluationLater.{CallsLater}
 use Rattle.cool_simulation.proofs.forms.Forms.{form_correct}
 use Rattle.cool_simulation.proofs.calls.Initializers.{initials_correct}
 use Rattle.cool_simulation.proofs.calls.Methods.{body_correct}
+use Rattle.cool_simulation.specs.Visits.{begun_within}
 
 module _ (l : Loading) (loaded : IsLoaded l) (written : IsWritten l.table) where
   pub later_within : (n : ℕ) → CallsLater (calls_within l.table n)
   later_within n = λ call. record { later = λ s k. after_of (more_calls_within l.table n n 0 (omega arith) call) s k }
 
-  pub calls_correct : (n m : ℕ) → m < n → CallsCorrect l (calls_within l.table n) m
+  pub calls_correct : (n m : ℕ) → m < n → CallsCorrect l (calls_within l.table n) (begun_within l.table n) m
   calls_correct zero m less = absurd (omega arith)
   calls_correct (suc n) m less =
       let calls = calls_within l.table n in
+      let begun_in = begun_within l.table n in
       let later = later_within n in
       let sound : AllCallsSound l.table calls m = λ i few. within_sound l.table loaded.buildable.typed n i (omega arith) in
-      let fewer : AllCallsCorrect l calls m = λ i few. calls_correct n i (omega arith) in
-      let forms : (t : Tree) → IsWritable t → Correct l calls m t = form_correct l loaded calls m later sound fewer in
+      let fewer : AllCallsCorrect l calls begun_in m = λ i few. calls_correct n i (omega arith) in
+      let forms : (t : Tree) → IsWritable t → Correct l calls begun_in m t = form_correct l loaded calls begun_in m later sound fewer in
       record {
-        body = body_correct l loaded calls m later IsWritable forms (λ c k def within there. written c k (Method def) within there);
-        initials = initials_correct l loaded calls m later sound IsWritable forms (λ c k a t within there value. subst IsValueWritable value (written c k (Attribute a) within there));
+        body = body_correct l loaded calls begun_in m later IsWritable forms (λ c k def within there. written c k (Method def) within there);
+        initials = initials_correct l loaded calls begun_in m later sound IsWritable forms (λ c k a t within there value. subst IsValueWritable value (written c k (Attribute a) within there));
       }
 
   -- as many calls as there are steps
-  pub all_calls_correct : (n : ℕ) → AllCallsCorrect l (calls_within l.table n) n
+  pub all_calls_correct : (n : ℕ) → AllCallsCorrect l (calls_within l.table n) (begun_within l.table n) n
   all_calls_correct n m less = calls_correct n m less

@@ -31,7 +31,7 @@ use Rattle.cool_codegen.specs.Pieces.{store_lines}
 use Rattle.cool_meaning.specs.Values.{Value, State, class_of}
 use Rattle.cool_meaning.specs.Meters.{seq, store}
 use Rattle.cool_meaning.specs.Lookups.{attributes, environment_of}
-use Rattle.cool_meaning.specs.Evaluation.{Calls, eval, run_initial}
+use Rattle.cool_meaning.specs.Evaluation.{Call, Calls, eval, run_initial}
 use Rattle.cool_meaning.proofs.FittingValues.{Fits, meant, still_made, fits_conforming}
 use Rattle.cool_meaning.proofs.FittingValues as fitting
 use Rattle.cool_meaning.proofs.Later.{later_same}
@@ -39,9 +39,10 @@ use Rattle.cool_meaning.proofs.SoundMethods.{Any}
 use Rattle.cool_meaning.proofs.SoundComputations.{Sound, bind_sound, working_sound, store_sound}
 use Rattle.cool_meaning.proofs.SoundParts.{AllCallsSound, wider_sound}
 use Rattle.cool_meaning.proofs.SoundEvaluation.{eval_sound}
-use Rattle.cool_simulation.specs.Loadings.{Loading, IsLoaded, constants, context}
+use Rattle.cool_simulation.specs.Loadings.{Loading, IsLoaded, constants, context, Watched, marks, whole}
 use Rattle.cool_simulation.specs.Pictures.{Map}
-use Rattle.cool_simulation.specs.Simulation.{Begins, Done, Runs, Room, CodeAt, Correct, IsVariableAt}
+use Rattle.cool_simulation.specs.Simulation.{Begins, Done, Runs, Room, CodeAt, Correct, IsVariableAt, Placed}
+use Rattle.cool_simulation.specs.Visits.{Visits, Visit, begun}
 use Rattle.cool_simulation.proofs.ground.EvaluationLater.{CallsLater}
 use Rattle.cool_simulation.proofs.ground.PartsOfRuns.{run_wider, run_gives, bind_runs}
 use Rattle.cool_simulation.proofs.ground.BoundVariables.{stored_done}
@@ -52,8 +53,11 @@ use Rattle.cool_simulation.proofs.calls.FeaturesHere.{integers_here, strings_her
 use Rattle.cool_simulation.proofs.calls.BodyScenes.{body_begins}
 use Rattle.cool_simulation.proofs.calls.InsideFrames.{Inside, Passed, within_store}
 use Rattle.lists.specs.Different.{AreDifferent}
+use Rattle.cool_simulation.specs.Quiet.{IsFree}
+use Rattle.cool_simulation.proofs.ground.Passages.{quiet}
+use Rattle.cool_codegen.specs.Spans.{Span, spans}
 
-module _ (l : Loading) (loaded : IsLoaded l) (calls : Calls) (b : ℕ) (later : CallsLater calls) (sound : AllCallsSound l.table calls b) (IsGood : Tree → Type 0) (forms : (t : Tree) → IsGood t → Correct l calls b t)
+module _ (l : Loading) (loaded : IsLoaded l) (calls : Calls) (begun_in : Call → Visits) (b : ℕ) (later : CallsLater calls) (sound : AllCallsSound l.table calls b) (IsGood : Tree → Type 0) (forms : (t : Tree) → IsGood t → Correct l calls begun_in b t)
     (c k : ClassId) (self : Value) (within : c.0 < length l.table) (below : Below l.table k c) (k_within : k.0 < length l.table) (plain : MayInherit k) (is : class_of self ≡ Some k) where
   module _ (j : ℕ) (a : AttributeDef) (t : Tree) (there : slice_get (features_of l.table c) j ≡ Some (Attribute a)) (init : a.init ≡ Some t) (good : IsGood t) (front rest : List AttributeRef)
       (parts : attributes l.table c ≡ front ++ (record { owner = c; index = j }) ∷ rest) where
@@ -84,17 +88,22 @@ module _ (l : Loading) (loaded : IsLoaded l) (calls : Calls) (b : ℕ) (later : 
         (eval_sound p typed0 calls b sound c k self t made (attributes_in_scope p (attributes_of p typed.chain)) (environment_of p self) typed.type scene typed.has))
         (λ w1 v g1 fits. store_sound i v (meant p k a.declared.name) (still_made made w1 g1 i (meant p k a.declared.name) made_for) fits))
 
-    pub value_at : (pc : ℕ) → HasLines l.world pc (value_code ++ store_code) → CodeAt l c j (attributes_in l.table c) 0 0 pc t
-    value_at pc has =
+    -- its spans are those of the initializer
+    abbrev pub AreSpans : ℕ → Type 0
+    AreSpans pc = (x : Span) → Contains (spans sizes (context l c j) (constants l) (attributes_in l.table c) 0 0 pc t) x → Placed l c j x
+
+    pub value_at : (pc : ℕ) → HasLines (whole l) pc (value_code ++ store_code) → AreSpans pc → CodeAt l c j (attributes_in l.table c) 0 0 pc t
+    value_at pc has placed =
         let bounded = bounded_here l.table l.files loaded.buildable c j (Attribute a) within there in
         let sized : tree_size t ≤ 8000 = small a.init init bounded in
         let within_it = (within_here l.table l.files loaded.buildable c j (Attribute a) within there).3 in
         record {
-          lines = has_front l.world value_code store_code pc has;
+          lines = has_front (whole l) value_code store_code pc has;
           integers = λ x h. integers_here l.table l.files loaded.buildable c j (Attribute a) within there x (subst (λ (o : Option Tree). Contains (initial_integers o) x) (sym init) h);
           strings = λ x h. strings_here l.table l.files loaded.buildable c j (Attribute a) within there x (subst (λ (o : Option Tree). Contains (initial_strings l.files o) x) (sym init) h);
           within = subst (λ (o : Option Tree). IfSome o (IsTreeWithin (length l.files))) init within_it;
           small = omega arith;
+          spans = placed;
         }
       where
         small : (o : Option Tree) → o ≡ Some t → value_size o ≤ 8000 → tree_size t ≤ 8000
@@ -107,7 +116,7 @@ module _ (l : Loading) (loaded : IsLoaded l) (calls : Calls) (b : ℕ) (later : 
 
     -- the store into the attribute
     stored : (q : Pointers) (m : Bytes) (map : Map) (console : Console) (st : State) (s : Machine) (made : fitting.World) (i words : ℕ) (v : Value) (t' : State) (u : Machine) → Inside l k self made q m map console st s
-        → map.home i ≡ q.self + 12 + 4 * length front → HasLines l.world q.pc (value_code ++ store_code) → Done l (record q { pc = q.pc + sizes value_code }) m map st words v t' u
+        → map.home i ≡ q.self + 12 + 4 * length front → HasLines l.world (q.pc + sizes value_code) store_code → Done l (record q { pc = q.pc + sizes value_code }) m map st words v t' u
         → Reaches l.world u 0 1 (stands (Passed l k self q (q.pc + sizes (value_code ++ store_code)) m map st words (record t' { store = slice_set t'.store i v })))
     stored q m map console st s made i words v t' u inside home_is has d =
         let p = l.table in
@@ -126,7 +135,7 @@ module _ (l : Loading) (loaded : IsLoaded l) (calls : Calls) (b : ℕ) (later : 
         let append = sizes_append l.world value_code store_code in
         let four = four_bytes in
         next l.world u 1 0 1 _ _
-        (stores l.world 16 (pos (offset p c (record { owner = c; index = j }))) (d.map'.home i) _ d.memory d.console u (has_back l.world value_code store_code q.pc (q.pc + sizes value_code) refl has) d.at
+        (stores l.world 16 (pos (offset p c (record { owner = c; index = j }))) (d.map'.home i) _ d.memory d.console u has d.at
         (variable_address l.world (record { base = 16; offset = pos (offset p c (record { owner = c; index = j })); ty = typed.type }) _ d.memory d.console u (d.map'.home i) d.at there' (home_small l.world (d.map'.home i) d.gp q.sp home.room numbers.gp_to))
         (home_ok l.world (d.map'.home i) d.gp q.sp home.even home.room numbers.gp_to numbers.sp_from)) (omega arith)
         (λ u' at'. done l.world 0 u' _ (
@@ -140,19 +149,23 @@ module _ (l : Loading) (loaded : IsLoaded l) (calls : Calls) (b : ℕ) (later : 
         longer (x ∷ xs) y ys = let h = longer xs y ys in omega arith
 
     pub initial_runs : (made : fitting.World) (q : Pointers) (m : Bytes) (map : Map) (console : Console) (st : State) (s : Machine) (n i : ℕ) → n ≤ b → Inside l k self made q m map console st s → map.home i ≡ q.self + 12 + 4 * length front
-        → HasLines l.world q.pc (value_code ++ store_code) → Room l q 0 (run_initial l.table calls self i (Some t) st n)
+        → HasLines (whole l) q.pc (value_code ++ store_code) → IsFree (marks l.watch) (q.pc + sizes value_code) (q.pc + sizes (value_code ++ store_code)) → AreSpans q.pc → Room l q 0 (run_initial l.table calls self i (Some t) st n)
+        → ((x : Visit) → begun l.table calls begun_in c j self (environment_of l.table self) 0 t st n x → Watched l.watch x)
         → Runs l s n (64 * (run_initial l.table calls self i (Some t) st n).work)
         (λ x. Passed l k self q (q.pc + sizes (value_code ++ store_code)) m map st (run_initial l.table calls self i (Some t) st n).words) (run_initial l.table calls self i (Some t) st n).outcome
-    initial_runs made q m map console st s n i le inside home_is has room =
+    initial_runs made q m map console st s n i le inside home_is has free placed room watched =
         let r = eval l.table calls self (environment_of l.table self) t st n in
-        let whole = seq r (λ v. store i v) in
-        run_wider l whole.outcome s n (64 * whole.work + 64) (64 * (1 + whole.work)) _ (omega arith)
+        let both = seq r (λ v. store i v) in
+        let append = sizes_append l.world value_code store_code in
+        let storing : HasLines l.world (q.pc + sizes value_code) store_code =
+        quiet l store_code (q.pc + sizes value_code) (q.pc + sizes (value_code ++ store_code)) (omega arith) free (has_back (whole l) value_code store_code q.pc (q.pc + sizes value_code) refl has) in
+        run_wider l both.outcome s n (64 * both.work + 64) (64 * (1 + both.work)) _ (omega arith)
         (bind_runs l r (λ v. store i v) s n 64 q 0 (Done l (record q { pc = q.pc + sizes value_code }) m map st r.words)
-        (λ x. Passed l k self q (q.pc + sizes (value_code ++ store_code)) m map st whole.words)
+        (λ x. Passed l k self q (q.pc + sizes (value_code ++ store_code)) m map st both.words)
         (λ v t' left. later_same t' _ refl refl) (record { heap = room.heap; stack = room.stack; way = room.way })
         (λ room'. run_wider l r.outcome s n (64 * r.work - 4) (64 * r.work) _ (omega arith)
         ((forms t good).runs c j k self (attributes_in_scope l.table (attributes_of l.table typed.chain)) (attributes_in l.table c) (environment_of l.table self) made 0 0 q m map console st s n typed.type le
-        (begins made q m map console st s inside) typed.has (value_at q.pc has) room'))
-        (λ v t' left u e d same_words rest'. run_gives l {A = Unit {0}} tt (record t' { store = slice_set t'.store i v }) u left 1 64 (λ x. Passed l k self q (q.pc + sizes (value_code ++ store_code)) m map st whole.words) (omega arith)
-        (stored q m map console st s made i whole.words v t' u inside home_is has
+        (begins made q m map console st s inside) typed.has (value_at q.pc has placed) room' watched))
+        (λ v t' left u e d same_words rest'. run_gives l {A = Unit {0}} tt (record t' { store = slice_set t'.store i v }) u left 1 64 (λ x. Passed l k self q (q.pc + sizes (value_code ++ store_code)) m map st both.words) (omega arith)
+        (stored q m map console st s made i both.words v t' u inside home_is storing
         (record { gp = d.gp; acc = d.acc; ra = d.ra; memory = d.memory; map' = d.map'; console = d.console; at = d.at; shows = d.shows; pictures = d.pictures; value = d.value; kept = d.kept; grown = d.grown; drawn = d.drawn; located = d.located; gp_from = d.gp_from; gp_to = let to = d.gp_to in omega arith }))))

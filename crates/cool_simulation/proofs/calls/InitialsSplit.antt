@@ -6,7 +6,6 @@ use Rattle.cool_syntax.specs.Tree.{Tree}
 use Rattle.cool_classes.specs.declared.method.AttributeRef.{AttributeRef}
 use Rattle.cool_classes.specs.Chains.{Class}
 use Rattle.cool_runtime.specs.Machines.{Pointers}
-use Rattle.cool_runtime.proofs.Runs.{wider}
 use Rattle.cool_meaning.specs.Values.{Value, State}
 use Rattle.cool_meaning.specs.Meters.{Outcome, Val, Stop, On, Stuck, Metered, Computation, join, seq_of, seq, store}
 use Rattle.cool_meaning.specs.Lookups.{init_of, environment_of}
@@ -15,7 +14,8 @@ use Rattle.cool_meaning.proofs.Later.{After, later_same}
 use Rattle.cool_simulation.specs.Loadings.{Loading}
 use Rattle.cool_simulation.specs.Simulation.{Runs, Room}
 use Rattle.cool_simulation.proofs.ground.EvaluationLater.{ComesLater, CallsLater, eval_later, bind_later, then_later, give_later}
-use Rattle.cool_simulation.proofs.ground.PartsOfRuns.{Rest, run_behind, unless_stuck, way_of}
+use Rattle.cool_simulation.proofs.ground.PartsOfRuns.{Rest, unless_stuck, way_of, run_past}
+use Rattle.cool_simulation.proofs.ground.Passages.{passes_wider}
 
 -- Computations one after another
 
@@ -77,9 +77,9 @@ module _ (l : Loading) where
       → ((v : A) (t : State) (left : ℕ) (u : Machine) → o ≡ Val v t left → K v t u → Runs l u left (64 * (F v t left).work + extra) L (F v t left).outcome)
       → Runs l s n (64 * (seq_of o wk ws pk F).work + (more + extra)) L (seq_of o wk ws pk F).outcome
   wide_by (Val v t left) wk ws pk F s n more extra K L first rest =
-      run_behind l (F v t left).outcome s n left (64 * wk + more) (64 * (F v t left).work + extra) (64 * (wk + (F v t left).work) + (more + extra)) (K v t) L (omega arith) first (λ u k. rest v t left u refl k)
-  wide_by (Stop e t) wk ws pk F s n more extra K L first rest = wider l.world s 0 0 (64 * wk + more) (64 * wk + (more + extra)) _ (omega arith) (omega arith) first
-  wide_by (On t) wk ws pk F s n more extra K L first rest = wider l.world s n n (64 * wk + more) (64 * wk + (more + extra)) _ (omega arith) (omega arith) first
+      run_past l (F v t left).outcome s n left (64 * wk + more) (64 * (F v t left).work + extra) (64 * (wk + (F v t left).work) + (more + extra)) (K v t) L (omega arith) first (λ u k. rest v t left u refl k)
+  wide_by (Stop e t) wk ws pk F s n more extra K L first rest = passes_wider l s 0 0 (64 * wk + more) (64 * wk + (more + extra)) _ (omega arith) (omega arith) first
+  wide_by (On t) wk ws pk F s n more extra K L first rest = passes_wider l s n n (64 * wk + more) (64 * wk + (more + extra)) _ (omega arith) (omega arith) first
   wide_by Stuck wk ws pk F s n more extra K L first rest = tt
 
   part_of : {A B : Type 0} (o : Outcome A) (wk ws pk : ℕ) (F : A → Computation B) (q : Pointers) (besides : ℕ) → ((v : A) (t : State) (left : ℕ) → After t (F v t left).outcome)

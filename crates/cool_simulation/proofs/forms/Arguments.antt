@@ -23,20 +23,23 @@ use Rattle.cool_codegen.specs.Code.{code, arguments_code}
 use Rattle.cool_codegen.specs.Asked.{integers_in, integers_in_all, strings_in, strings_in_all}
 use Rattle.cool_meaning.specs.Values.{Value, State, Environment}
 use Rattle.cool_meaning.specs.Meters.{Outcome, Val, Stop, On, Stuck, Computation, ◌>>=◌, seq_of, give, holding}
-use Rattle.cool_meaning.specs.Evaluation.{Calls, eval, eval_all}
+use Rattle.cool_meaning.specs.Evaluation.{Call, Calls, eval, eval_all}
 use Rattle.cool_meaning.proofs.FittingValues as fitting
 use Rattle.cool_meaning.proofs.SoundParts.{AllCallsSound}
 use Rattle.cool_meaning.proofs.SoundEvaluation.{eval_sound}
-use Rattle.cool_simulation.specs.Loadings.{Loading, IsLoaded, constants, context}
+use Rattle.cool_simulation.specs.Loadings.{Loading, IsLoaded, constants, context, Watched, whole}
 use Rattle.cool_simulation.specs.Pictures.{Map, Pic, Pictures, Kept, Shows}
 use Rattle.cool_simulation.specs.Simulation.{Begins, Done, AllDone, Runs, Room, CodeAt, AllCodeAt, Correct, AllCorrect}
-use Rattle.cool_simulation.proofs.ground.Pushing.{pushes}
+use Rattle.cool_simulation.specs.Visits.{Visits, Visit, all_begun}
+use Rattle.cool_simulation.proofs.ground.Pushing.{pushes_past}
 use Rattle.cool_simulation.proofs.ground.PicturesStay.{pic_stays, staying_of, staying_same, kept_same, kept_then, grown_then, not_grown, pictures_same, pictures_lower}
 use Rattle.cool_simulation.proofs.ground.PartsOfRuns.{run_wider}
 use Rattle.cool_simulation.proofs.ground.ReservedParts.{bind_reserved, none_spent, with_way}
 use Rattle.cool_simulation.proofs.ground.EvaluationLater.{ComesLater, CallsLater, bind_later, give_later}
 use Rattle.cool_simulation.proofs.ground.CallsLater.{held_later, all_later}
 use Rattle.cool_simulation.proofs.ground.ScenesLater.{begins_later, under_stack, fine_value, eval_works, tree_some}
+use Rattle.cool_simulation.proofs.ground.Passages.{passes, quiet}
+use Rattle.cool_codegen.specs.Spans.{spans}
 
 module _ (l : Loading) (loaded : IsLoaded l) where
   pub limits : Limits l.world
@@ -46,19 +49,20 @@ module _ (l : Loading) (loaded : IsLoaded l) where
   pub push_runs : {A : Type 0} (p : Pointers) (m : Bytes) (c : Console) (s : Machine) (n b : ℕ) (K : A → State → Machine → Type 0) (o : Outcome A) → HasLines l.world p.pc push_lines → At l.world p m c s
       → l.world.low + 4 ≤ p.sp → OnTheWay l.world c.output c.input → 3 ≤ b
       → ((t : Machine) → At l.world (record p { pc = p.pc + 20; sp = p.sp - 4 }) (set_word m (p.sp - 4) p.acc) c t → Runs l t n b K o) → Runs l s n (4 + b) K o
-  push_runs p m c s n b K (Val v t left) has at room way enough more = pushes l.world p m c s (n - left) b _ limits has at room way enough more
-  push_runs p m c s n b K (Stop e t) has at room way enough more = pushes l.world p m c s 0 b _ limits has at room way enough more
-  push_runs p m c s n b K (On t) has at room way enough more = pushes l.world p m c s n b _ limits has at room way enough more
+  push_runs p m c s n b K (Val v t left) has at room way enough more = pushes_past l p m c s (n - left) b _ limits has at room way enough more
+  push_runs p m c s n b K (Stop e t) has at room way enough more = pushes_past l p m c s 0 b _ limits has at room way enough more
+  push_runs p m c s n b K (On t) has at room way enough more = pushes_past l p m c s n b _ limits has at room way enough more
   push_runs p m c s n b K Stuck has at room way enough more = tt
 
   -- the code of the first argument, and that of the others
   first_code : (c : ClassId) (f : ℕ) (vs : List Named) (d first pc : ℕ) (t : Tree) (ts : Trees) → AllCodeAt l c f vs d first pc (More t ts) → CodeAt l c f vs d first pc t
   first_code c f vs d first pc t ts code_at = record {
-    lines = has_front l.world (code (context l c f) (constants l) vs d first t) _ pc code_at.lines;
+    lines = has_front (whole l) (code (context l c f) (constants l) vs d first t) _ pc code_at.lines;
     integers = λ n there. code_at.integers n (Contains-append_left (integers_in t) (integers_in_all ts) n there);
     strings = λ bytes there. code_at.strings bytes (Contains-append_left (strings_in l.files t) (strings_in_all l.files ts) bytes there);
     within = code_at.within.0;
     small = (let z = code_at.small in omega arith);
+    spans = λ x h. code_at.spans x (Contains-append_left (spans sizes (context l c f) (constants l) vs d first pc t) _ x h);
   }
 
   later_code : (c : ClassId) (f : ℕ) (vs : List Named) (d first pc : ℕ) (t : Tree) (ts : Trees) → AllCodeAt l c f vs d first pc (More t ts)
@@ -67,18 +71,20 @@ module _ (l : Loading) (loaded : IsLoaded l) where
     lines =
         let la = code (context l c f) (constants l) vs d first t in
         let lb = arguments_code (context l c f) (constants l) vs (d + 1) (first + tree_size t) ts in
-        has_back l.world push_lines lb (pc + sizes la) (pc + sizes la + 20) refl (has_back l.world la (push_lines ++ lb) pc (pc + sizes la) refl code_at.lines);
+        has_back (whole l) push_lines lb (pc + sizes la) (pc + sizes la + 20) refl (has_back (whole l) la (push_lines ++ lb) pc (pc + sizes la) refl code_at.lines);
     integers = λ n there. code_at.integers n (Contains-append_right (integers_in t) (integers_in_all ts) n there);
     strings = λ bytes there. code_at.strings bytes (Contains-append_right (strings_in l.files t) (strings_in_all l.files ts) bytes there);
     within = code_at.within.1;
     small = (let z = code_at.small in let some = tree_some t in omega arith);
+    spans = λ x h. code_at.spans x (Contains-append_right (spans sizes (context l c f) (constants l) vs d first pc t) _ x h);
+    pushes = code_at.pushes.1;
   }
 
-  module _ (calls : Calls) (b : ℕ) (later : CallsLater calls) (sound : AllCallsSound l.table calls b) where
-    pub none_correct : AllCorrect l calls b Last
+  module _ (calls : Calls) (begun_in : Call → Visits) (b : ℕ) (later : CallsLater calls) (sound : AllCallsSound l.table calls b) where
+    pub none_correct : AllCorrect l calls begun_in b Last
     none_correct = record {
-      runs = λ c f k self scope vs env made d first q m map console st s n types le begins typed code_at room.
-          none_spent l s n 3 _ (done l.world 3 s _ (record {
+      runs = λ c f k self scope vs env made d first q m map console st s n types le begins typed code_at room watched.
+          passes l s (n - n) 3 _ (none_spent l s n 3 _ (done l.world 3 s _ (record {
             gp = q.gp;
             acc = q.acc;
             ra = q.ra;
@@ -97,7 +103,7 @@ module _ (l : Loading) (loaded : IsLoaded l) where
             located = omega arith;
             gp_from = omega arith;
             gp_to = omega arith;
-          }));
+          })));
     }
 
   seq_words : {A B : Type 0} (o : Outcome A) (wk ws pk : ℕ) (F : A → Computation B) → ws ≤ (seq_of o wk ws pk F).words
@@ -205,22 +211,23 @@ module _ (l : Loading) (loaded : IsLoaded l) where
           let same : q.sp - 4 - 4 * (j + 1) ≡ q.sp - 4 * (suc j + 1) = omega arith in
           subst (λ (a : ℕ). Pic l.world d2.memory d2.map' st2.drawn d2.gp u (word d2.memory a)) same (d2.values j u there)
 
-  module _ (calls : Calls) (b : ℕ) (later : CallsLater calls) (sound : AllCallsSound l.table calls b) where
+  module _ (calls : Calls) (begun_in : Call → Visits) (b : ℕ) (later : CallsLater calls) (sound : AllCallsSound l.table calls b) where
     rest_later : (self : Value) (env : Environment) (ts : Trees) (v : Value) → ComesLater (holding 1 (eval_all l.table calls self env ts >>= λ vs. give (v ∷ vs)))
     rest_later self env ts v = held_later 1 (bind_later (all_later l.table calls later self env ts) (λ vs. give_later (v ∷ vs)))
 
     -- an argument in front of others
-    pub more_correct : (t : Tree) (ts : Trees) → Correct l calls b t → AllCorrect l calls b ts → AllCorrect l calls b (More t ts)
+    pub more_correct : (t : Tree) (ts : Trees) → Correct l calls begun_in b t → AllCorrect l calls begun_in b ts → AllCorrect l calls begun_in b (More t ts)
     more_correct t ts head tail = record { runs = by }
       where
         by : (c : ClassId) (f : ℕ) (k : ClassId) (self : Value) (scope : List Binding) (vs : List Named) (env : Environment) (made : fitting.World) (d first : ℕ) (q : Pointers) (m : Bytes) (map : Map) (console : Console)
             (st : State) (s : Machine) (n : ℕ) (types : List Ty) → n ≤ b → Begins l c k self scope vs env made d q m map console st s → HaveTypes l.table c scope (More t ts) types
             → AllCodeAt l c f vs d first q.pc (More t ts) → Room l q 0 (eval_all l.table calls self env (More t ts) st n)
+            → ((x : Visit) → all_begun l.table calls begun_in c f self env first (More t ts) st n x → Watched l.watch x)
             → Runs l s n (64 * (eval_all l.table calls self env (More t ts) st n).work + 3)
             (AllDone l (record q { pc = q.pc + sizes (arguments_code (context l c f) (constants l) vs d first (More t ts)) }) m map st (eval_all l.table calls self env (More t ts) st n).words)
             (eval_all l.table calls self env (More t ts) st n).outcome
-        by c f k self scope vs env made d first q m map console st s n [] le begins have code_at room = absurd have
-        by c f k self scope vs env made d first q m map console st s n (type ∷ types) le begins have code_at room =
+        by c f k self scope vs env made d first q m map console st s n [] le begins have code_at room watched = absurd have
+        by c f k self scope vs env made d first q m map console st s n (type ∷ types) le begins have code_at room watched =
             let p = l.table in
             let la = code (context l c f) (constants l) vs d first t in
             let lb = arguments_code (context l c f) (constants l) vs (d + 1) (first + tree_size t) ts in
@@ -228,22 +235,22 @@ module _ (l : Loading) (loaded : IsLoaded l) where
             let pc2 = pc1 + 20 + sizes lb in
             let o = eval p calls self env t st n in
             let F : Value → Computation (List Value) = λ v. holding 1 (eval_all p calls self env ts >>= λ vs. give (v ∷ vs)) in
-            let whole = (eval_all p calls self env (More t ts) st n).words in
+            let total = (eval_all p calls self env (More t ts) st n).words in
             let pc3 = q.pc + sizes (arguments_code (context l c f) (constants l) vs d first (More t ts)) in
             let sum : pc2 ≡ pc3 = omega (arith, sizes_append l.world la (push_lines ++ lb), sizes_append l.world push_lines lb) in
             let fine = (eval_sound p loaded.buildable.typed calls b sound c k self t made scope env type begins.scene have.0).sound st n le begins.fits in
-            let push_here : HasLines l.world pc1 push_lines = has_front l.world push_lines lb pc1 (has_back l.world la (push_lines ++ lb) q.pc pc1 refl code_at.lines) in
-            let K2 : List Value → State → Machine → Type 0 = λ us u. AllDone l (record q { pc = pc3 }) m map st whole us u in
+            let push_here : HasLines l.world pc1 push_lines = quiet l push_lines pc1 (pc1 + 20) (omega arith) code_at.pushes.0 (has_front (whole l) push_lines lb pc1 (has_back (whole l) la (push_lines ++ lb) q.pc pc1 refl code_at.lines)) in
+            let K2 : List Value → State → Machine → Type 0 = λ us u. AllDone l (record q { pc = pc3 }) m map st total us u in
             bind_reserved l o.outcome o.work o.words o.peak F s n (64 * o.work - 4) 7 3 q.gp 0 q.sp (λ v u. Done l (record q { pc = pc1 }) m map st o.words v u) K2
             (omega arith) (λ v u left e. let some = eval_works p calls self env t st n v u left e in omega arith)
             (λ v u left. (rest_later self env ts v).later u left) room.heap room.stack room.way
-            (λ heap stack way. head.runs c f k self scope vs env made d first q m map console st s n type le begins have.0 (first_code c f vs d first q.pc t ts code_at) (record { heap = heap; stack = stack; way = way }))
+            (λ heap stack way. head.runs c f k self scope vs env made d first q m map console st s n type le begins have.0 (first_code c f vs d first q.pc t ts code_at) (record { heap = heap; stack = stack; way = way }) (λ x h. watched x (inl h)))
             (λ v st1 left m1 e d1 heap stack way.
             let good = fine_value p made n _ o.outcome v st1 left e fine in
             let r = eval_all p calls self env ts st1 left in
             let G : List Value → Computation (List Value) = λ us. give (v ∷ us) in
             let more : r.words ≤ (F v st1 left).words = seq_words r.outcome r.work r.words r.peak G in
-            let split : whole ≡ o.words + (F v st1 left).words = ap (λ (x : Outcome Value). (seq_of x o.work o.words o.peak F).words) e in
+            let split : total ≡ o.words + (F v st1 left).words = ap (λ (x : Outcome Value). (seq_of x o.work o.words o.peak F).words) e in
             let pushed = is_pushed q d1.memory d1.map' st1 v d1.gp d1.acc pc1 d1.ra d1.console m1 d1.at d1.pictures d1.value in
             let low = pushed.low in
             let even = pushed.even in
@@ -263,6 +270,6 @@ module _ (l : Loading) (loaded : IsLoaded l) where
             (λ us u. AllDone l (record q { pc = pc2; gp = d1.gp; sp = q.sp - 4; acc = d1.acc; ra = d1.ra }) memory1 d1.map' st1 r.words us u) K2
             (omega arith) (λ us u left2 e2. omega arith) (λ us u left2. (give_later (v ∷ us)).later u left2) (omega arith) (omega arith) way
             (λ heap2 stack2 way2. tail.runs c f k self scope vs env good.world (d + 1) (first + tree_size t) (record q { pc = pc1 + 20; gp = d1.gp; sp = q.sp - 4; acc = d1.acc; ra = d1.ra }) memory1 d1.map' d1.console st1 m2 left types
-            (omega arith) begins2 have.1 (later_code c f vs d first q.pc t ts code_at) (record { heap = heap2; stack = stack2; way = way2 }))
+            (omega arith) begins2 have.1 (later_code c f vs d first q.pc t ts code_at) (record { heap = heap2; stack = stack2; way = way2 }) (λ x h. watched x (inr (v, st1, left, e, h))))
             (λ us st2 left2 m3 e2 d2 heap2 stack2 way2.
-            none_spent l m3 left2 0 _ (done l.world 0 m3 _ (arguments_joined q m map st st1 st2 v us pc1 pc2 pc3 o.words r.words whole m1 m3 d1 d2 (omega arith) sum (omega arith))))))))
+            passes l m3 (left2 - left2) 0 _ (none_spent l m3 left2 0 _ (done l.world 0 m3 _ (arguments_joined q m map st st1 st2 v us pc1 pc2 pc3 o.words r.words total m1 m3 d1 d2 (omega arith) sum (omega arith)))))))))

@@ -1,5 +1,5 @@
 -- The code of expressions with an operator on numbers does what they mean.
-use Rattle.std.proofs.Common.{◌≡◌, ℕ, ◌+◌, ◌-◌, ◌*◌, ◌/◌, ◌%◌, ◌≤◌, List, [], ◌++◌, get_or, refl, ap, ◌∙◌, subst, arith}
+use Rattle.std.proofs.Common.{◌≡◌, ℕ, ◌+◌, ◌-◌, ◌*◌, ◌/◌, ◌%◌, ◌≤◌, List, [], ◌++◌, get_or, refl, ap, ◌∙◌, subst, arith, inl, inr}
 use Rattle.std.specs.Prelude.{Contains}
 use Rattle.mips_isa.specs.Bytes.{Bytes, word}
 use Rattle.mips_isa.specs.Calls.{State as Machine}
@@ -22,19 +22,22 @@ use Rattle.cool_codegen.specs.Code.{code, operation_code, int_code}
 use Rattle.cool_meaning.specs.Values.{Value, State}
 use Rattle.cool_meaning.specs.Meters.{◌>>=◌}
 use Rattle.cool_meaning.specs.BasicMethods.{as_number}
-use Rattle.cool_meaning.specs.Evaluation.{Calls, eval, arithmetic}
+use Rattle.cool_meaning.specs.Evaluation.{Call, Calls, eval, arithmetic}
 use Rattle.cool_meaning.proofs.SoundParts.{AllCallsSound}
-use Rattle.cool_simulation.specs.Loadings.{Loading, IsLoaded, constants, context}
+use Rattle.cool_simulation.specs.Loadings.{Loading, IsLoaded, constants, context, whole}
 use Rattle.cool_simulation.specs.Pictures.{Map, Pic, Pictures, word_of}
 use Rattle.cool_simulation.specs.Simulation.{Done, Correct, Way}
+use Rattle.cool_simulation.specs.Visits.{Visits}
 use Rattle.cool_simulation.proofs.ground.OperatorWalks.{Both, values}
 use Rattle.cool_simulation.proofs.ground.PartsOfRuns.{run_after, numbers_runs}
 use Rattle.cool_simulation.proofs.ground.EvaluationLater.{CallsLater, bind_later, number_later, arithmetic_later}
 use Rattle.cool_simulation.proofs.ground.PicturesStay.{pictures_higher}
-use Rattle.cool_simulation.proofs.ground.CodeOfParts.{Asks, asks_of, asks_front, asks_back, asks_part, part_at}
+use Rattle.cool_simulation.proofs.ground.CodeOfParts.{Asks, asks_of, asks_front, asks_back, asks_part, part_at, in_rest, own_placed}
 use Rattle.cool_simulation.proofs.ground.Operands.{TwoDone, operands_run}
 use Rattle.cool_simulation.proofs.forms.Operators.{operation_runs}
-use Rattle.std.proofs.lemmas.List.Elements.{Contains-append_right}
+use Rattle.std.proofs.lemmas.List.Elements.{Contains-append_right, Contains-append_left}
+use Rattle.cool_simulation.proofs.ground.Passages.{quiet}
+use Rattle.cool_codegen.specs.Spans.{span, spans}
 
 -- an operation names its file
 file_there : (files : List (List ℕ)) (op : ArithOp) (at : Place) → Contains (files_of files op at) (get_or files at.file [])
@@ -50,13 +53,14 @@ module _ (l : Loading) where
   popped q pc m map st words v w t s even high i =
       pictures_higher l.world l.table l.memory i.memory i.map' t i.gp (q.sp - 4) q.sp (λ k from to. let same : k ≡ (q.sp - 4) / 4 = omega arith in ap i.map'.marked same ∙ i.unmarked) i.pictures
 
-module _ (l : Loading) (loaded : IsLoaded l) (calls : Calls) (b : ℕ) (sound : AllCallsSound l.table calls b) (later : CallsLater calls) where
-  pub arith_correct : (at : Place) (op : ArithOp) (ta tb : Tree) → Correct l calls b ta → Correct l calls b tb → Correct l calls b (trees.Arith at op ta tb)
+module _ (l : Loading) (loaded : IsLoaded l) (calls : Calls) (begun_in : Call → Visits) (b : ℕ) (sound : AllCallsSound l.table calls b) (later : CallsLater calls) where
+  pub arith_correct : (at : Place) (op : ArithOp) (ta tb : Tree) → Correct l calls begun_in b ta → Correct l calls begun_in b tb → Correct l calls begun_in b (trees.Arith at op ta tb)
   unfolding values_lines ends_where_lines
   arith_correct at op ta tb correct correct' = record {
-    runs = λ c f k self scope vs env made d first q m map console st s n type less begins (has, has', is) code_at room.
+    runs = λ c f k self scope vs env made d first q m map console st s n type less begins (has, has', is) code_at room watched.
         let small = code_at.small in
         let w = l.world in
+        let o = whole l in
         let ctx = context l c f in
         let id = root first (trees.Arith at op ta tb) in
         let la = code ctx (constants l) vs d first ta in
@@ -71,9 +75,14 @@ module _ (l : Loading) (loaded : IsLoaded l) (calls : Calls) (b : ℕ) (sound : 
         let pc2 = pc1 + 20 in
         let pc3 = pc2 + sizes lb in
         let final = q.pc + sizes (la ++ r1) in
-        let h1 : HasLines w pc1 r1 = has_back w la r1 q.pc pc1 refl code_at.lines in
-        let h2 : HasLines w pc2 r2 = has_back w push_lines r2 pc1 pc2 refl h1 in
-        let h3 : HasLines w pc3 r3 = has_back w lb r3 pc2 pc3 refl h2 in
+        let h1 : HasLines o pc1 r1 = has_back o la r1 q.pc pc1 refl code_at.lines in
+        let h2 : HasLines o pc2 r2 = has_back o push_lines r2 pc1 pc2 refl h1 in
+        let free = (own_placed l c f vs d first q.pc (trees.Arith at op ta tb) code_at).quiet in
+        let push_there : HasLines w pc1 push_lines = quiet l push_lines pc1 pc2 (omega arith) free.0 (has_front o push_lines r2 pc1 h1) in
+        let h3 : HasLines w pc3 r3 = quiet l r3 pc3 final (let a = sizes_append w la r1 in let e = sizes_append w lb r3 in omega arith) free.1 (has_back o lb r3 pc2 pc3 refl h2) in
+        let own = span vs d first q.pc (trees.Arith at op ta tb) in
+        let at_a = spans sizes ctx (constants l) vs d first q.pc ta in
+        let at_b = spans sizes ctx (constants l) vs (d + 1) (first + tree_size ta) pc2 tb in
         let h4 : HasLines w (pc3 + 16) r4 = has_back w values_lines r4 pc3 (pc3 + 16) refl h3 in
         let ia = integers_in ta in let ib = integers_in tb in
         let xa = strings_in l.files ta in let xb = strings_in l.files tb in let xo = files_of l.files op at in
@@ -89,9 +98,12 @@ module _ (l : Loading) (loaded : IsLoaded l) (calls : Calls) (b : ℕ) (sound : 
         let high : 4 ≤ q.sp = (let laid = w.laid in omega arith) in
         let same : pc3 + 16 + sizes operation + 28 + 68 ≡ final =
         (let a = sizes_append w la r1 in let e = sizes_append w lb r3 in let o = sizes_append w operation ints in omega arith) in
-        operands_run l loaded calls b sound later c f k self scope vs env made d first q m map console st s n less begins ta tb int_type int_type correct correct' has has'
-        (part_at l c f vs d first q.pc ta (has_front w la r1 q.pc code_at.lines) asks_a code_at.within.1 (omega arith)) (has_front w push_lines r2 pc1 h1)
-        (part_at l c f vs (d + 1) (first + tree_size ta) pc2 tb (has_front w lb r3 pc2 h2) asks_b code_at.within.2 (omega arith)) G L
+        operands_run l loaded calls begun_in b sound later c f k self scope vs env made d first q m map console st s n less begins ta tb int_type int_type correct correct' has has'
+        (part_at l c f vs d first q.pc ta (has_front o la r1 q.pc code_at.lines) asks_a code_at.within.1 (omega arith)
+        (λ x h. code_at.spans x (in_rest own (at_a ++ at_b) x (Contains-append_left at_a at_b x h)))) push_there
+        (part_at l c f vs (d + 1) (first + tree_size ta) pc2 tb (has_front o lb r3 pc2 h2) asks_b code_at.within.2 (omega arith)
+        (λ x h. code_at.spans x (in_rest own (at_a ++ at_b) x (Contains-append_right at_a at_b x h)))) (λ x h. watched x (inr (inl h))) (λ v t1 left e x h. watched x (inr (inr (v, t1, left, e, h))))
+        G L
         (λ v u. bind_later (number_later v) (λ x. bind_later (number_later u) (λ y. arithmetic_later op at x y))) room
         (λ v u t2 left2 words s2 i total heap way.
         numbers_runs l v u (λ x y. arithmetic op at x y) s2 t2 left2 52 L (λ x y is_x is_y same_words same_outcome.

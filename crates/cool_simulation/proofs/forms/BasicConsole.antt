@@ -18,7 +18,7 @@ use Rattle.cool_simulation.specs.Loadings.{Loading, IsLoaded}
 use Rattle.cool_simulation.specs.Pictures.{Map, Pic, Shows, word_of}
 use Rattle.cool_simulation.specs.Simulation.{Done, Runs}
 use Rattle.cool_simulation.proofs.forms.Received.{Received}
-use Rattle.cool_simulation.proofs.forms.RoutinesDone.{RoutineRuns, joined, routine_done, same_memory, reaches_as}
+use Rattle.cool_simulation.proofs.forms.RoutinesDone.{RoutineRuns, joined, routine_done, same_memory, passes_as}
 use Rattle.cool_simulation.proofs.ground.WordsOfNumbers.{word_read}
 
 -- what is shown once bytes were written
@@ -34,7 +34,7 @@ module _ (l : Loading) (loaded : IsLoaded l) (j : ClassId) (self : Value) (vs : 
   unfolding out_string
   writes_string bytes (string, un, un') one begins =
       let room = h.room in
-      reaches_as l s n 8 _ _ _ (omega arith)
+      passes_as l s n 8 _ _ _ (omega arith)
       (means l.world routines.OutString q m console s bytes (loaded.routines routines.OutString) h.at begins (omega arith) string)
       (λ t at. routine_done l j self vs made q m map console st s h q.gp (q.sp + 4) q.acc _ m (wrote console bytes) st.input (st.output ++ bytes) self t at (omega arith) (same_memory l m q.gp q.sp) (omega arith) (omega arith)
       (shows_wrote st console bytes h.shows) h.self_is)
@@ -45,7 +45,7 @@ module _ (l : Loading) (loaded : IsLoaded l) (j : ClassId) (self : Value) (vs : 
       let room = h.room in
       let text : List ℕ = signed_decimal (machine.signed (word_of v)) in
       let same : text ≡ signed_decimal v = ap signed_decimal (word_read v fit) in
-      reaches_as l s n 8 _ _ _ (omega arith)
+      passes_as l s n 8 _ _ _ (omega arith)
       (means l.world routines.OutInt q m console s (word_of v) (loaded.routines routines.OutInt) h.at begins (omega arith) int)
       (λ t at. routine_done l j self vs made q m map console st s h q.gp (q.sp + 4) q.acc _ m (wrote console (signed_decimal v)) st.input (st.output ++ signed_decimal v) self t
       (subst (λ (o : List ℕ). At l.world (record q { pc = q.ra; sp = q.sp + 4 }) m (wrote console o) t) same at) (omega arith) (same_memory l m q.gp q.sp) (omega arith) (omega arith)

@@ -19,7 +19,7 @@ use Rattle.cool_simulation.specs.Pictures.{Map, Pic}
 use Rattle.cool_simulation.proofs.forms.Arguments.{limits, console_way}
 use Rattle.cool_simulation.proofs.ground.MadePictures.{number_copied, truth_copied, text_copied}
 use Rattle.cool_simulation.proofs.forms.Received.{Received}
-use Rattle.cool_simulation.proofs.forms.RoutinesDone.{RoutineRuns, routine_done, reaches_as}
+use Rattle.cool_simulation.proofs.forms.RoutinesDone.{RoutineRuns, routine_done, passes_as}
 
 module _ (l : Loading) (loaded : IsLoaded l) (j : ClassId) (self : Value) (vs : List Value) (made : fitting.World) (q : Pointers) (m : Bytes) (map : Map) (console : Console) (st : State) (s : Machine) (n : ℕ)
     (h : Received l j self vs made q m map console st s) (none : length vs ≡ 0) (begins : q.pc ≡ l.world.place (codes "Object.copy")) (way : OnTheWay l.world st.output st.input) where
@@ -32,7 +32,7 @@ module _ (l : Loading) (loaded : IsLoaded l) (j : ClassId) (self : Value) (vs : 
       let numbers = h.at.numbers in
       let laid = l.world.laid in
       let made' = number_copied l.world l.table l.memory m map st q.gp q.sp q.acc v from (omega arith) (omega arith) h.pictures pic in
-      reaches_as l s n (7 * 4 + 16) _ _ _ (omega arith)
+      passes_as l s n (7 * 4 + 16) _ _ _ (omega arith)
       (means l.world routines.Copy q m console s 4 (limits l loaded) (loaded.routines routines.Copy) h.at begins pic.0.lies (omega arith) pic.0.head.size_is (omega arith) (console_way l loaded st console h.shows way))
       (λ t at. routine_done l j self vs made q m map console st s h (q.gp + 20) q.sp (q.gp + 4) _ _ console st.input st.output (Int v) t
       (record { numbers = (let numbers' = at.numbers in omega arith); memory_is = at.memory_is; input_is = at.input_is; ended_is = at.ended_is; output_is = at.output_is }) (omega arith) made'.same (omega arith) (omega arith) h.shows made'.value)
@@ -43,7 +43,7 @@ module _ (l : Loading) (loaded : IsLoaded l) (j : ClassId) (self : Value) (vs : 
       let numbers = h.at.numbers in
       let laid = l.world.laid in
       let made' = truth_copied l.world l.table l.memory m map st q.gp q.sp q.acc b from (omega arith) (omega arith) h.pictures pic in
-      reaches_as l s n (7 * 4 + 16) _ _ _ (omega arith)
+      passes_as l s n (7 * 4 + 16) _ _ _ (omega arith)
       (means l.world routines.Copy q m console s 4 (limits l loaded) (loaded.routines routines.Copy) h.at begins pic.0.lies (omega arith) pic.0.head.size_is (omega arith) (console_way l loaded st console h.shows way))
       (λ t at. routine_done l j self vs made q m map console st s h (q.gp + 20) q.sp (q.gp + 4) _ _ console st.input st.output (Bool b) t
       (record { numbers = (let numbers' = at.numbers in omega arith); memory_is = at.memory_is; input_is = at.input_is; ended_is = at.ended_is; output_is = at.output_is }) (omega arith) made'.same (omega arith) (omega arith) h.shows made'.value)
@@ -55,7 +55,7 @@ module _ (l : Loading) (loaded : IsLoaded l) (j : ClassId) (self : Value) (vs : 
       let laid = l.world.laid in
       let size = 4 + words_of_bytes (length bytes) in
       let to = pic.0.lies.to in
-      reaches_as l s n (7 * size + 16) _ _ _ (omega arith)
+      passes_as l s n (7 * size + 16) _ _ _ (omega arith)
       (means l.world routines.Copy q m console s size (limits l loaded) (loaded.routines routines.Copy) h.at begins pic.0.lies (omega arith) pic.0.head.size_is (omega arith) (console_way l loaded st console h.shows way))
       (λ t at.
       let numbers' = at.numbers in

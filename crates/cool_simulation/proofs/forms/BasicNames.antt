@@ -24,9 +24,10 @@ use Rattle.cool_simulation.proofs.ground.CallErrors.{stops}
 use Rattle.cool_simulation.proofs.ground.DataHere.{name_here, name_pic, text_here}
 use Rattle.cool_simulation.proofs.forms.ReceiverHeads.{has_head, tagged}
 use Rattle.cool_simulation.proofs.forms.Received.{Received}
-use Rattle.cool_simulation.proofs.forms.RoutinesDone.{routine_done, same_memory, reaches_as}
+use Rattle.cool_simulation.proofs.forms.RoutinesDone.{routine_done, same_memory, passes_as}
 use Rattle.cool_simulation.proofs.ground.WordsOfNumbers.{signed_word}
 use Rattle.cool_runtime.proofs.Runs.{wider}
+use Rattle.cool_simulation.proofs.ground.Passages.{passes}
 
 module _ (l : Loading) (loaded : IsLoaded l) (j : ClassId) (self : Value) (vs : List Value) (made : fitting.World) (q : Pointers) (m : Bytes) (map : Map) (console : Console) (st : State) (s : Machine) (n : ℕ)
     (h : Received l j self vs made q m map console st s) where
@@ -41,18 +42,18 @@ module _ (l : Loading) (loaded : IsLoaded l) (j : ClassId) (self : Value) (vs : 
   aborts begins =
       let p = l.table in
       subst (λ (o : Option ClassId). Meant (given o >>= λ c. stop (Aborted c))) (sym h.class)
-      (wider l.world s 0 0 18 (64 * (length vs + 0) + 51) _ (omega arith) (omega arith)
+      (passes l s 0 (64 * (length vs + 0) + 51) _ (wider l.world s 0 0 18 (64 * (length vs + 0) + 51) _ (omega arith) (omega arith)
       (stops l (Aborted j) st console _ s 18 h.shows (append_assoc (codes "Abort called from class ") (name_of p j) (10 ∷ []))
       (means l.world routines.Abort q m console s (tag p j) (name_of p j) (codes "Abort called from class ") (codes "\n") (loaded.routines routines.Abort) h.at begins
       (tagged l loaded m q.gp q.acc j (has_head l loaded self j m map st q.gp q.sp q.acc h.class h.pictures h.self_is)) (name_here l loaded m map st q.gp q.sp from h.pictures j h.within)
-      (text_here l loaded m map st q.gp q.sp from h.pictures _ _ loaded.abort_text) (text_here l loaded m map st q.gp q.sp from h.pictures _ _ loaded.newline_text))))
+      (text_here l loaded m map st q.gp q.sp from h.pictures _ _ loaded.abort_text) (text_here l loaded m map st q.gp q.sp from h.pictures _ _ loaded.newline_text)))))
 
   pub gives_name : length vs ≡ 0 → q.pc ≡ l.world.place (codes "Object.type_name") → Meant (given (class_of self) >>= λ c. give (Str (name_of l.table c)))
   unfolding type_name
   gives_name none begins =
       let p = l.table in
       subst (λ (o : Option ClassId). Meant (given o >>= λ c. give (Str (name_of p c)))) (sym h.class)
-      (reaches_as l s n 8 _ _ _ (omega arith)
+      (passes_as l s n 8 _ _ _ (omega arith)
       (means l.world routines.TypeName q m console s (tag p j) (name_of p j) (loaded.routines routines.TypeName) h.at begins
       (tagged l loaded m q.gp q.acc j (has_head l loaded self j m map st q.gp q.sp q.acc h.class h.pictures h.self_is)) (name_here l loaded m map st q.gp q.sp from h.pictures j h.within))
       (λ t at. routine_done l j self vs made q m map console st s h q.gp q.sp _ _ m console st.input st.output (Str (name_of p j)) t at (omega arith) (same_memory l m q.gp q.sp) (omega arith) (omega arith) h.shows
@@ -66,7 +67,7 @@ module _ (l : Loading) (loaded : IsLoaded l) (j : ClassId) (self : Value) (vs : 
       let small = int.fits in
       let (word_is, fit) = signed_word (length bytes) in
       let same : length bytes ≡ word_of (signed (length bytes)) = omega arith in
-      reaches_as l s n 2 _ _ _ (omega arith)
+      passes_as l s n 2 _ _ _ (omega arith)
       (means l.world routines.Length q m console s bytes (loaded.routines routines.Length) h.at begins string)
       (λ t at. routine_done l j self vs made q m map console st s h q.gp q.sp _ _ m console st.input st.output (Int (signed (length bytes))) t at (omega arith) (same_memory l m q.gp q.sp) (omega arith) (omega arith) h.shows
       (subst (λ (x : ℕ). IntAt l.world m q.gp (word m (q.acc + 12)) x) same int, fit, un'))

@@ -27,7 +27,7 @@ use Rattle.cool_simulation.proofs.ground.LargerMaps.{numbers, with_object, with_
 use Rattle.cool_simulation.proofs.ground.MadeObjects.{made_pictures, made_kept, made_grown, made_value}
 use Rattle.cool_simulation.proofs.ground.PartsBehind.{pic_fits}
 use Rattle.cool_simulation.proofs.forms.Received.{Received}
-use Rattle.cool_simulation.proofs.forms.RoutinesDone.{RoutineRuns, reaches_as}
+use Rattle.cool_simulation.proofs.forms.RoutinesDone.{RoutineRuns, passes_as}
 use Rattle.std.proofs.lemmas.Option.{slice_get_within}
 use Rattle.lists.proofs.ItemsAt.{there_is}
 
@@ -105,7 +105,7 @@ module _ (l : Loading) (loaded : IsLoaded l) (j : ClassId) (self : Value) (vs : 
         let from : HEAP_START ≤ q.gp = omega arith in
         let there : ObjectAt l.world m q.gp q.acc (tag p (map.class i)) size (l.world.place (dispatch_table p (map.class i))) words =
         subst (λ (a : ℕ). ObjectAt l.world m q.gp a (tag p (map.class i)) size (l.world.place (dispatch_table p (map.class i))) words) (sym acc_is) object in
-        reaches_as l s n (7 * size + 16) _ _ _ (omega arith)
+        passes_as l s n (7 * size + 16) _ _ _ (omega arith)
         (means l.world routines.Copy q m console s size (limits l loaded) (loaded.routines routines.Copy) h.at begins there.lies (omega arith) there.head.size_is (omega arith) (console_way l loaded st console h.shows way))
         (λ t at.
         let numbers2 = at.numbers in

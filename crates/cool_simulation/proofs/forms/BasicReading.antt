@@ -25,7 +25,7 @@ use Rattle.cool_simulation.proofs.forms.Arguments.{limits}
 use Rattle.cool_simulation.proofs.ground.DataHere.{int_prototype_here, string_prototype_here}
 use Rattle.cool_simulation.proofs.ground.MadePictures.{number_made, text_read}
 use Rattle.cool_simulation.proofs.forms.Received.{Received}
-use Rattle.cool_simulation.proofs.forms.RoutinesDone.{RoutineRuns, routine_done, reaches_as}
+use Rattle.cool_simulation.proofs.forms.RoutinesDone.{RoutineRuns, routine_done, passes_as}
 use Rattle.cool_simulation.proofs.ground.WordsOfNumbers.{number_word, number_line_word, number_fits}
 use Rattle.lists.specs.Bytes.{AreBytes}
 
@@ -91,7 +91,7 @@ module _ (l : Loading) (loaded : IsLoaded l) (j : ClassId) (self : Value) (vs : 
       let few = length line.got in
       let int = int_prototype_here l loaded m map st q.gp q.sp from h.pictures in
       let string = string_prototype_here l loaded m map st q.gp q.sp from h.pictures in
-      reaches_as l s n (11 * few + 48) _ _ _ (omega arith)
+      passes_as l s n (11 * few + 48) _ _ _ (omega arith)
       (means l.world routines.InString q m console s [] line (limits l loaded) (loaded.routines routines.InString) h.at begins (subst AreBytes (sym h.shows.input) h.shows.bytes) refl int string (omega arith) (way_rest way))
       (λ t at.
       let numbers' = at.numbers in
@@ -112,7 +112,7 @@ module _ (l : Loading) (loaded : IsLoaded l) (j : ClassId) (self : Value) (vs : 
       let value = number_of (line_of st.input).bytes in
       let word_is : machine.number_of (with_newline line) ≡ word_of value = sym (line_number line) ∙ ap (λ (b : List ℕ). word_of (number_of b)) got_is in
       let made' = number_made l.world p l.memory m map st q.gp q.sp (l.world.place int_prototype) value from (omega arith) (omega arith) h.pictures (number_fits (line_of st.input).bytes) int in
-      reaches_as l s n 24 _ _ _ (omega arith)
+      passes_as l s n 24 _ _ _ (omega arith)
       (means l.world routines.InInt q m console s (whole line) (limits l loaded) (loaded.routines routines.InInt) h.at begins int (asked_line_is console.ended console.input) (omega arith) (way_rest way))
       (λ t at.
       routine_done l j self vs made q m map console st s h (q.gp + 20) q.sp (q.gp + 4) _ _ (got console line) (line_of st.input).rest st.output (Int value) t

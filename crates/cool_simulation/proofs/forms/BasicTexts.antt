@@ -27,8 +27,9 @@ use Rattle.cool_simulation.proofs.ground.CallErrors.{placed_text, stops}
 use Rattle.cool_simulation.proofs.ground.DataHere.{int_prototype_here, string_prototype_here, text_here}
 use Rattle.cool_simulation.proofs.ground.MadePictures.{text_joined, text_cut}
 use Rattle.cool_simulation.proofs.forms.Received.{Received}
-use Rattle.cool_simulation.proofs.forms.RoutinesDone.{RoutineRuns, joined, routine_done, reaches_as}
+use Rattle.cool_simulation.proofs.forms.RoutinesDone.{RoutineRuns, joined, routine_done, passes_as}
 use Rattle.std.proofs.lemmas.Bool.{leb-true, leb-false}
+use Rattle.cool_simulation.proofs.ground.Passages.{passes}
 
 module _ (l : Loading) (loaded : IsLoaded l) (j : ClassId) (self : Value) (vs : List Value) (made : fitting.World) (q : Pointers) (m : Bytes) (map : Map) (console : Console) (st : State) (s : Machine) (n : ℕ)
     (h : Received l j self vs made q m map console st s) where
@@ -47,7 +48,7 @@ module _ (l : Loading) (loaded : IsLoaded l) (j : ClassId) (self : Value) (vs : 
       let few = length xs + length ys in
       let int = int_prototype_here l loaded m map st q.gp q.sp from h.pictures in
       let string = string_prototype_here l loaded m map st q.gp q.sp from h.pictures in
-      reaches_as l s n (8 * few + 65) _ _ _ (omega arith)
+      passes_as l s n (8 * few + 65) _ _ _ (omega arith)
       (means l.world routines.Concat q m console s xs ys [] (limits l loaded) (loaded.routines routines.Concat) h.at begins (omega arith) first.0 second.0 int string (omega arith) (console_way l loaded st console h.shows way))
       (λ t at.
       let numbers' = at.numbers in
@@ -68,7 +69,7 @@ module _ (l : Loading) (loaded : IsLoaded l) (j : ClassId) (self : Value) (vs : 
       let int = int_prototype_here l loaded m map st q.gp q.sp from h.pictures in
       let string = string_prototype_here l loaded m map st q.gp q.sp from h.pictures in
       let to = whole.0.lies.to in
-      reaches_as l s n (8 * k + 64) _ _ _ (omega arith)
+      passes_as l s n (8 * k + 64) _ _ _ (omega arith)
       ((means l.world routines.Substr).0 q m console s xs [] i k (limits l loaded) (loaded.routines routines.Substr) h.at begins (omega arith) whole.0 first second within int string (omega arith) (console_way l loaded st console h.shows way))
       (λ t at.
       let numbers' = at.numbers in
@@ -82,12 +83,12 @@ module _ (l : Loading) (loaded : IsLoaded l) (j : ClassId) (self : Value) (vs : 
   refuses at xs i k whole first second beyond two begins string line_is small =
       let room = h.room in
       let q' : Pointers = record q { pc = l.world.place substr_abort } in
-      stops l (Substring at) st console _ s _ h.shows (placed_text l.files at (codes "Substring out of range.") small)
+      passes l s 0 (64 * (length vs + 0) + 51) _ (stops l (Substring at) st console _ s _ h.shows (placed_text l.files at (codes "Substring out of range.") small)
       (next l.world s 13 16 (64 * (length vs + 0) + 51) _ _
       ((means l.world routines.Substr).1 q m console s xs i k (loaded.routines routines.Substr) h.at begins (omega arith) whole.0 first second beyond) (omega arith) (λ t there.
       means l.world routines.SubstrRange q' m console t (get_or l.files at.file []) (codes ":") (codes ": Substring out of range.\n") at.line (loaded.routines routines.SubstrRange) there.0 refl
       (subst (λ (a : ℕ). StringAt l.world m q.gp a (get_or l.files at.file [])) (sym there.1) string) (there.2 ∙ line_is) (omega arith)
-      (text_here l loaded m map st q.gp q.sp from h.pictures _ _ loaded.colon_text) (text_here l loaded m map st q.gp q.sp from h.pictures _ _ loaded.substring_text)))
+      (text_here l loaded m map st q.gp q.sp from h.pictures _ _ loaded.colon_text) (text_here l loaded m map st q.gp q.sp from h.pictures _ _ loaded.substring_text))))
 
 negative : (k : ℕ) → fits (negsuc k) ≡ true → k < 2147483648
 negative k e = grind arith

@@ -189,7 +189,7 @@ first_step p d ds (e ∷ es) deep h = by (nat_eq e.class.0 d.0) (among ds e.clas
         sym (ap (λ (o : Option Entry). or o (Some e)) (none_deeper p d es (all_under p (depth_of p e.class) (depth_of p d) less es h.0)))
     by false false t more = more
 
-none_among : (es : List Entry) → first_among [] es ≡ None
+pub none_among : (es : List Entry) → first_among [] es ≡ None
 none_among [] = refl
 none_among (e ∷ es) = none_among es
 

@@ -1,6 +1,6 @@
 -- The branches of a case in the text: in the order in which they are tried, each test leads to its branch or to the next test.
 use Rattle.std.proofs.Common.{◌≡◌, ℕ, suc, ◌+◌, ◌-◌, ◌*◌, ◌<◌, List, [], ◌∷◌, ◌++◌, length, map as each, Option, Some, None, Bool as Truth, true, false, ap, ◌∙◌, refl, subst, arith}
-use Rattle.std.specs.Prelude.{if◌then◌else◌, nat_lt, codes}
+use Rattle.std.specs.Prelude.{if◌then◌else◌, nat_lt, codes, Contains}
 use Rattle.std.specs.List.{AllByRecursion}
 use Rattle.mips_isa.specs.Bytes.{Bytes}
 use Rattle.mips_isa.specs.Calls.{State as Machine}
@@ -26,6 +26,12 @@ use Rattle.cool_meaning.specs.Evaluation.{branch_count}
 use Rattle.cool_simulation.proofs.forms.BranchOrder.{Entry, entries, with_entry, with_entries, first_among, among}
 use Rattle.cool_simulation.proofs.forms.TagTests.{fits_tag, other_tag, tag_low, last_low}
 use Rattle.cool_simulation.proofs.forms.CaseLines.{AtTag, range_fits, range_misses, test_fits, test_misses}
+use Rattle.cool_simulation.specs.Loadings.{Loading, marks, whole}
+use Rattle.cool_simulation.specs.Quiet.{AreArmsFree}
+use Rattle.cool_simulation.proofs.ground.Passages.{quiet}
+use Rattle.cool_codegen.specs.Spans.{Span, Spanned, along, branches, spans, with_branch}
+use Rattle.std.proofs.lemmas.List.Elements.{Contains-append_left, Contains-append_right}
+use Rattle.cool_codegen.specs.Types.{class_meant}
 
 -- The order puts each in, and takes none away
 pub entries_many : (p : List Class) (c : ClassId) (k : ℕ) (cs : Cases) → length (entries p c k cs) ≡ branch_count cs
@@ -91,6 +97,30 @@ module _ (s : Context) (g : Constants) (vs : List Named) (d : ℕ) (end : Name) 
       let e : Entry = record { class = Rattle.cool_codegen.specs.Types.class_meant s.table s.class declared.name; name = name; bound = type_meant s.table declared.name; tree = t; first = k } in
       ap (λ (xs : List Arm). arms_code s g vs d (k + tree_size t) end xs cs) (with_arm_is before e) ∙ arms_are cs (k + tree_size t) (with_entry s.table before e)
 
+  -- the spans of an entry's branch
+  abbrev pub spanned_of : Entry → Spanned
+  spanned_of e = record { arm = arm_of e; inside = λ pc. spans sizes s g (bind d e.name e.bound vs) (d + 1) e.first (pc + sizes (range_code s e.class (next_of e))) e.tree }
+
+  with_branch_is : (es : List Entry) (e : Entry) → with_branch (each spanned_of es) (spanned_of e) ≡ each spanned_of (with_entry s.table es e)
+  with_branch_is [] e = refl
+  with_branch_is (a ∷ es) e = by (nat_lt (length (above s.table a.class)) (length (above s.table e.class))) (with_branch_is es e)
+    where
+      by : (b : Truth) → with_branch (each spanned_of es) (spanned_of e) ≡ each spanned_of (with_entry s.table es e)
+          → (if b then spanned_of e ∷ spanned_of a ∷ each spanned_of es else spanned_of a ∷ with_branch (each spanned_of es) (spanned_of e)) ≡ each spanned_of (if b then e ∷ a ∷ es else a ∷ with_entry s.table es e)
+      by true more = refl
+      by false more = ap (λ (xs : List Spanned). spanned_of a ∷ xs) more
+
+  -- the branches with their spans are in that order
+  pub branches_are : (cs : Cases) (k : ℕ) (before : List Entry) → branches sizes s g vs d k end (each spanned_of before) cs ≡ each spanned_of (with_entries s.table before (entries s.table s.class k cs))
+  branches_are NoCase k before = refl
+  branches_are (CaseOf at name declared t cs) k before =
+      let e : Entry = record { class = class_meant s.table s.class declared.name; name = name; bound = type_meant s.table declared.name; tree = t; first = k } in
+      ap (λ (xs : List Spanned). branches sizes s g vs d (k + tree_size t) end xs cs) (with_branch_is before e) ∙ branches_are cs (k + tree_size t) (with_entry s.table before e)
+
+  -- the spans of branches whose code begins at an address
+  abbrev pub told : ℕ → List Entry → List Span
+  told pc es = along sizes (λ b. b.arm.lines) (λ pc b. b.inside pc) pc (each spanned_of es)
+
   range_sizes : (e : Entry) → sizes (range_code s e.class (next_of e)) ≡ 16
   unfolding try_tags_lines
   range_sizes e = refl
@@ -103,57 +133,106 @@ module _ (s : Context) (g : Constants) (vs : List Named) (d : ℕ) (end : Name) 
   unfolding turn_lines
   next_placed w pc e has = has.1.0.labels.0
 
-  module _ (w : World) (whole : IsWholeTable s.table) (few : length s.table < 32768) (file : Name) (line : ℕ) (j : ClassId) (j_in : j.0 < length s.table) (m : Bytes) (c : Console) (q : Pointers) where
+  module _ (l : Loading) (whole_table : IsWholeTable s.table) (few : length s.table < 32768) (file : Name) (line : ℕ) (j : ClassId) (j_in : j.0 < length s.table) (m : Bytes) (c : Console) (q : Pointers) (P : Span → Type 0) where
     -- where the tests lead: to the code of a branch, or behind all
     abbrev pub Found : ℕ → Option Entry → Machine → Type 0
-    Found pc None t = AtTag w (record q { pc = pc }) m c file line (tag s.table j) t
-    Found pc (Some e) t = (pc' : ℕ) × HasLines w pc' (body_of e ++ turn_lines end (next_of e)) × AtTag w (record q { pc = pc' }) m c file line (tag s.table j) t
+    Found pc None t = AtTag l.world (record q { pc = pc }) m c file line (tag s.table j) t
+    Found pc (Some e) t =
+        (pc' : ℕ) × HasLines (whole l) pc' (body_of e) × HasLines l.world (pc' + sizes (body_of e)) (turn_lines end (next_of e))
+        × ((y : Span) → Contains (spans sizes s g (bind d e.name e.bound vs) (d + 1) e.first pc' e.tree) y → P y) × AtTag l.world (record q { pc = pc' }) m c file line (tag s.table j) t
 
     abbrev InTable : Entry → Type 0
     InTable e = e.class.0 < length s.table
 
-    pub tries : (es : List Entry) → AllByRecursion InTable es → (pc : ℕ) → HasLines w pc (arms_lines (each arm_of es)) → (t : Machine) → AtTag w (record q { pc = pc }) m c file line (tag s.table j) t
-        → Reaches w t 0 (4 * length es) (stands (Found (pc + sizes (arms_lines (each arm_of es))) (first_among (chain s.table j) es)))
-    tries [] all pc has t at = let z : pc ≡ pc + 0 = omega arith in done w 0 t _ (subst (λ x. AtTag w (record q { pc = x }) m c file line (tag s.table j) t) z at)
-    tries (e ∷ es) all pc has t at =
+    -- The branches stand, with no mark in the tests and the jumps, and their spans are such.
+    record ArmsAt (pc : ℕ) (es : List Entry) : Type 0 where
+      lines : HasLines (whole l) pc (arms_lines (each arm_of es))
+      free : AreArmsFree (marks l.watch) pc (each arm_of es)
+      inside : (y : Span) → Contains (told pc es) y → P y
+
+    -- the first of them
+    record ArmAt (pc : ℕ) (e : Entry) : Type 0 where
+      range : HasLines l.world pc (range_code s e.class (next_of e))
+      body : HasLines (whole l) (pc + 16) (body_of e)
+      turn : HasLines l.world (pc + 16 + sizes (body_of e)) (turn_lines end (next_of e))
+      inside : (y : Span) → Contains (spans sizes s g (bind d e.name e.bound vs) (d + 1) e.first (pc + 16) e.tree) y → P y
+      long : sizes (arm_of e).lines ≡ 16 + (sizes (body_of e) + 4)
+
+    first_at : (pc : ℕ) (e : Entry) (es : List Entry) → ArmsAt pc (e ∷ es) → ArmAt pc e
+    first_at pc e es at =
+        let o = whole l in
         let body = body_of e in
         let turn = turn_lines end (next_of e) in
         let range = range_code s e.class (next_of e) in
         let rest = arms_lines (each arm_of es) in
         let a = range_sizes e in
         let b = turn_sizes e in
-        let h0 : HasLines w pc (range ++ (body ++ turn)) = has_front w (range ++ (body ++ turn)) rest pc has in
-        let h1 : HasLines w pc range = has_front w range (body ++ turn) pc h0 in
-        let h2 : HasLines w (pc + 16) (body ++ turn) = has_back w range (body ++ turn) pc (pc + 16) (omega arith) h0 in
-        let h3 : HasLines w (pc + 16 + sizes body) turn = has_back w body turn (pc + 16) (pc + 16 + sizes body) refl h2 in
-        let size : sizes (range ++ (body ++ turn)) ≡ 16 + (sizes body + 4) = sizes_append w range (body ++ turn) ∙ (let u = sizes_append w body turn in omega arith) in
-        let total = sizes_append w (range ++ (body ++ turn)) rest in
-        let pc1 = pc + 16 + sizes body + 4 in
-        let h4 : HasLines w pc1 rest = has_back w (range ++ (body ++ turn)) rest pc pc1 (omega arith) has in
-        let place : w.place (next_of e) ≡ pc1 = next_placed w (pc + 16 + sizes body) e h3 in
-        let ends : pc1 + sizes rest ≡ pc + sizes ((range ++ (body ++ turn)) ++ rest) = omega arith in
-        by (among (chain s.table j) e.class) refl all.0 h1 h2 place ends (λ u at1. tries es all.1 pc1 h4 u at1) at
+        let h0 : HasLines o pc (range ++ (body ++ turn)) = has_front o (range ++ (body ++ turn)) rest pc at.lines in
+        let h2 : HasLines o (pc + 16) (body ++ turn) = has_back o range (body ++ turn) pc (pc + 16) (omega arith) h0 in
+        let h3 : HasLines o (pc + 16 + sizes body) turn = has_back o body turn (pc + 16) (pc + 16 + sizes body) refl h2 in
+        let size : sizes (range ++ (body ++ turn)) ≡ 16 + (sizes body + 4) = sizes_append o range (body ++ turn) ∙ (let u = sizes_append o body turn in omega arith) in
+        let free = at.free in
+        let mine = λ (x : ℕ). spans sizes s g (bind d e.name e.bound vs) (d + 1) e.first x e.tree in
+        let same : pc + 16 ≡ pc + sizes range = omega arith in
+        record {
+          range = quiet l range pc (pc + 16) (omega arith) free.0 (has_front o range (body ++ turn) pc h0);
+          body = has_front o body turn (pc + 16) h2;
+          turn = quiet l turn (pc + 16 + sizes body) (pc + sizes (range ++ (body ++ turn))) (omega arith) (λ i even from to. free.1 i even (omega arith) to) h3;
+          inside = λ y h. at.inside y (Contains-append_left (mine (pc + sizes range)) (told (pc + sizes (range ++ (body ++ turn))) es) y (subst (λ x. Contains (mine x) y) same h));
+          long = size;
+        }
+
+    others_at : (pc : ℕ) (e : Entry) (es : List Entry) → ArmsAt pc (e ∷ es) → ArmsAt (pc + sizes (arm_of e).lines) es
+    others_at pc e es at =
+        let o = whole l in
+        let mine = (arm_of e).lines in
+        let rest = arms_lines (each arm_of es) in
+        let range = range_code s e.class (next_of e) in
+        record {
+          lines = has_back o mine rest pc (pc + sizes mine) refl at.lines;
+          free = at.free.2;
+          inside = λ y h. at.inside y (Contains-append_right (spans sizes s g (bind d e.name e.bound vs) (d + 1) e.first (pc + sizes range) e.tree) (told (pc + sizes mine) es) y h);
+        }
+
+    tries_at : (es : List Entry) → AllByRecursion InTable es → (pc : ℕ) → ArmsAt pc es → (t : Machine) → AtTag l.world (record q { pc = pc }) m c file line (tag s.table j) t
+        → Reaches l.world t 0 (4 * length es) (stands (Found (pc + sizes (arms_lines (each arm_of es))) (first_among (chain s.table j) es)))
+    tries_at [] all pc stand t at = let z : pc ≡ pc + 0 = omega arith in done l.world 0 t _ (subst (λ x. AtTag l.world (record q { pc = x }) m c file line (tag s.table j) t) z at)
+    tries_at (e ∷ es) all pc stand t at =
+        let rest = arms_lines (each arm_of es) in
+        let pc1 = pc + sizes (arm_of e).lines in
+        let one = first_at pc e es stand in
+        let long = one.long in
+        let total = sizes_append l.world (arm_of e).lines rest in
+        let placed = next_placed l.world (pc + 16 + sizes (body_of e)) e one.turn in
+        let place : l.world.place (next_of e) ≡ pc1 = omega arith in
+        let ends : pc1 + sizes rest ≡ pc + sizes ((arm_of e).lines ++ rest) = omega arith in
+        by (among (chain s.table j) e.class) refl all.0 one place ends (λ u at1. tries_at es all.1 pc1 (others_at pc e es stand) u at1) at
       where
-        by : (b : Truth) → among (chain s.table j) e.class ≡ b → e.class.0 < length s.table → HasLines w pc (range_code s e.class (next_of e)) → HasLines w (pc + 16) (body_of e ++ turn_lines end (next_of e))
-            → w.place (next_of e) ≡ pc + 16 + sizes (body_of e) + 4 → pc + 16 + sizes (body_of e) + 4 + sizes (arms_lines (each arm_of es)) ≡ pc + sizes (arms_lines (each arm_of (e ∷ es)))
-            → ((u : Machine) → AtTag w (record q { pc = pc + 16 + sizes (body_of e) + 4 }) m c file line (tag s.table j) u
-            → Reaches w u 0 (4 * length es) (stands (Found (pc + 16 + sizes (body_of e) + 4 + sizes (arms_lines (each arm_of es))) (first_among (chain s.table j) es))))
-            → AtTag w (record q { pc = pc }) m c file line (tag s.table j) t
-            → Reaches w t 0 (4 * suc (length es)) (stands (Found (pc + sizes (arms_lines (each arm_of (e ∷ es)))) (if b then Some e else first_among (chain s.table j) es)))
-        by true f within h1 h2 place ends more at =
-            let fit = fits_tag s.table whole e.class j within j_in f in
-            let low = tag_low s.table whole j j_in in
-            let high = last_low s.table whole e.class within in
-            next w t 4 0 (4 * suc (length es)) _ _
-            (test_fits w file line (tag s.table j) (tag s.table e.class) (last_tag s.table e.class - tag s.table e.class + 1) (minus (tag s.table e.class)) (next_of e) (record q { pc = pc }) m c t h1 at
+        by : (b : Truth) → among (chain s.table j) e.class ≡ b → e.class.0 < length s.table → ArmAt pc e
+            → l.world.place (next_of e) ≡ pc + sizes (arm_of e).lines → pc + sizes (arm_of e).lines + sizes (arms_lines (each arm_of es)) ≡ pc + sizes (arms_lines (each arm_of (e ∷ es)))
+            → ((u : Machine) → AtTag l.world (record q { pc = pc + sizes (arm_of e).lines }) m c file line (tag s.table j) u
+            → Reaches l.world u 0 (4 * length es) (stands (Found (pc + sizes (arm_of e).lines + sizes (arms_lines (each arm_of es))) (first_among (chain s.table j) es))))
+            → AtTag l.world (record q { pc = pc }) m c file line (tag s.table j) t
+            → Reaches l.world t 0 (4 * suc (length es)) (stands (Found (pc + sizes (arms_lines (each arm_of (e ∷ es)))) (if b then Some e else first_among (chain s.table j) es)))
+        by true f within one place ends more at =
+            let fit = fits_tag s.table whole_table e.class j within j_in f in
+            let low = tag_low s.table whole_table j j_in in
+            let high = last_low s.table whole_table e.class within in
+            next l.world t 4 0 (4 * suc (length es)) _ _
+            (test_fits l.world file line (tag s.table j) (tag s.table e.class) (last_tag s.table e.class - tag s.table e.class + 1) (minus (tag s.table e.class)) (next_of e) (record q { pc = pc }) m c t one.range at
             (range_fits (tag s.table j) (tag s.table e.class) (last_tag s.table e.class) (omega arith) fit.0 fit.1 (omega arith)))
-            (omega arith) (λ u there. done w 0 u _ (pc + 16, h2, there))
-        by false f within h1 h2 place ends more at =
-            let low = tag_low s.table whole j j_in in
-            let high = last_low s.table whole e.class within in
-            next w t 4 (4 * length es) (4 * suc (length es)) _ _
-            (test_misses w file line (tag s.table j) (tag s.table e.class) (last_tag s.table e.class - tag s.table e.class + 1) (minus (tag s.table e.class)) (next_of e) (record q { pc = pc }) m c t h1 at
-            (range_misses (tag s.table j) (tag s.table e.class) (last_tag s.table e.class) (omega arith) high.0 (omega arith) (other_tag s.table whole e.class j within j_in f)))
+            (omega arith) (λ u there. done l.world 0 u _ (pc + 16, one.body, one.turn, one.inside, there))
+        by false f within one place ends more at =
+            let low = tag_low s.table whole_table j j_in in
+            let high = last_low s.table whole_table e.class within in
+            next l.world t 4 (4 * length es) (4 * suc (length es)) _ _
+            (test_misses l.world file line (tag s.table j) (tag s.table e.class) (last_tag s.table e.class - tag s.table e.class + 1) (minus (tag s.table e.class)) (next_of e) (record q { pc = pc }) m c t one.range at
+            (range_misses (tag s.table j) (tag s.table e.class) (last_tag s.table e.class) (omega arith) high.0 (omega arith) (other_tag s.table whole_table e.class j within j_in f)))
             (omega arith)
-            (λ u there. subst (λ x. Reaches w u 0 (4 * length es) (stands (Found x (first_among (chain s.table j) es)))) ends
-            (more u (subst (λ x. AtTag w (record q { pc = x }) m c file line (tag s.table j) u) place there)))
+            (λ u there. subst (λ x. Reaches l.world u 0 (4 * length es) (stands (Found x (first_among (chain s.table j) es)))) ends
+            (more u (subst (λ x. AtTag l.world (record q { pc = x }) m c file line (tag s.table j) u) place there)))
+
+    pub tries : (es : List Entry) → AllByRecursion InTable es → (pc : ℕ) → HasLines (whole l) pc (arms_lines (each arm_of es)) → AreArmsFree (marks l.watch) pc (each arm_of es) → ((y : Span) → Contains (told pc es) y → P y)
+        → (t : Machine) → AtTag l.world (record q { pc = pc }) m c file line (tag s.table j) t
+        → Reaches l.world t 0 (4 * length es) (stands (Found (pc + sizes (arms_lines (each arm_of es))) (first_among (chain s.table j) es)))
+    tries es all pc has free inside = tries_at es all pc (record { lines = has; free = free; inside = inside })

@@ -1,5 +1,5 @@
 -- The branch of a case that is taken: its body runs with the value as its variable, and behind it that is popped.
-use Rattle.std.proofs.Common.{◌≡◌, ℕ, ◌+◌, ◌-◌, ◌*◌, ◌≤◌, List, [], ◌∷◌, ◌++◌, length, Option, Some, None, Bool as Truth, true, false, refl, subst, arith}
+use Rattle.std.proofs.Common.{◌≡◌, ℕ, ◌+◌, ◌-◌, ◌*◌, ◌≤◌, List, [], ◌∷◌, ◌++◌, length, Option, Some, None, Bool as Truth, true, false, subst, arith, sym}
 use Rattle.std.specs.Prelude.{if◌then◌else◌, bytes_eq}
 use Rattle.mips_isa.specs.Bytes.{Bytes, set_word}
 use Rattle.mips_isa.specs.Calls.{State as Machine}
@@ -13,19 +13,19 @@ use Rattle.cool_classes.specs.Chains.{Class, name_of}
 use Rattle.cool_rules.specs.Scopes.{Binding}
 use Rattle.cool_runtime.specs.Standing.{HasLines, sizes}
 use Rattle.cool_runtime.specs.Machines.{At, Pointers}
-use Rattle.cool_runtime.proofs.Pieces.{next, done, has_front, has_back}
-use Rattle.cool_codegen.specs.Code.{code}
+use Rattle.cool_runtime.proofs.Pieces.{next, done}
 use Rattle.cool_codegen.specs.Variables.{Named, bind}
 use Rattle.cool_codegen.specs.Pieces.{turn_lines, case_end_lines}
 use Rattle.cool_meaning.specs.Values.{Value, State, Environment}
 use Rattle.cool_meaning.specs.Meters.{Metered, NoBranch, ◌>>=◌, locate}
-use Rattle.cool_meaning.specs.Evaluation.{Calls, Branch, or_else, nearest, take_branch, eval, branch_of}
+use Rattle.cool_meaning.specs.Evaluation.{Call, Calls, Branch, or_else, nearest, take_branch, eval, branch_of}
 use Rattle.cool_meaning.proofs.FittingValues.{Fits}
 use Rattle.cool_meaning.proofs.FittingValues as fitting
 use Rattle.cool_meaning.proofs.MoreSteps.{after_of, locate_alike, stop_alike}
-use Rattle.cool_simulation.specs.Loadings.{Loading, IsLoaded, constants, context}
+use Rattle.cool_simulation.specs.Loadings.{Loading, IsLoaded, constants, context, Watched}
 use Rattle.cool_simulation.specs.Pictures.{Map}
-use Rattle.cool_simulation.specs.Simulation.{Begins, Runs, Room, Done}
+use Rattle.cool_simulation.specs.Simulation.{Begins, Runs, Room, Done, CodeAt}
+use Rattle.cool_simulation.specs.Visits.{Visits, Visit, begun}
 use Rattle.cool_simulation.proofs.ground.EvaluationLater.{ComesLater, CallsLater, bind_later, eval_later}
 use Rattle.cool_simulation.proofs.ground.PartsOfRuns.{run_on}
 use Rattle.cool_simulation.proofs.ground.PartsBehind.{done_both}
@@ -34,6 +34,9 @@ use Rattle.cool_simulation.proofs.forms.BranchOrder.{Entry, branch}
 use Rattle.cool_simulation.proofs.forms.CaseLines.{branch_ends}
 use Rattle.cool_simulation.proofs.forms.CaseArms.{next_of, body_of}
 use Rattle.cool_simulation.proofs.forms.CaseParts.{Good}
+use Rattle.cool_simulation.proofs.ground.Homes.{homed}
+use Rattle.cool_rules.specs.Typing.{with_name}
+use Rattle.cool_rules.specs.Conformance.{class_of as class_meant}
 
 -- What a branch comes to stands later
 
@@ -70,7 +73,7 @@ module _ (p : List Class) (calls : Calls) (later : CallsLater calls) (self : Val
   entry_later None = tt
   entry_later (Some e) = λ v. bound_later e.name e.tree v
 
-module _ (l : Loading) (is : IsLoaded l) (calls : Calls) (b : ℕ) (c : ClassId) (f : ℕ) (k : ClassId) (self : Value) (scope : List Binding) (vs : List Named) (env : Environment) (made : fitting.World) (d : ℕ) (end : Name)
+module _ (l : Loading) (is : IsLoaded l) (calls : Calls) (begun_in : Call → Visits) (b : ℕ) (c : ClassId) (f : ℕ) (k : ClassId) (self : Value) (scope : List Binding) (vs : List Named) (env : Environment) (made : fitting.World) (d : ℕ) (end : Name)
     (q : Pointers) (m : Bytes) (map : Map) (st t1 : State) (u : Machine) (words pc1 : ℕ) (v : Value) (j : Done l (record q { pc = pc1 }) m map st words v t1 u)
     (begins : Begins l c k self scope vs env made d (record q { pc = pc1; gp = j.gp; acc = j.acc; ra = j.ra }) j.memory j.map' j.console t1 u)
   where
@@ -89,27 +92,32 @@ module _ (l : Loading) (is : IsLoaded l) (calls : Calls) (b : ℕ) (c : ClassId)
     abbrev pub body : Entry → ℕ → Metered Value
     body e n = eval l.table calls self (record { name = e.name; location = length t1.store } ∷ env) e.tree (record t1 { store = t1.store ++ v ∷ [] }) n
 
-    pub branch_runs : (e : Entry) → Good l is calls b c scope d e → Fits l.table made v e.class → (n pc2 pc3 whole : ℕ) (u2 : Machine) → n ≤ b → At l.world (bound_at pc2) bound_memory j.console u2
-        → HasLines l.world pc2 (body_of (context l c f) (constants l) vs d end e ++ turn_lines end (next_of (context l c f) (constants l) vs d end e)) → HasLines l.world pc3 (case_end_lines end)
-        → Room l (bound_at pc2) 0 (body e n) → words + (body e n).words ≤ whole
+    pub branch_runs : (e : Entry) → Good l is calls begun_in b c scope d e → Fits l.table made v e.class → (n pc2 pc3 whole : ℕ) (u2 : Machine) → n ≤ b → At l.world (bound_at pc2) bound_memory j.console u2
+        → CodeAt l c f (bind d e.name e.bound vs) (d + 1) e.first pc2 e.tree → HasLines l.world (pc2 + sizes (body_of (context l c f) (constants l) vs d end e)) (turn_lines end (next_of (context l c f) (constants l) vs d end e))
+        → HasLines l.world pc3 (case_end_lines end) → Room l (bound_at pc2) 0 (body e n) → words + (body e n).words ≤ whole
+        → ((x : Visit) → begun l.table calls begun_in c f self (record { name = e.name; location = length t1.store } ∷ env) e.first e.tree (record t1 { store = t1.store ++ v ∷ [] }) n x → Watched l.watch x)
         → Runs l u2 n (64 * (body e n).work - 4 + 2) (Done l (record q { pc = pc3 + 8 }) m map st whole) (body e n).outcome
-    branch_runs e good fit n pc2 pc3 whole u2 le at lines ends room sum =
+    branch_runs e good fit n pc2 pc3 whole u2 le at code_at turn ends room sum watched =
         let w = l.world in
         let ctx = context l c f in
-        let code' = code ctx (constants l) (bind d e.name (IsClass e.class) vs) (d + 1) e.first e.tree in
-        let turn = turn_lines end (next_of ctx (constants l) vs d end e) in
-        let there : HasLines w pc2 (code' ++ turn) = subst (λ (x : Ty). HasLines w pc2 (code ctx (constants l) (bind d e.name x vs) (d + 1) e.first e.tree ++ turn)) good.bound lines in
+        let pc4 = pc2 + sizes (body_of ctx (constants l) vs d end e) in
         let small = good.small in
         let numbers = begins.at.numbers in
         let laid = w.laid in
         let even = numbers.sp_even in
         let back : q.sp - 4 + 4 ≡ q.sp = omega arith in
-        let begins2 = bound_begins l c k self scope vs env made d behind j.memory j.map' j.console t1 u u2 e.name (IsClass e.class) v pc2 begins j.value fit (omega arith) at in
+        let scope' = with_name e.name (IsClass e.class) scope in
+        let env' : Environment = record { name = e.name; location = length t1.store } ∷ env in
+        let made' = made ++ class_meant k (IsClass e.class) ∷ [] in
+        let t1' : State = record t1 { store = t1.store ++ v ∷ [] } in
+        let map1 = homed j.map' (length t1.store) (q.sp - 4) in
+        let begins2 : Begins l c k self scope' (bind d e.name e.bound vs) env' made' (d + 1) (bound_at pc2) bound_memory map1 j.console t1' u2 =
+        subst (λ (x : Ty). Begins l c k self scope' (bind d e.name x vs) env' made' (d + 1) (bound_at pc2) bound_memory map1 j.console t1' u2) (sym good.bound)
+        (bound_begins l c k self scope vs env made d behind j.memory j.map' j.console t1 u u2 e.name (IsClass e.class) v pc2 begins j.value fit (omega arith) at) in
         run_on l (body e n).outcome u2 n (64 * (body e n).work - 4) 2 (64 * (body e n).work - 4 + 2) _ _ (omega arith)
-        (good.correct.runs c f k self _ _ _ _ (d + 1) e.first (bound_at pc2) bound_memory _ j.console _ u2 n good.type le begins2 good.has
-        (record { lines = has_front w code' turn pc2 there; integers = good.asks.integers_there; strings = good.asks.strings_there; within = good.limits; small = good.small }) room)
+        (good.correct.runs c f k self scope' (bind d e.name e.bound vs) env' made' (d + 1) e.first (bound_at pc2) bound_memory map1 j.console t1' u2 n good.type le begins2 good.has code_at room watched)
         (λ v2 t2 u3 i. next w u3 2 0 2 _ _
-        (branch_ends w end (next_of ctx (constants l) vs d end e) pc3 (record (bound_at pc2) { pc = pc2 + sizes code'; gp = i.gp; acc = i.acc; ra = i.ra }) i.memory i.console u3 (has_back w code' turn pc2 (pc2 + sizes code') refl there) ends i.at (omega arith)) (omega arith)
+        (branch_ends w end (next_of ctx (constants l) vs d end e) pc3 (record (bound_at pc2) { pc = pc4; gp = i.gp; acc = i.acc; ra = i.ra }) i.memory i.console u3 turn ends i.at (omega arith)) (omega arith)
         (λ u4 at4. done w 0 u4 _ (done_both l q m map st words (body e n).words whole v v2 t1 t2 u u4 pc1 (pc3 + 8) j.acc j.ra even j
-        (bound_done l behind j.memory j.map' j.console t1 v v2 t2 (body e n).words (pc2 + sizes code') (pc3 + 8) u u3 u4 begins.at begins.pictures i
+        (bound_done l behind j.memory j.map' j.console t1 v v2 t2 (body e n).words pc4 (pc3 + 8) u u3 u4 begins.at begins.pictures i
         (subst (λ x. At w (record q { pc = pc3 + 8; sp = x; gp = i.gp; acc = i.acc; ra = i.ra }) i.memory i.console u4) back at4)) sum)))

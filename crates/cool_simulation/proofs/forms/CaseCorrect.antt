@@ -1,6 +1,6 @@
 -- The code of a case does what the case means.
-use Rattle.std.proofs.Common.{◌≡◌, ℕ, ◌+◌, ◌*◌, ◌<◌, ◌≤◌, List, [], ◌++◌, map as each, length, get_or, Option, Some, None, ap, sym, refl, subst, arith}
-use Rattle.std.specs.Prelude.{Contains, codes}
+use Rattle.std.proofs.Common.{◌≡◌, ℕ, ◌+◌, ◌*◌, ◌<◌, ◌≤◌, List, [], ◌++◌, length, get_or, Option, Some, None, ap, sym, refl, subst, arith, inl, inr, ◌∷◌}
+use Rattle.std.specs.Prelude.{Contains}
 use Rattle.std.specs.List.{AllByRecursion}
 use Rattle.mips_isa.specs.Bytes.{Bytes}
 use Rattle.mips_isa.specs.Calls.{State as Machine}
@@ -8,7 +8,6 @@ use Rattle.mips_isa.specs.Lines.{Name, Line}
 use Rattle.cool_syntax.specs.declared.place.Place.{Place}
 use Rattle.cool_syntax.specs.Tree.{Tree, Cases, tree_size}
 use Rattle.cool_syntax.specs.Tree as trees
-use Rattle.cool_syntax.specs.NodeLists.{root}
 use Rattle.cool_classes.specs.declared.class_id.ClassId.{ClassId}
 use Rattle.cool_classes.specs.declared.class_id.Ty.{Ty}
 use Rattle.cool_classes.specs.Chains.{Class}
@@ -17,39 +16,44 @@ use Rattle.cool_rules.specs.Conformance.{class_of as class_meant}
 use Rattle.cool_rules.specs.Scopes.{Binding}
 use Rattle.cool_rules.specs.Typing.{HaveBranches}
 use Rattle.cool_runtime.specs.Reaches.{World}
-use Rattle.cool_runtime.specs.Standing.{HasLines, sizes}
+use Rattle.cool_runtime.specs.Standing.{sizes}
 use Rattle.cool_runtime.specs.Machines.{Pointers}
 use Rattle.cool_runtime.specs.Routines.{push_lines}
-use Rattle.cool_runtime.proofs.Pieces.{next, has_front, has_back, sizes_append}
+use Rattle.cool_runtime.proofs.Pieces.{next, has_front}
 use Rattle.cool_codegen.specs.Variables.{Named}
 use Rattle.cool_codegen.specs.Arms.{arms_lines}
 use Rattle.cool_codegen.specs.Asked.{integers_in, strings_in, integers_in_cases, strings_in_cases, file_of}
-use Rattle.cool_codegen.specs.Code.{code, arms_code, file_label, label_at}
+use Rattle.cool_codegen.specs.Code.{code, arms_code, file_label}
 use Rattle.cool_codegen.specs.Pieces.{case_begin_lines, case_end_lines}
 use Rattle.cool_meaning.specs.Values.{Value, Void, Int, Bool, Str, Obj, State, Environment, class_of}
-use Rattle.cool_meaning.specs.Meters.{Error, CaseVoid, Computation, ◌>>=◌, give, stop, working, join}
-use Rattle.cool_meaning.specs.Evaluation.{Calls, Branch, class_or, nearest, take_branch, branch_of, branch_count, eval}
+use Rattle.cool_meaning.specs.Meters.{Error, CaseVoid, Computation, ◌>>=◌, give, stop, working, join, given}
+use Rattle.cool_meaning.specs.Evaluation.{Call, Calls, Branch, class_or, nearest, take_branch, branch_of, branch_count, eval}
 use Rattle.cool_meaning.proofs.FittingValues.{Fits, class_fits}
 use Rattle.cool_meaning.proofs.FittingValues as fitting
 use Rattle.cool_meaning.proofs.MoreSteps.{after_of, stop_alike, give_alike}
 use Rattle.cool_meaning.proofs.SoundParts.{AllCallsSound}
-use Rattle.cool_simulation.specs.Loadings.{Loading, IsLoaded, constants, context}
+use Rattle.cool_simulation.specs.Loadings.{Loading, IsLoaded, constants, context, Watched, whole}
 use Rattle.cool_simulation.specs.Pictures.{Map, Pic}
-use Rattle.cool_simulation.specs.Simulation.{Begins, Done, Correct, Runs}
+use Rattle.cool_simulation.specs.Simulation.{Begins, Done, Correct, Runs, Placed}
+use Rattle.cool_simulation.specs.Visits.{Visits, Visit, behind, branch_begun, nearest_name}
 use Rattle.cool_simulation.proofs.ground.EvaluationLater.{ComesLater, CallsLater, bind_later}
 use Rattle.cool_simulation.proofs.ground.PartsOfRuns.{run_wider, Rest}
-use Rattle.cool_simulation.proofs.ground.CodeOfParts.{Asks, asks_of, asks_front, asks_back, part_at}
+use Rattle.cool_simulation.proofs.ground.CodeOfParts.{Asks, asks_of, asks_front, asks_back, part_at, in_rest}
 use Rattle.cool_simulation.proofs.ground.FirstParts.{rule_runs}
 use Rattle.cool_simulation.proofs.forms.BranchOrder.{Entry, branch, entries, with_entries, first_among, nearest_is}
 use Rattle.cool_simulation.proofs.forms.TagTests.{chain_all}
 use Rattle.cool_simulation.proofs.forms.CaseLines.{case_finds_void}
-use Rattle.cool_simulation.proofs.forms.CaseArms.{arm_of, arms_are, entries_many, with_entries_many, all_entries}
+use Rattle.cool_simulation.proofs.forms.CaseArms.{entries_many, with_entries_many, all_entries, told}
 use Rattle.cool_simulation.proofs.forms.CaseEnds.{void_stops}
 use Rattle.cool_simulation.proofs.forms.CaseParts.{BodiesCorrect, Good, all_good}
 use Rattle.cool_simulation.proofs.forms.CaseBranches.{take_later, nearest_later}
 use Rattle.cool_simulation.proofs.forms.CaseTaken.{taken_runs}
 use Rattle.std.proofs.lemmas.List.Elements.{Contains-append_left, Contains-append_right}
 use Rattle.lists.proofs.Numbers.{le_on}
+use Rattle.cool_simulation.proofs.forms.CasePieces.{TestsAt, arms, case_size, end_of, sorted, tests_at, told_inside}
+use Rattle.cool_simulation.proofs.forms.NamedBranches.{begun_by_name, name_of_first}
+use Rattle.cool_simulation.proofs.ground.Passages.{passes}
+use Rattle.cool_codegen.specs.Spans.{Span, span, spans}
 
 -- a value is void, or has a class
 
@@ -88,15 +92,7 @@ chain_some p c = omega arith
 times_more : (a n : ℕ) → 1 ≤ n → a ≤ a * n
 times_more a n some = grind arith
 
-pub begin_sizes : (file : Name) (line : ℕ) → sizes (case_begin_lines file line) ≡ 28
-unfolding case_begin_lines
-begin_sizes file line = refl
-
-end_sizes : (end : Name) → sizes (case_end_lines end) ≡ 8
-unfolding case_end_lines
-end_sizes end = refl
-
-module _ (l : Loading) (loaded : IsLoaded l) (calls : Calls) (b : ℕ) (sound : AllCallsSound l.table calls b) (later : CallsLater calls) where
+module _ (l : Loading) (loaded : IsLoaded l) (calls : Calls) (begun_in : Call → Visits) (b : ℕ) (sound : AllCallsSound l.table calls b) (later : CallsLater calls) where
   -- what follows the value of a case
   abbrev pub rest_of : Value → Environment → Place → Cases → Value → ClassId → Computation Value
   rest_of self env at cs v c = working (branch_count cs * length (chain l.table c)) (take_branch at c v (nearest l.table (branch_of l.table calls self env cs) (chain l.table c)))
@@ -105,15 +101,16 @@ module _ (l : Loading) (loaded : IsLoaded l) (calls : Calls) (b : ℕ) (sound : 
       (q : Pointers) (m : Bytes) (map : Map) (st t1 : State) (u : Machine) (words pc1 : ℕ) (v : Value) (j : Done l (record q { pc = pc1 }) m map st words v t1 u)
       (begins : Begins l c k self scope vs env made d (record q { pc = pc1; gp = j.gp; acc = j.acc; ra = j.ra }) j.memory j.map' j.console t1 u)
       (at : Place) (named : Contains (constants l).strings (get_or l.files at.file [])) (small : at.line < 2147483648) (type : Ty) (fit : Fits l.table made v (class_meant k type))
-      (cs : Cases) (k1 : ℕ) (ts : List Ty) (have : HaveBranches l.table c scope cs ts) (good : AllByRecursion (Good l loaded calls b c scope d) (with_entries l.table [] (entries l.table c k1 cs)))
-      (has : HasLines l.world pc1 (case_begin_lines (file_label (context l c f) (constants l) at) at.line
-      ++ (push_lines ++ (arms_lines (each (arm_of (context l c f) (constants l) vs d end) (with_entries l.table [] (entries l.table c k1 cs))) ++ case_end_lines end))))
-      (n : ℕ) (le : n ≤ b) (whole : ℕ) where
-    abbrev sorted : List Entry
-    sorted = with_entries l.table [] (entries l.table c k1 cs)
+      (cs : Cases) (k1 : ℕ) (ts : List Ty) (have : HaveBranches l.table c scope cs ts) (good : AllByRecursion (Good l loaded calls begun_in b c scope d) (with_entries l.table [] (entries l.table c k1 cs)))
+      (stand : TestsAt l c f vs d end at (with_entries l.table [] (entries l.table c k1 cs)) pc1)
+      (placed : (y : Span) → Contains (told (context l c f) (constants l) vs d end (pc1 + 28 + 20) (with_entries l.table [] (entries l.table c k1 cs))) y → Placed l c f y)
+      (n : ℕ) (le : n ≤ b) (whole : ℕ)
+      (watched : (x : Visit) → behind (class_or (CaseVoid at) v) (λ y. behind (given (nearest_name l.table calls begun_in cs (chain l.table y))) (λ name. branch_begun l.table calls begun_in c f self env k1 v name cs)) t1 n x → Watched l.watch x) where
+    abbrev ordered : List Entry
+    ordered = with_entries l.table [] (entries l.table c k1 cs)
 
     abbrev last : ℕ
-    last = pc1 + 28 + 20 + sizes (arms_lines (each (arm_of (context l c f) (constants l) vs d end) sorted)) + 8
+    last = pc1 + 28 + 20 + sizes (arms l c f vs d end at ordered) + 8
 
     -- what is to be shown of what follows the class
     abbrev Goes : Computation ClassId → Type 0
@@ -125,10 +122,11 @@ module _ (l : Loading) (loaded : IsLoaded l) (calls : Calls) (b : ℕ) (sound : 
         let w = l.world in
         let q1 : Pointers = record q { pc = pc1; gp = j.gp; acc = j.acc; ra = j.ra } in
         let from = begins.at.numbers.gp_from in
-        next w u 7 16 60 _ _
-        (case_finds_void w (file_label (context l c f) (constants l) at) at.line q1 j.memory j.console u (has_front w (case_begin_lines (file_label (context l c f) (constants l) at) at.line) _ pc1 has) j.at (omega arith)
+        passes l u 0 60 _
+        (next w u 7 16 60 _ _
+        (case_finds_void w (file_label (context l c f) (constants l) at) at.line q1 j.memory j.console u stand.begins j.at (omega arith)
         (void_pic w j.memory j.map' t1.drawn j.gp j.acc v e j.value)) (omega arith)
-        (λ u1 g. void_stops l loaded j.memory j.map' t1 q1 from j.pictures at c f j.console u1 named small j.shows g)
+        (λ u1 g. void_stops l loaded j.memory j.map' t1 q1 from j.pictures at c f j.console u1 named small j.shows g))
 
     -- where the branch that evaluation takes is the first one that fits
     abbrev Takes : ClassId → Option Branch → Type 0
@@ -136,17 +134,33 @@ module _ (l : Loading) (loaded : IsLoaded l) (calls : Calls) (b : ℕ) (sound : 
         → Rest l q 16 words (join 0 0 0 (working (branch_count cs * length (chain l.table jc)) (take_branch at jc v o) t1 n))
         → Runs l u n (64 * (0 + (branch_count cs * length (chain l.table jc) + (take_branch at jc v o t1 n).work)) + 60) (Done l (record q { pc = last }) m map st whole) (take_branch at jc v o t1 n).outcome
 
-    takes_first : (jc : ClassId) → class_of v ≡ Some jc → jc.0 < length l.table → Fits l.table made v jc → Takes jc (branch l.table calls self env (first_among (chain l.table jc) sorted))
+    takes_first : (jc : ClassId) → class_of v ≡ Some jc → jc.0 < length l.table → Fits l.table made v jc → Takes jc (branch l.table calls self env (first_among (chain l.table jc) ordered))
     takes_first jc e jc_in fits sum rest =
-        let D = take_branch at jc v (branch l.table calls self env (first_among (chain l.table jc) sorted)) t1 n in
+        let whole_table = loaded.buildable.typed.whole in
+        let D = take_branch at jc v (branch l.table calls self env (first_among (chain l.table jc) ordered)) t1 n in
         let heap = rest.heap in
         let stack = rest.stack in
         let many = with_entries_many l.table [] (entries l.table c k1 cs) in
         let many' = entries_many l.table c k1 cs in
         let more = times_more (branch_count cs) (length (chain l.table jc)) (chain_some l.table jc) in
         run_wider l D.outcome u n (64 * (branch_count cs * length (chain l.table jc) + D.work) + 60) (64 * (0 + (branch_count cs * length (chain l.table jc) + D.work)) + 60) _ (omega arith)
-        (taken_runs l loaded calls b later c f k self scope vs env made d end q m map st t1 u words pc1 v j begins at named small jc e jc_in fits sorted good n (branch_count cs * length (chain l.table jc)) whole le (omega arith) has
-        (record { heap = omega arith; stack = omega arith; way = rest.way }) (omega arith))
+        (taken_runs l loaded calls begun_in b later c f k self scope vs env made d end q m map st t1 u words pc1 v j begins at named small jc e jc_in fits ordered good n (branch_count cs * length (chain l.table jc)) whole le (omega arith) stand
+        (record { heap = omega arith; stack = omega arith; way = rest.way }) (omega arith) placed
+        (λ y is x h.
+        let (name, near, there) = name_of_first l.table c calls begun_in whole_table.table cs k1 scope ts have jc jc_in (chain_all l.table whole_table jc jc_in) y is in
+        watched x (
+          jc,
+          t1,
+          n,
+          ap (λ (D : Computation ClassId). (D t1 n).outcome) (class_or_is (CaseVoid at) v jc e),
+          (
+            name,
+            t1,
+            n,
+            ap (λ (o : Option (List ℕ)). (given o t1 n).outcome) near,
+            begun_by_name l.table c calls begun_in c f self env k1 v name cs t1 n x y there (length t1.store, record t1 { store = t1.store ++ v ∷ [] }, n, refl, h),
+          ),
+        )))
 
     goes_on : (jc : ClassId) → class_of v ≡ Some jc → Goes (give jc)
     goes_on jc e =
@@ -162,36 +176,24 @@ module _ (l : Loading) (loaded : IsLoaded l) (calls : Calls) (b : ℕ) (sound : 
         by None e = subst Goes (sym (void_or (CaseVoid at) v e)) (goes_void e)
         by (Some jc) e = subst Goes (sym (class_or_is (CaseVoid at) v jc e)) (goes_on jc e)
 
-  pub case_correct : (at : Place) (t : Tree) (cs : Cases) → Correct l calls b t → BodiesCorrect l loaded calls b cs → Correct l calls b (trees.Case at t cs)
+  pub case_correct : (at : Place) (t : Tree) (cs : Cases) → Correct l calls begun_in b t → BodiesCorrect l loaded calls begun_in b cs → Correct l calls begun_in b (trees.Case at t cs)
   case_correct at t cs correct bodies = record {
-    runs = λ c f k self scope vs env made d first q m map console st s n type less begins (type1, ts, has, have, different, join) code_at room.
+    runs = λ c f k self scope vs env made d first q m map console st s n type less begins (type1, ts, has, have, different, join) code_at room watched.
         let p = l.table in
-        let w = l.world in
+        let o = whole l in
         let small = code_at.small in
         let ctx = context l c f in
-        let end = label_at ctx (codes "end") (root first (trees.Case at t cs)) in
+        let tree = trees.Case at t cs in
+        let end = end_of l c f vs d first q.pc at t cs in
         let lt = code ctx (constants l) vs d first t in
         let k1 = first + tree_size t in
-        let es : List Entry = with_entries p [] (entries p c k1 cs) in
-        let begin = case_begin_lines (file_label ctx (constants l) at) at.line in
-        let written : List Line = arms_lines (arms_code ctx (constants l) vs d k1 end [] cs) in
-        let arms : List Line = arms_lines (each (arm_of ctx (constants l) vs d end) es) in
-        let same_arms : written ≡ arms = ap arms_lines (arms_are ctx (constants l) vs d end cs k1 []) in
-        let r1 : List Line = begin ++ (push_lines ++ (written ++ case_end_lines end)) in
+        let es : List Entry = sorted l c f vs d first q.pc at t cs in
+        let r1 : List Line = case_begin_lines (file_label ctx (constants l) at) at.line ++ (push_lines ++ (arms_lines (arms_code ctx (constants l) vs d k1 end [] cs) ++ case_end_lines end)) in
         let pc1 = q.pc + sizes lt in
         let goal = q.pc + sizes (lt ++ r1) in
-        let h1 : HasLines w pc1 (begin ++ (push_lines ++ (arms ++ case_end_lines end))) =
-        subst (λ (xs : List Line). HasLines w pc1 (begin ++ (push_lines ++ (xs ++ case_end_lines end)))) same_arms (has_back w lt r1 q.pc pc1 refl code_at.lines) in
-        let a0 = sizes_append w lt r1 in
-        let a1 = sizes_append w begin (push_lines ++ (written ++ case_end_lines end)) in
-        let a2 = sizes_append w push_lines (written ++ case_end_lines end) in
-        let a3 = sizes_append w written (case_end_lines end) in
-        let a4 = begin_sizes (file_label ctx (constants l) at) at.line in
-        let a5 = end_sizes end in
-        let a6 : sizes written ≡ sizes arms = ap sizes same_arms in
-        let a7 : sizes push_lines ≡ 20 = refl in
-        let ends : pc1 + 28 + 20 + sizes arms + 8 ≡ goal = omega arith in
-        let asks = asks_of l c f vs d first q.pc (trees.Case at t cs) code_at in
+        let own = span vs d first q.pc tree in
+        let at_t = spans sizes ctx (constants l) vs d first q.pc t in
+        let asks = asks_of l c f vs d first q.pc tree code_at in
         let it = integers_in t in
         let ic = integers_in_cases cs in
         let xt = strings_in l.files t in
@@ -200,20 +202,20 @@ module _ (l : Loading) (loaded : IsLoaded l) (calls : Calls) (b : ℕ) (sound : 
         let asks1 : Asks l ic (xf ++ xc) = asks_back l it ic xt (xf ++ xc) asks in
         let asks2 : Asks l ic xc = record { integers_there = asks1.integers_there; strings_there = λ bytes there. asks1.strings_there bytes (Contains-append_right xf xc bytes there) } in
         let named : Contains (constants l).strings (get_or l.files at.file []) = asks1.strings_there (get_or l.files at.file []) (Contains-append_left xf xc (get_or l.files at.file []) (0, omega arith, refl)) in
-        let placed = code_at.within.0.1 in
+        let line = code_at.within.0.1 in
         let line_small : at.line < 2147483648 = omega arith in
-        let good : AllByRecursion (Good l loaded calls b c scope d) es =
-        all_entries (Good l loaded calls b c scope d) p [] (entries p c k1 cs) tt (all_good l loaded calls b c scope d k1 cs ts have asks2 code_at.within.2 (omega arith) bodies) in
-        let many = with_entries_many p [] (entries p c k1 cs) in
-        let many' = entries_many p c k1 cs in
-        let whole = (eval p calls self env (trees.Case at t cs) st n).words in
-        let L = Done l (record q { pc = goal }) m map st whole in
-        rule_runs l loaded calls b sound c f k self scope vs env made d first q m map console st s n less begins t type1 correct has
-        (part_at l c f vs d first q.pc t (has_front w lt r1 q.pc code_at.lines) (asks_front l it ic xt (xf ++ xc) asks) code_at.within.1 (omega arith))
+        let good : AllByRecursion (Good l loaded calls begun_in b c scope d) es =
+        all_entries (Good l loaded calls begun_in b c scope d) p [] (entries p c k1 cs) tt (all_good l loaded calls begun_in b c scope d k1 cs ts have asks2 code_at.within.2 (omega arith) bodies) in
+        let most = (eval p calls self env tree st n).words in
+        let L = Done l (record q { pc = goal }) m map st most in
+        rule_runs l loaded calls begun_in b sound c f k self scope vs env made d first q m map console st s n less begins t type1 correct has
+        (part_at l c f vs d first q.pc t (has_front o lt r1 q.pc code_at.lines) (asks_front l it ic xt (xf ++ xc) asks) code_at.within.1 (omega arith)
+        (λ x h. code_at.spans x (in_rest own _ x (Contains-append_left at_t _ x h)))) (λ x h. watched x (inr (inl h)))
         (λ v. class_or (CaseVoid at) v >>= rest_of self env at cs v) L
         (λ v. bind_later (class_or_later (CaseVoid at) v) (λ c'. record { later = (take_later at c' v (nearest p (branch_of p calls self env cs) (chain p c')) (nearest_later p calls later self env cs (chain p c'))).later })) room
         (λ v t1 left u e j x sum rest.
         let F : Value → Computation Value = λ v'. class_or (CaseVoid at) v' >>= rest_of self env at cs v' in
-        subst (λ (pc : ℕ). Runs l u left (64 * (F v t1 left).work + 60) (Done l (record q { pc = pc }) m map st whole) (F v t1 left).outcome) ends
-        (follows c f k self scope vs env x.made' d end q m map st t1 u _ pc1 v j x.begins at named line_small type1 x.value_fits cs k1 ts have good h1 left (le_on left n b x.fewer less) whole sum rest));
+        subst (λ (pc : ℕ). Runs l u left (64 * (F v t1 left).work + 60) (Done l (record q { pc = pc }) m map st most) (F v t1 left).outcome) (case_size l c f vs d first q.pc at t cs)
+        (follows c f k self scope vs env x.made' d end q m map st t1 u _ pc1 v j x.begins at named line_small type1 x.value_fits cs k1 ts have good (tests_at l c f vs d first q.pc at t cs code_at)
+        (λ y h. code_at.spans y (told_inside l c f vs d first q.pc at t cs y h)) left (le_on left n b x.fewer less) most (λ y h. watched y (inr (inr (v, t1, left, e, h)))) sum rest));
   }

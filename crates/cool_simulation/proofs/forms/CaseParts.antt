@@ -12,17 +12,18 @@ use Rattle.cool_rules.specs.Typing.{HasType, HaveBranches, with_name}
 use Rattle.cool_rules.proofs.RulesOfTables.{meant_is}
 use Rattle.cool_codegen.specs.Types.{class_meant}
 use Rattle.cool_codegen.specs.Asked.{integers_in, strings_in, integers_in_cases, strings_in_cases}
-use Rattle.cool_meaning.specs.Evaluation.{Calls}
+use Rattle.cool_meaning.specs.Evaluation.{Call, Calls}
 use Rattle.cool_simulation.specs.Loadings.{Loading, IsLoaded}
 use Rattle.cool_simulation.specs.Simulation.{Correct}
+use Rattle.cool_simulation.specs.Visits.{Visits}
 use Rattle.cool_simulation.proofs.ground.CodeOfParts.{Asks, asks_front, asks_back}
 use Rattle.cool_simulation.proofs.forms.BranchOrder.{Entry, entries}
 
-module _ (l : Loading) (is : IsLoaded l) (calls : Calls) (b : ℕ) where
+module _ (l : Loading) (is : IsLoaded l) (calls : Calls) (begun_in : Call → Visits) (b : ℕ) where
   -- the code of each branch is correct
   abbrev pub BodiesCorrect : Cases → Type 0
   BodiesCorrect NoCase = Unit {0}
-  BodiesCorrect (CaseOf at name declared t cs) = Correct l calls b t × BodiesCorrect cs
+  BodiesCorrect (CaseOf at name declared t cs) = Correct l calls begun_in b t × BodiesCorrect cs
 
   pub record Good (c : ClassId) (scope : List Binding) (d : ℕ) (e : Entry) : Type 0 where
     pub within : e.class.0 < length l.table
@@ -32,7 +33,7 @@ module _ (l : Loading) (is : IsLoaded l) (calls : Calls) (b : ℕ) where
     pub asks : Asks l (integers_in e.tree) (strings_in l.files e.tree)
     pub limits : IsTreeWithin (length l.files) e.tree
     pub small : d + 1 + tree_size e.tree ≤ 8000
-    pub correct : Correct l calls b e.tree
+    pub correct : Correct l calls begun_in b e.tree
 
   pub all_good : (c : ClassId) (scope : List Binding) (d k : ℕ) (cs : Cases) (ts : List Ty) → HaveBranches l.table c scope cs ts → Asks l (integers_in_cases cs) (strings_in_cases l.files cs) → AreCasesWithin (length l.files) cs
       → d + 1 + cases_size cs ≤ 8000 → BodiesCorrect cs → AllByRecursion (Good c scope d) (entries l.table c k cs)

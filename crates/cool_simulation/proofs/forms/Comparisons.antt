@@ -1,5 +1,5 @@
 -- The code of the two orders of numbers does what they mean.
-use Rattle.std.proofs.Common.{◌≡◌, ℕ, ◌+◌, ◌-◌, ◌≤◌, ℤ, pos, negsuc, List, ◌++◌, refl, sym, ap, ◌∙◌, subst, arith, not}
+use Rattle.std.proofs.Common.{◌≡◌, ℕ, ◌+◌, ◌-◌, ◌≤◌, ℤ, pos, negsuc, List, ◌++◌, refl, sym, ap, ◌∙◌, subst, arith, not, inl, inr}
 use Rattle.std.specs.Prelude.{Bool as Truth, true, false, nat_lt, int_lt, int_le}
 use Rattle.mips_isa.specs.Bytes.{Bytes, word}
 use Rattle.mips_isa.specs.Machine.{flag, lifted}
@@ -21,11 +21,12 @@ use Rattle.cool_codegen.specs.Code.{code, bool_code, truth_label}
 use Rattle.cool_meaning.specs.Values.{Bool, State}
 use Rattle.cool_meaning.specs.Meters.{give}
 use Rattle.cool_meaning.specs.Numbers.{fits}
-use Rattle.cool_meaning.specs.Evaluation.{Calls, eval, compare}
+use Rattle.cool_meaning.specs.Evaluation.{Call, Calls, eval, compare}
 use Rattle.cool_meaning.proofs.SoundParts.{AllCallsSound}
-use Rattle.cool_simulation.specs.Loadings.{Loading, IsLoaded, constants, context}
+use Rattle.cool_simulation.specs.Loadings.{Loading, IsLoaded, constants, context, whole}
 use Rattle.cool_simulation.specs.Pictures.{Map, Pic, Pictures, Shows, word_of}
 use Rattle.cool_simulation.specs.Simulation.{Done, Correct}
+use Rattle.cool_simulation.specs.Visits.{Visits}
 use Rattle.cool_simulation.proofs.ground.Sums.{raised_fits}
 use Rattle.cool_simulation.proofs.ground.OperatorWalks.{Both, Flagged, values, less, less_equal}
 use Rattle.cool_simulation.proofs.ground.FlagWalks.{flags}
@@ -33,10 +34,13 @@ use Rattle.cool_simulation.proofs.ground.PartsOfRuns.{run_gives, numbers_runs}
 use Rattle.cool_simulation.proofs.ground.EvaluationLater.{CallsLater, compare_later}
 use Rattle.cool_simulation.proofs.ground.PartsBehind.{Gone, done_of}
 use Rattle.cool_simulation.proofs.ground.DataHere.{truth_pic}
-use Rattle.cool_simulation.proofs.ground.CodeOfParts.{Asks, asks_of, asks_front, asks_back, part_at}
+use Rattle.cool_simulation.proofs.ground.CodeOfParts.{Asks, asks_of, asks_front, asks_back, part_at, in_rest, own_placed}
 use Rattle.cool_simulation.proofs.ground.Operands.{operands_run}
 use Rattle.cool_simulation.proofs.forms.Arithmetic.{popped}
 use Rattle.std.proofs.lemmas.Bool.{ltb-true, ltb-false, lt-ltb, le-ltb}
+use Rattle.cool_simulation.proofs.ground.Passages.{quiet}
+use Rattle.cool_codegen.specs.Spans.{span, spans}
+use Rattle.std.proofs.lemmas.List.Elements.{Contains-append_left, Contains-append_right}
 
 -- Orders of words
 
@@ -82,13 +86,14 @@ module _ (l : Loading) (loaded : IsLoaded l) where
       (subst (λ y. At l.world (record q { pc = y; gp = gp; acc = l.world.place (truth_label x); ra = ra }) m console u) e there) shows pictures (truth_pic l loaded m map t gp q.sp numbers.gp_from pictures x)
       (record { kept = gone.kept; grown = gone.grown; drawn = gone.drawn; located = gone.located; gp_from = gone.gp_from; gp_to = omega arith })))
 
-module _ (l : Loading) (loaded : IsLoaded l) (calls : Calls) (b : ℕ) (sound : AllCallsSound l.table calls b) (later : CallsLater calls) where
-  pub less_correct : (at : Place) (ta tb : Tree) → Correct l calls b ta → Correct l calls b tb → Correct l calls b (trees.Compare at Less ta tb)
+module _ (l : Loading) (loaded : IsLoaded l) (calls : Calls) (begun_in : Call → Visits) (b : ℕ) (sound : AllCallsSound l.table calls b) (later : CallsLater calls) where
+  pub less_correct : (at : Place) (ta tb : Tree) → Correct l calls begun_in b ta → Correct l calls begun_in b tb → Correct l calls begun_in b (trees.Compare at Less ta tb)
   unfolding values_lines less_lines flag_lines
   less_correct at ta tb correct correct' = record {
-    runs = λ c f k self scope vs env made d first q m map console st s n type less' begins (type1, type2, has, has', comparable, is) code_at room.
+    runs = λ c f k self scope vs env made d first q m map console st s n type less' begins (type1, type2, has, has', comparable, is) code_at room watched.
         let small = code_at.small in
         let w = l.world in
+        let o = whole l in
         let ctx = context l c f in
         let la = code ctx (constants l) vs d first ta in
         let lb = code ctx (constants l) vs (d + 1) (first + tree_size ta) tb in
@@ -101,9 +106,14 @@ module _ (l : Loading) (loaded : IsLoaded l) (calls : Calls) (b : ℕ) (sound : 
         let pc2 = pc1 + 20 in
         let pc3 = pc2 + sizes lb in
         let final = q.pc + sizes (la ++ r1) in
-        let h1 : HasLines w pc1 r1 = has_back w la r1 q.pc pc1 refl code_at.lines in
-        let h2 : HasLines w pc2 r2 = has_back w push_lines r2 pc1 pc2 refl h1 in
-        let h3 : HasLines w pc3 r3 = has_back w lb r3 pc2 pc3 refl h2 in
+        let h1 : HasLines o pc1 r1 = has_back o la r1 q.pc pc1 refl code_at.lines in
+        let h2 : HasLines o pc2 r2 = has_back o push_lines r2 pc1 pc2 refl h1 in
+        let free = (own_placed l c f vs d first q.pc (trees.Compare at Less ta tb) code_at).quiet in
+        let push_there : HasLines w pc1 push_lines = quiet l push_lines pc1 pc2 (omega arith) free.0 (has_front o push_lines r2 pc1 h1) in
+        let h3 : HasLines w pc3 r3 = quiet l r3 pc3 final (let a = sizes_append w la r1 in let e = sizes_append w lb r3 in omega arith) free.1 (has_back o lb r3 pc2 pc3 refl h2) in
+        let own = span vs d first q.pc (trees.Compare at Less ta tb) in
+        let at_a = spans sizes ctx (constants l) vs d first q.pc ta in
+        let at_b = spans sizes ctx (constants l) vs (d + 1) (first + tree_size ta) pc2 tb in
         let h4 : HasLines w (pc3 + 16) r4 = has_back w values_lines r4 pc3 (pc3 + 16) refl h3 in
         let h5 : HasLines w (pc3 + 16 + 4) end_lines = has_back w less_lines end_lines (pc3 + 16) (pc3 + 16 + 4) refl h4 in
         let ia = integers_in ta in let ib = integers_in tb in
@@ -114,9 +124,12 @@ module _ (l : Loading) (loaded : IsLoaded l) (calls : Calls) (b : ℕ) (sound : 
         let numbers = begins.at.numbers in
         let high : 4 ≤ q.sp = (let laid = w.laid in omega arith) in
         let same : pc3 + 16 + 4 + 24 ≡ final = (let a = sizes_append w la r1 in let e = sizes_append w lb r3 in omega arith) in
-        operands_run l loaded calls b sound later c f k self scope vs env made d first q m map console st s n less' begins ta tb type1 type2 correct correct' has has'
-        (part_at l c f vs d first q.pc ta (has_front w la r1 q.pc code_at.lines) (asks_front l ia ib xa xb asks) code_at.within.1 (omega arith)) (has_front w push_lines r2 pc1 h1)
-        (part_at l c f vs (d + 1) (first + tree_size ta) pc2 tb (has_front w lb r3 pc2 h2) (asks_back l ia ib xa xb asks) code_at.within.2 (omega arith)) (compare Less) L (compare_later Less) room
+        operands_run l loaded calls begun_in b sound later c f k self scope vs env made d first q m map console st s n less' begins ta tb type1 type2 correct correct' has has'
+        (part_at l c f vs d first q.pc ta (has_front o la r1 q.pc code_at.lines) (asks_front l ia ib xa xb asks) code_at.within.1 (omega arith)
+        (λ x h. code_at.spans x (in_rest own (at_a ++ at_b) x (Contains-append_left at_a at_b x h)))) push_there
+        (part_at l c f vs (d + 1) (first + tree_size ta) pc2 tb (has_front o lb r3 pc2 h2) (asks_back l ia ib xa xb asks) code_at.within.2 (omega arith)
+        (λ x h. code_at.spans x (in_rest own (at_a ++ at_b) x (Contains-append_right at_a at_b x h)))) (λ x h. watched x (inr (inl h))) (λ v t1 left e x h. watched x (inr (inr (v, t1, left, e, h))))
+        (compare Less) L (compare_later Less) room
         (λ v u t2 left2 words s2 i total heap way.
         numbers_runs l v u (λ x y. give (Bool (int_lt x y))) s2 t2 left2 52 L (λ x y is_x is_y same_words same_outcome.
         let q3 : Pointers = record q { pc = pc3; gp = i.gp; sp = q.sp - 4; acc = i.acc; ra = i.ra } in
@@ -132,12 +145,13 @@ module _ (l : Loading) (loaded : IsLoaded l) (calls : Calls) (b : ℕ) (sound : 
         (subst (λ z. Flagged w (record q4 { pc = pc3 + 16 + 4 }) i.memory i.console z s4) (ap flag (less_is x y pic_x.1 pic_y.1)) flagged) i.shows (popped l q pc3 m map st words v u t2 s2 numbers.sp_even high i) i.gone (omega arith) same)))));
   }
 
-  pub less_equal_correct : (at : Place) (ta tb : Tree) → Correct l calls b ta → Correct l calls b tb → Correct l calls b (trees.Compare at LessEqual ta tb)
+  pub less_equal_correct : (at : Place) (ta tb : Tree) → Correct l calls begun_in b ta → Correct l calls begun_in b tb → Correct l calls begun_in b (trees.Compare at LessEqual ta tb)
   unfolding values_lines less_equal_lines flag_lines
   less_equal_correct at ta tb correct correct' = record {
-    runs = λ c f k self scope vs env made d first q m map console st s n type less' begins (type1, type2, has, has', comparable, is) code_at room.
+    runs = λ c f k self scope vs env made d first q m map console st s n type less' begins (type1, type2, has, has', comparable, is) code_at room watched.
         let small = code_at.small in
         let w = l.world in
+        let o = whole l in
         let ctx = context l c f in
         let la = code ctx (constants l) vs d first ta in
         let lb = code ctx (constants l) vs (d + 1) (first + tree_size ta) tb in
@@ -150,9 +164,14 @@ module _ (l : Loading) (loaded : IsLoaded l) (calls : Calls) (b : ℕ) (sound : 
         let pc2 = pc1 + 20 in
         let pc3 = pc2 + sizes lb in
         let final = q.pc + sizes (la ++ r1) in
-        let h1 : HasLines w pc1 r1 = has_back w la r1 q.pc pc1 refl code_at.lines in
-        let h2 : HasLines w pc2 r2 = has_back w push_lines r2 pc1 pc2 refl h1 in
-        let h3 : HasLines w pc3 r3 = has_back w lb r3 pc2 pc3 refl h2 in
+        let h1 : HasLines o pc1 r1 = has_back o la r1 q.pc pc1 refl code_at.lines in
+        let h2 : HasLines o pc2 r2 = has_back o push_lines r2 pc1 pc2 refl h1 in
+        let free = (own_placed l c f vs d first q.pc (trees.Compare at LessEqual ta tb) code_at).quiet in
+        let push_there : HasLines w pc1 push_lines = quiet l push_lines pc1 pc2 (omega arith) free.0 (has_front o push_lines r2 pc1 h1) in
+        let h3 : HasLines w pc3 r3 = quiet l r3 pc3 final (let a = sizes_append w la r1 in let e = sizes_append w lb r3 in omega arith) free.1 (has_back o lb r3 pc2 pc3 refl h2) in
+        let own = span vs d first q.pc (trees.Compare at LessEqual ta tb) in
+        let at_a = spans sizes ctx (constants l) vs d first q.pc ta in
+        let at_b = spans sizes ctx (constants l) vs (d + 1) (first + tree_size ta) pc2 tb in
         let h4 : HasLines w (pc3 + 16) r4 = has_back w values_lines r4 pc3 (pc3 + 16) refl h3 in
         let h5 : HasLines w (pc3 + 16 + 8) end_lines = has_back w less_equal_lines end_lines (pc3 + 16) (pc3 + 16 + 8) refl h4 in
         let ia = integers_in ta in let ib = integers_in tb in
@@ -163,9 +182,12 @@ module _ (l : Loading) (loaded : IsLoaded l) (calls : Calls) (b : ℕ) (sound : 
         let numbers = begins.at.numbers in
         let high : 4 ≤ q.sp = (let laid = w.laid in omega arith) in
         let same : pc3 + 16 + 8 + 24 ≡ final = (let a = sizes_append w la r1 in let e = sizes_append w lb r3 in omega arith) in
-        operands_run l loaded calls b sound later c f k self scope vs env made d first q m map console st s n less' begins ta tb type1 type2 correct correct' has has'
-        (part_at l c f vs d first q.pc ta (has_front w la r1 q.pc code_at.lines) (asks_front l ia ib xa xb asks) code_at.within.1 (omega arith)) (has_front w push_lines r2 pc1 h1)
-        (part_at l c f vs (d + 1) (first + tree_size ta) pc2 tb (has_front w lb r3 pc2 h2) (asks_back l ia ib xa xb asks) code_at.within.2 (omega arith)) (compare LessEqual) L (compare_later LessEqual) room
+        operands_run l loaded calls begun_in b sound later c f k self scope vs env made d first q m map console st s n less' begins ta tb type1 type2 correct correct' has has'
+        (part_at l c f vs d first q.pc ta (has_front o la r1 q.pc code_at.lines) (asks_front l ia ib xa xb asks) code_at.within.1 (omega arith)
+        (λ x h. code_at.spans x (in_rest own (at_a ++ at_b) x (Contains-append_left at_a at_b x h)))) push_there
+        (part_at l c f vs (d + 1) (first + tree_size ta) pc2 tb (has_front o lb r3 pc2 h2) (asks_back l ia ib xa xb asks) code_at.within.2 (omega arith)
+        (λ x h. code_at.spans x (in_rest own (at_a ++ at_b) x (Contains-append_right at_a at_b x h)))) (λ x h. watched x (inr (inl h))) (λ v t1 left e x h. watched x (inr (inr (v, t1, left, e, h))))
+        (compare LessEqual) L (compare_later LessEqual) room
         (λ v u t2 left2 words s2 i total heap way.
         numbers_runs l v u (λ x y. give (Bool (int_le x y))) s2 t2 left2 52 L (λ x y is_x is_y same_words same_outcome.
         let q3 : Pointers = record q { pc = pc3; gp = i.gp; sp = q.sp - 4; acc = i.acc; ra = i.ra } in

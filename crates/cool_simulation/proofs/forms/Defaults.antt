@@ -1,10 +1,10 @@
 -- The code that takes the default of a type leaves the value with which a variable of the type begins.
-use Rattle.std.proofs.Common.{◌≡◌, ◌≢◌, ℕ, ◌+◌, ◌<◌, pos, List, [], length, refl, sym, ap, ◌∙◌, subst, arith}
+use Rattle.std.proofs.Common.{◌≡◌, ◌≢◌, ℕ, ◌+◌, ◌<◌, pos, List, [], length, refl, sym, ap, ◌∙◌, subst, arith, ◌≤◌}
 use Rattle.std.specs.Prelude.{Bool as Truth, true, false, bytes_eq, codes, nat_eq, if◌then◌else◌}
 use Rattle.std.proofs.lemmas.Slice.Eq.{bytes_eq-Decides}
 use Rattle.mips_isa.specs.Bytes.{Bytes}
 use Rattle.mips_isa.specs.Calls.{State as Machine}
-use Rattle.mips_isa.specs.Lines.{Line}
+use Rattle.mips_isa.specs.Lines.{Line, Name}
 use Rattle.cool_classes.specs.declared.class_id.ClassId.{ClassId}
 use Rattle.cool_classes.specs.declared.class_id.Ty.{Ty}
 use Rattle.cool_classes.specs.declared.class_id.Ty.TheVariants.{Class as IsClass, SelfType}
@@ -21,14 +21,19 @@ use Rattle.cool_codegen.specs.Pieces.{take_lines, take_void_lines}
 use Rattle.cool_codegen.specs.Code.{default_code}
 use Rattle.cool_meaning.specs.Values.{Value, Void, Int, Bool, Str, State, default_of}
 use Rattle.cool_meaning.proofs.BasicClasses.{by_number, basic_name, basic_within}
-use Rattle.cool_simulation.specs.Loadings.{Loading, IsLoaded}
-use Rattle.cool_simulation.specs.Pictures.{Map, Pictures, Shows}
-use Rattle.cool_simulation.specs.Simulation.{Done}
+use Rattle.cool_simulation.specs.Loadings.{Loading, IsLoaded, Watched, marks, whole}
+use Rattle.cool_simulation.specs.Pictures.{Map, Pictures, Shows, Pic}
+use Rattle.cool_simulation.specs.Simulation.{Done, Passes, Shown}
 use Rattle.cool_simulation.proofs.ground.Walks.{takes_void}
-use Rattle.cool_simulation.proofs.forms.Constants.{takes_value}
+use Rattle.cool_simulation.proofs.forms.Constants.{takes_value, head_takes_value}
 use Rattle.cool_simulation.proofs.ground.PartsBehind.{done_here}
 use Rattle.cool_simulation.proofs.ground.DataHere.{truth_pic, default_int_pic, default_string_pic}
 use Rattle.std.proofs.lemmas.Bool.{eqb-true}
+use Rattle.cool_simulation.specs.Quiet.{IsFree}
+use Rattle.cool_simulation.specs.Visits.{Visit}
+use Rattle.cool_simulation.proofs.ground.Heads.{head_takes_void}
+use Rattle.cool_simulation.proofs.ground.Passages.{passes_weaker, passes_wider}
+use Rattle.cool_simulation.proofs.ground.PartsOfRuns.{stands_as}
 
 is_other : (n m : ℕ) → nat_eq n m ≡ false → n ≢ m
 is_other n m e = grind arith
@@ -52,9 +57,47 @@ module _ (p : List Class) (typed : IsTypedTable p) (d : ClassId) (within : d.0 <
           let same : d ≡ class_number n = typed.whole.table.names d (class_number n) within (basic_within p typed n less) (is ∙ ((bytes_eq-Decides name x).0 f ∙ sym e)) in
           absurd (is_other d.0 n other (ap (λ (c : ClassId). c.0) same))
 
+-- the code of a default has a word at least
+pub default_words : (t : Ty) → 4 ≤ sizes (default_code t)
+unfolding take_lines take_void_lines
+default_words SelfType = omega arith
+default_words (IsClass d) = by (nat_eq d.0 2) (nat_eq d.0 3) (nat_eq d.0 4)
+  where
+    by : (x y z : Truth) → 4 ≤ sizes (if x then take_lines default_int else if y then take_lines false_constant else if z then take_lines default_string else take_void_lines)
+    by true y z = omega arith
+    by false true z = omega arith
+    by false false true = omega arith
+    by false false false = omega arith
+
+-- What the code of a default leaves, by the type: void, or the default of a basic class.
+module _ (p : List Class) (typed : IsTypedTable p) (Leaves : List Line → Value → Type 0) (leaves_void : Leaves take_void_lines Void) (leaves_int : Leaves (take_lines default_int) (Int (pos 0)))
+    (leaves_false : Leaves (take_lines false_constant) (Bool false)) (leaves_string : Leaves (take_lines default_string) (Str [])) where
+  default_leaves : (name : List ℕ) (t : Ty) → Denotes p name t → Leaves (default_code t) (default_of name)
+  default_leaves name SelfType is = subst (λ (n : List ℕ). Leaves take_void_lines (default_of n)) (sym is) leaves_void
+  default_leaves name (IsClass d) (within, is) = by (nat_eq d.0 2) (nat_eq d.0 3) (nat_eq d.0 4) refl refl refl
+    where
+      int_name : name_of p (class_number 2) ≡ codes "Int"
+      int_name = basic_name p typed 2 (omega arith)
+
+      bool_name : name_of p (class_number 3) ≡ codes "Bool"
+      bool_name = basic_name p typed 3 (omega arith)
+
+      string_name : name_of p (class_number 4) ≡ codes "String"
+      string_name = basic_name p typed 4 (omega arith)
+
+      by : (x y z : Truth) → nat_eq d.0 2 ≡ x → nat_eq d.0 3 ≡ y → nat_eq d.0 4 ≡ z
+          → Leaves (if x then take_lines default_int else if y then take_lines false_constant else if z then take_lines default_string else take_void_lines) (default_of name)
+      by true y z ex ey ez = subst (λ (n : List ℕ). Leaves (take_lines default_int) (default_of n)) (sym (named p typed d within name is 2 (codes "Int") (omega arith) int_name ex)) leaves_int
+      by false true z ex ey ez = subst (λ (n : List ℕ). Leaves (take_lines false_constant) (default_of n)) (sym (named p typed d within name is 3 (codes "Bool") (omega arith) bool_name ey)) leaves_false
+      by false false true ex ey ez = subst (λ (n : List ℕ). Leaves (take_lines default_string) (default_of n)) (sym (named p typed d within name is 4 (codes "String") (omega arith) string_name ez)) leaves_string
+      by false false false ex ey ez =
+          subst (λ (v : Value). Leaves take_void_lines v)
+          (sym (plain_default name (not_named p typed d within name is 2 (codes "Int") (omega arith) int_name ex) (not_named p typed d within name is 3 (codes "Bool") (omega arith) bool_name ey)
+          (not_named p typed d within name is 4 (codes "String") (omega arith) string_name ez))) leaves_void
+
 module _ (l : Loading) (loaded : IsLoaded l) (q : Pointers) (m : Bytes) (map : Map) (console : Console) (st : State) (s : Machine) (at : At l.world q m console s) (shows : Shows st console)
     (pictures : Pictures l.table l.world l.memory m map st q.gp q.sp) where
-  -- the code of a default leaves a value
+  -- code without a mark leaves it
   abbrev Leaves : List Line → Value → Type 0
   Leaves lines v = HasLines l.world q.pc lines → Reaches l.world s 0 2 (stands (Done l (record q { pc = q.pc + sizes lines }) m map st 0 v st))
 
@@ -64,40 +107,35 @@ module _ (l : Loading) (loaded : IsLoaded l) (q : Pointers) (m : Bytes) (map : M
       next l.world s 1 1 2 _ _ (takes_void l.world q m console s has at) (omega arith)
       (λ u there. done l.world 1 u _ (done_here l (record q { pc = q.pc + 4 }) m map st 0 Void u 0 q.ra console there shows pictures refl))
 
-  leaves_int : Leaves (take_lines default_int) (Int (pos 0))
+  leaves_value : (label : Name) (v : Value) → Pic l.world m map st.drawn q.gp v (l.world.place label) → Leaves (take_lines label) v
   unfolding take_lines
-  leaves_int has = takes_value l default_int (Int (pos 0)) q m map console st s 0 0 has at shows pictures (default_int_pic l loaded m map st q.gp q.sp at.numbers.gp_from pictures)
-
-  leaves_false : Leaves (take_lines false_constant) (Bool false)
-  unfolding take_lines
-  leaves_false has = takes_value l false_constant (Bool false) q m map console st s 0 0 has at shows pictures (truth_pic l loaded m map st q.gp q.sp at.numbers.gp_from pictures false)
-
-  leaves_string : Leaves (take_lines default_string) (Str [])
-  unfolding take_lines
-  leaves_string has = takes_value l default_string (Str []) q m map console st s 0 0 has at shows pictures (default_string_pic l loaded m map st q.gp q.sp at.numbers.gp_from pictures)
+  leaves_value label v pic has = takes_value l label v q m map console st s 0 0 has at shows pictures pic
 
   pub default_runs : (name : List ℕ) (t : Ty) → Denotes l.table name t → Leaves (default_code t) (default_of name)
-  default_runs name SelfType is = subst (λ (n : List ℕ). Leaves take_void_lines (default_of n)) (sym is) leaves_void
-  default_runs name (IsClass d) (within, is) = by (nat_eq d.0 2) (nat_eq d.0 3) (nat_eq d.0 4) refl refl refl
-    where
-      typed : IsTypedTable l.table
-      typed = loaded.buildable.typed
+  default_runs =
+      default_leaves l.table loaded.buildable.typed Leaves leaves_void
+      (leaves_value default_int (Int (pos 0)) (default_int_pic l loaded m map st q.gp q.sp at.numbers.gp_from pictures))
+      (leaves_value false_constant (Bool false) (truth_pic l loaded m map st q.gp q.sp at.numbers.gp_from pictures false))
+      (leaves_value default_string (Str []) (default_string_pic l loaded m map st q.gp q.sp at.numbers.gp_from pictures))
 
-      int_name : name_of l.table (class_number 2) ≡ codes "Int"
-      int_name = basic_name l.table typed 2 (omega arith)
+  -- and so does code at the first word of a visit
+  module _ (x : Visit) (watched : Watched l.watch x) (shown : Shown l x s) where
+    abbrev Heads : List Line → Value → Type 0
+    Heads lines v = HasLines (whole l) q.pc lines → IsFree (marks l.watch) (q.pc + 4) (q.pc + sizes lines) → Passes l s 0 2 (stands (Done l (record q { pc = q.pc + sizes lines }) m map st 0 v st))
 
-      bool_name : name_of l.table (class_number 3) ≡ codes "Bool"
-      bool_name = basic_name l.table typed 3 (omega arith)
+    heads_void : Heads take_void_lines Void
+    unfolding take_void_lines
+    heads_void has free =
+        passes_wider l s 0 0 1 2 _ (omega arith) (omega arith)
+        (passes_weaker l s 0 1 _ _ (stands_as _ _ (λ u there. done_here l (record q { pc = q.pc + 4 }) m map st 0 Void u 0 q.ra console there shows pictures refl)) (head_takes_void l q m console s at x watched shown has))
 
-      string_name : name_of l.table (class_number 4) ≡ codes "String"
-      string_name = basic_name l.table typed 4 (omega arith)
+    heads_value : (label : Name) (v : Value) → Pic l.world m map st.drawn q.gp v (l.world.place label) → Heads (take_lines label) v
+    unfolding take_lines
+    heads_value label v pic has free = head_takes_value l label v q m map console st s 0 x watched shown has free at shows pictures pic
 
-      by : (x y z : Truth) → nat_eq d.0 2 ≡ x → nat_eq d.0 3 ≡ y → nat_eq d.0 4 ≡ z
-          → Leaves (if x then take_lines default_int else if y then take_lines false_constant else if z then take_lines default_string else take_void_lines) (default_of name)
-      by true y z ex ey ez = subst (λ (n : List ℕ). Leaves (take_lines default_int) (default_of n)) (sym (named l.table typed d within name is 2 (codes "Int") (omega arith) int_name ex)) leaves_int
-      by false true z ex ey ez = subst (λ (n : List ℕ). Leaves (take_lines false_constant) (default_of n)) (sym (named l.table typed d within name is 3 (codes "Bool") (omega arith) bool_name ey)) leaves_false
-      by false false true ex ey ez = subst (λ (n : List ℕ). Leaves (take_lines default_string) (default_of n)) (sym (named l.table typed d within name is 4 (codes "String") (omega arith) string_name ez)) leaves_string
-      by false false false ex ey ez =
-          subst (λ (v : Value). Leaves take_void_lines v)
-          (sym (plain_default name (not_named l.table typed d within name is 2 (codes "Int") (omega arith) int_name ex) (not_named l.table typed d within name is 3 (codes "Bool") (omega arith) bool_name ey)
-          (not_named l.table typed d within name is 4 (codes "String") (omega arith) string_name ez))) leaves_void
+    pub head_default : (name : List ℕ) (t : Ty) → Denotes l.table name t → Heads (default_code t) (default_of name)
+    head_default =
+        default_leaves l.table loaded.buildable.typed Heads heads_void
+        (heads_value default_int (Int (pos 0)) (default_int_pic l loaded m map st q.gp q.sp at.numbers.gp_from pictures))
+        (heads_value false_constant (Bool false) (truth_pic l loaded m map st q.gp q.sp at.numbers.gp_from pictures false))
+        (heads_value default_string (Str []) (default_string_pic l loaded m map st q.gp q.sp at.numbers.gp_from pictures))

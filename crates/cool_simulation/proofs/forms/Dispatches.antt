@@ -1,5 +1,5 @@
 -- Dispatch and static dispatch do what they mean.
-use Rattle.std.proofs.Common.{◌≡◌, ℕ, ◌+◌, ◌-◌, ◌*◌, ◌<◌, ◌≤◌, List, [], ◌∷◌, ◌++◌, length, get_or, map as each, Option, Some, refl, sym, ap, ◌∙◌, subst, arith}
+use Rattle.std.proofs.Common.{◌≡◌, ℕ, ◌+◌, ◌-◌, ◌*◌, ◌<◌, ◌≤◌, List, [], ◌∷◌, ◌++◌, length, get_or, map as each, Option, Some, refl, sym, ap, ◌∙◌, subst, arith, inr}
 use Rattle.std.specs.Prelude.{ℤ, Contains, pos, unwrap_or}
 use Rattle.std.proofs.lemmas.List.Elements.{Contains-append_left, Contains-append_right}
 use Rattle.mips_isa.specs.declared.address_map.TheConstants.{HEAP_START}
@@ -40,15 +40,16 @@ use Rattle.cool_codegen.specs.Code.{code, arguments_code, slot_code}
 use Rattle.cool_codegen.specs.Asked.{integers_in, integers_in_all, strings_in, strings_in_all}
 use Rattle.cool_codegen.specs.Asked as asked
 use Rattle.cool_meaning.specs.Values.{Value, State, Environment, class_of}
-use Rattle.cool_meaning.specs.Evaluation.{Calls, dispatch}
+use Rattle.cool_meaning.specs.Evaluation.{Call, Calls, dispatch}
 use Rattle.cool_meaning.proofs.FittingValues.{AllFit, meant}
 use Rattle.cool_meaning.proofs.FittingValues as fitting
 use Rattle.cool_meaning.proofs.MethodsOfTables.{implementation_own, formals_are_classes}
 use Rattle.cool_meaning.proofs.SoundParts.{AllCallsSound, arguments_fit}
 use Rattle.cool_meaning.proofs.SoundEvaluation.{Scene}
-use Rattle.cool_simulation.specs.Loadings.{Loading, IsLoaded, constants, context}
+use Rattle.cool_simulation.specs.Loadings.{Loading, IsLoaded, constants, context, whole}
 use Rattle.cool_simulation.specs.Pictures.{Map}
 use Rattle.cool_simulation.specs.Simulation.{CodeAt, AllCodeAt, Correct, AllCorrect, AllCallsCorrect}
+use Rattle.cool_simulation.specs.Visits.{Visits, dispatched as dispatch_begun}
 use Rattle.cool_simulation.proofs.forms.NamesCovered.{covers}
 use Rattle.cool_simulation.proofs.forms.Slots.{slot_there, slot_kept, method_is}
 use Rattle.cool_simulation.proofs.forms.CallLines.{AtPlace, SlotAt, goes_by_table}
@@ -61,8 +62,11 @@ use Rattle.cool_simulation.proofs.forms.Received.{BasicCorrect, Received}
 use Rattle.cool_simulation.proofs.forms.Invoking.{dispatched}
 use Rattle.cool_simulation.proofs.forms.CallForms.{file_of, CallRuns, form_runs}
 use Rattle.cool_emit.proofs.TextOfCode.{count_low}
+use Rattle.cool_simulation.proofs.ground.Passages.{quiet}
+use Rattle.cool_codegen.specs.Spans.{arguments_spans, span, spans}
+use Rattle.cool_simulation.proofs.ground.CodeOfParts.{in_rest, own_placed}
 
-module _ (l : Loading) (loaded : IsLoaded l) (basics : BasicCorrect l) (calls : Calls) (b : ℕ) (later : CallsLater calls) (sound : AllCallsSound l.table calls b) (correct : AllCallsCorrect l calls b) where
+module _ (l : Loading) (loaded : IsLoaded l) (basics : BasicCorrect l) (calls : Calls) (begun_in : Call → Visits) (b : ℕ) (later : CallsLater calls) (sound : AllCallsSound l.table calls b) (correct : AllCallsCorrect l calls begun_in b) where
   -- the class in which a receiver's method is looked for
   pub receiver_below : (c k : ClassId) (self : Value) (scope : List Binding) (env : Environment) (made : fitting.World) → Scene l.table made c k self scope env → (receiver : Ty) (j : ClassId) → j.0 < length l.table
       → Below l.table j (class_meant k receiver) → ((class_meant c receiver).0 < length l.table) × Below l.table j (class_meant c receiver)
@@ -116,18 +120,18 @@ module _ (l : Loading) (loaded : IsLoaded l) (basics : BasicCorrect l) (calls : 
   dynamic_call : (at : Place) (name : List ℕ) (c k : ClassId) (self : Value) (scope : List Binding) (env : Environment) (q : Pointers) (pc2 pc3 kk : ℕ) (receiver : Ty) (given' : List Ty) (type : Ty)
       → HasLines l.world pc2 (dispatch_lines (file_of l loaded at) at.line kk) → pc2 + 36 ≡ pc3 → slot l.table (class_meant c receiver) name ≡ Some kk → IsCall l.table c (class_meant c receiver) name receiver given' type
       → Contains (constants l).strings (get_or l.files at.file []) → at.line < 2147483648
-      → CallRuns l loaded calls b later sound c k self scope env q pc2 pc3 receiver given' (λ args v j. dispatch l.table calls at j name v args)
+      → CallRuns l loaded calls begun_in b later sound c k self scope env q pc2 pc3 receiver given' (λ args v j. dispatch l.table calls at j name v args) (λ args v j. dispatch_begun l.table calls begun_in j name v args)
   dynamic_call at name c k self scope env q pc2 pc3 kk receiver given' type has pc3_is slot_is call among small =
-      λ args v j made gp acc ra m map console st s n is within below fits le scene received heap stack way.
+      λ args v j made gp acc ra m map console st s n is within below fits le scene received heap stack way watched.
       let p = l.table in
       let typed = loaded.buildable.typed in
       let (x_within, below_x) = receiver_below c k self scope env made scene receiver j within below in
       let q2 : Pointers = record q { pc = pc2; gp = gp; sp = q.sp - 4 * length args; acc = acc; ra = ra } in
       let from : HEAP_START ≤ gp = let numbers = received.at.numbers in omega arith in
-      dispatched l loaded basics calls b correct at v j j args made q2 m map console st s n pc3 name (file_of l loaded at) (implementation p (chain p j) name) refl le (let low = has.0.words.0.low in omega arith) within (below_itself p typed.whole j within)
+      dispatched l loaded basics calls begun_in b correct at v j j args made q2 m map console st s n pc3 name (file_of l loaded at) (implementation p (chain p j) name) refl le (let low = has.0.words.0.low in omega arith) within (below_itself p typed.whole j within)
       (λ method found. arguments_here c k j (class_meant c receiver) made args given' name receiver type scene.k_within scene.below within below_x x_within fits call method found) received
       (λ method found. goes_dynamic at name c k self scope env q pc2 pc3 kk receiver small has pc3_is slot_is args v j made gp acc ra m map console st s is within below scene received method found)
-      (string_pic l loaded m map st gp (q.sp - 4 * length args) from received.pictures (get_or l.files at.file []) among).0 small heap stack way
+      (string_pic l loaded m map st gp (q.sp - 4 * length args) from received.pictures (get_or l.files at.file []) among).0 small heap stack way watched
 
   -- the parts of a dispatch's code
 
@@ -141,11 +145,13 @@ module _ (l : Loading) (loaded : IsLoaded l) (basics : BasicCorrect l) (calls : 
 
   pub arguments_code_at : (at : Place) (c : ClassId) (f : ℕ) (vs : List Named) (d first pc : ℕ) (name : List ℕ) (t : Tree) (ts : Trees) → CodeAt l c f vs d first pc (trees.Dispatch at t name ts) → AllCodeAt l c f vs d (first + tree_size t) pc ts
   arguments_code_at at c f vs d first pc name t ts code_at = record {
-    lines = has_front l.world (arguments_code (context l c f) (constants l) vs d (first + tree_size t) ts) _ pc code_at.lines;
+    lines = has_front (whole l) (arguments_code (context l c f) (constants l) vs d (first + tree_size t) ts) _ pc code_at.lines;
     integers = λ n there. code_at.integers n (Contains-append_left (integers_in_all ts) (integers_in t) n there);
     strings = λ bytes there. code_at.strings bytes (Contains-append_left (strings_in_all l.files ts) (strings_in l.files t ++ asked.file_of l.files at) bytes there);
     within = code_at.within.3;
     small = (let z = code_at.small in omega arith);
+    spans = λ x h. code_at.spans x (in_rest (span vs d first pc (trees.Dispatch at t name ts)) (arguments_spans sizes (context l c f) (constants l) vs d (first + tree_size t) pc ts ++ spans sizes (context l c f) (constants l) vs (d + trees_count ts) first (pc + sizes (arguments_code (context l c f) (constants l) vs d (first + tree_size t) ts)) t) x (Contains-append_left (arguments_spans sizes (context l c f) (constants l) vs d (first + tree_size t) pc ts) (spans sizes (context l c f) (constants l) vs (d + trees_count ts) first (pc + sizes (arguments_code (context l c f) (constants l) vs d (first + tree_size t) ts)) t) x h));
+    pushes = (own_placed l c f vs d first pc (trees.Dispatch at t name ts) code_at).quiet.0;
   }
 
   receiver_code_at : (at : Place) (c : ClassId) (f : ℕ) (vs : List Named) (d first pc : ℕ) (name : List ℕ) (t : Tree) (ts : Trees) → CodeAt l c f vs d first pc (trees.Dispatch at t name ts)
@@ -153,12 +159,13 @@ module _ (l : Loading) (loaded : IsLoaded l) (basics : BasicCorrect l) (calls : 
   receiver_code_at at c f vs d first pc name t ts code_at = record {
     lines =
         let la = arguments_code (context l c f) (constants l) vs d (first + tree_size t) ts in
-        has_front l.world (code (context l c f) (constants l) vs (d + trees_count ts) first t) _ (pc + sizes la) (has_back l.world la _ pc (pc + sizes la) refl code_at.lines);
+        has_front (whole l) (code (context l c f) (constants l) vs (d + trees_count ts) first t) _ (pc + sizes la) (has_back (whole l) la _ pc (pc + sizes la) refl code_at.lines);
     integers = λ n there. code_at.integers n (Contains-append_right (integers_in_all ts) (integers_in t) n there);
     strings = λ bytes there. code_at.strings bytes
         (Contains-append_right (strings_in_all l.files ts) (strings_in l.files t ++ asked.file_of l.files at) bytes (Contains-append_left (strings_in l.files t) (asked.file_of l.files at) bytes there));
     within = code_at.within.1;
     small = (let z = code_at.small in let few = count_low ts in omega arith);
+    spans = λ x h. code_at.spans x (in_rest (span vs d first pc (trees.Dispatch at t name ts)) (arguments_spans sizes (context l c f) (constants l) vs d (first + tree_size t) pc ts ++ spans sizes (context l c f) (constants l) vs (d + trees_count ts) first (pc + sizes (arguments_code (context l c f) (constants l) vs d (first + tree_size t) ts)) t) x (Contains-append_right (arguments_spans sizes (context l c f) (constants l) vs d (first + tree_size t) pc ts) (spans sizes (context l c f) (constants l) vs (d + trees_count ts) first (pc + sizes (arguments_code (context l c f) (constants l) vs d (first + tree_size t) ts)) t) x h));
   }
 
   file_among : (at : Place) (c : ClassId) (f : ℕ) (vs : List Named) (d first pc : ℕ) (name : List ℕ) (t : Tree) (ts : Trees) → CodeAt l c f vs d first pc (trees.Dispatch at t name ts)
@@ -167,9 +174,9 @@ module _ (l : Loading) (loaded : IsLoaded l) (basics : BasicCorrect l) (calls : 
       code_at.strings (get_or l.files at.file []) (Contains-append_right (strings_in_all l.files ts) (strings_in l.files t ++ asked.file_of l.files at) _
       (Contains-append_right (strings_in l.files t) (asked.file_of l.files at) _ (0, omega arith, refl)))
 
-  pub dispatch_correct : (at : Place) (t : Tree) (name : List ℕ) (ts : Trees) → Correct l calls b t → AllCorrect l calls b ts → Correct l calls b (trees.Dispatch at t name ts)
+  pub dispatch_correct : (at : Place) (t : Tree) (name : List ℕ) (ts : Trees) → Correct l calls begun_in b t → AllCorrect l calls begun_in b ts → Correct l calls begun_in b (trees.Dispatch at t name ts)
   dispatch_correct at t name ts head tail = record {
-    runs = λ c f k self scope vs env made d first q m map console st s n type le begins (receiver, given', has, have, call) code_at room.
+    runs = λ c f k self scope vs env made d first q m map console st s n type le begins (receiver, given', has, have, call) code_at room watched.
         let p = l.table in
         let typed = loaded.buildable.typed in
         let scene = begins.scene in
@@ -182,7 +189,10 @@ module _ (l : Loading) (loaded : IsLoaded l) (basics : BasicCorrect l) (calls : 
         let K = class_meant c receiver in
         let K_is : K' ≡ K = ap (class_meant c) (type_is_in p typed.whole c scene.c_within t scope (scope_of vs) receiver (types_in_scope p typed made k st.store begins.fits scope env scene.holds) (covers scope vs begins.variables.typed) has) in
         let lc : List Line = slot_code (context l c f) (constants l) at K' name in
-        let has_lines : HasLines l.world pc2 lc = has_back l.world lb lc pc1 pc2 refl (has_back l.world la (lb ++ lc) q.pc pc1 refl code_at.lines) in
+        let sum_la = sizes_append l.world la (lb ++ lc) in
+        let sum_lb = sizes_append l.world lb lc in
+        let has_lines : HasLines l.world pc2 lc =
+        quiet l lc pc2 pc3 (omega arith) (own_placed l c f vs d first q.pc (trees.Dispatch at t name ts) code_at).quiet.1 (has_back (whole l) lb lc pc1 pc2 refl (has_back (whole l) la (lb ++ lc) q.pc pc1 refl code_at.lines)) in
         let K_within = class_there p typed.whole c scene.c_within receiver (expression_type p typed.whole c scene.c_within t scope receiver (types_in_scope p typed made k st.store begins.fits scope env scene.holds) has) in
         let (kk, slot_is) = slot_there p typed.whole K name call.method (method_found p typed.whole c scene.c_within K K_within name call.method call.found) in
         let file = file_of l loaded at in
@@ -191,7 +201,7 @@ module _ (l : Loading) (loaded : IsLoaded l) (basics : BasicCorrect l) (calls : 
         let sum : pc2 + 36 ≡ pc3 = omega (arith, sizes_append l.world la (lb ++ lc), sizes_append l.world lb lc, call_sizes file at.line (pos (4 * unwrap_or (slot p K' name) 0))) in
         let among = file_among at c f vs d first q.pc name t ts code_at in
         let small : at.line < 2147483648 = (let z = code_at.within.0.1 in omega arith) in
-        form_runs l loaded calls b later sound at t ts (lw 8 (pos 8) 4 ∷ lw 8 (pos (4 * kk)) 8 ∷ jalr 8 ∷ []) (λ args v j. dispatch p calls at j name v args) (λ args v j. dispatch_later p calls later at j name v args) head tail
+        form_runs l loaded calls begun_in b later sound at t ts (lw 8 (pos 8) 4 ∷ lw 8 (pos (4 * kk)) 8 ∷ jalr 8 ∷ []) (λ args v j. dispatch p calls at j name v args) (λ args v j. dispatch_begun p calls begun_in j name v args) (λ args v j. dispatch_later p calls later at j name v args) head tail
         c f k self scope vs env made d first q m map console st s n receiver given' pc1 pc2 pc3 le begins has have (arguments_code_at at c f vs d first q.pc name t ts code_at) refl
-        (receiver_code_at at c f vs d first q.pc name t ts code_at) refl lines among small (dynamic_call at name c k self scope env q pc2 pc3 kk receiver given' type lines sum slot_is call among small) room;
+        (receiver_code_at at c f vs d first q.pc name t ts code_at) refl lines among small (dynamic_call at name c k self scope env q pc2 pc3 kk receiver given' type lines sum slot_is call among small) room (λ x h. watched x (inr h));
   }

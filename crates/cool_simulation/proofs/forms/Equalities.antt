@@ -22,21 +22,25 @@ use Rattle.cool_codegen.specs.Pieces.{compare_equal_lines}
 use Rattle.cool_codegen.specs.Asked.{integers_in, strings_in}
 use Rattle.cool_codegen.specs.Code.{code, truth_label}
 use Rattle.cool_meaning.specs.Values.{Value, Void, Int, Bool, Str, Obj, State}
-use Rattle.cool_meaning.specs.Evaluation.{Calls, eval, compare, same, bytes_compared}
+use Rattle.cool_meaning.specs.Evaluation.{Call, Calls, eval, compare, same, bytes_compared}
 use Rattle.cool_meaning.proofs.SoundParts.{AllCallsSound}
-use Rattle.cool_simulation.specs.Loadings.{Loading, IsLoaded, constants, context}
+use Rattle.cool_simulation.specs.Loadings.{Loading, IsLoaded, constants, context, whole}
 use Rattle.cool_simulation.specs.Pictures.{Map, Pic, Pictures, Shows}
 use Rattle.cool_simulation.specs.Simulation.{Done, Correct}
+use Rattle.cool_simulation.specs.Visits.{Visits}
 use Rattle.cool_simulation.proofs.ground.FlagWalks.{operands}
 use Rattle.cool_simulation.proofs.ground.PartsOfRuns.{run_gives}
 use Rattle.cool_simulation.proofs.ground.EvaluationLater.{CallsLater, compare_later}
 use Rattle.cool_simulation.proofs.ground.PartsBehind.{Gone, done_of}
 use Rattle.cool_simulation.proofs.ground.DataHere.{prototypes_here, truth_pic}
-use Rattle.cool_simulation.proofs.ground.CodeOfParts.{Asks, asks_of, asks_front, asks_back, part_at}
+use Rattle.cool_simulation.proofs.ground.CodeOfParts.{Asks, asks_of, asks_front, asks_back, part_at, in_rest, own_placed}
 use Rattle.cool_simulation.proofs.ground.Operands.{operands_run}
 use Rattle.cool_simulation.proofs.forms.Arithmetic.{popped}
 use Rattle.cool_simulation.proofs.ground.KindsOfValues.{kind, tag_of, number_of, first_bytes, second_bytes, int_kind, bool_kind, string_kind, tagged, value_at}
 use Rattle.cool_simulation.proofs.forms.Verdicts.{verdict_same, strings_at}
+use Rattle.cool_simulation.proofs.ground.Passages.{quiet}
+use Rattle.cool_codegen.specs.Spans.{span, spans}
+use Rattle.std.proofs.lemmas.List.Elements.{Contains-append_left, Contains-append_right}
 
 -- the routine's work is the meaning's
 compared_bound : (v u : Value) → length (first_bytes v u) ≤ bytes_compared v u
@@ -86,13 +90,14 @@ module _ (l : Loading) (loaded : IsLoaded l) where
       moved e (inl h) = inl (sym e ∙ h)
       moved e (inr h) = inr (sym e ∙ h)
 
-module _ (l : Loading) (loaded : IsLoaded l) (calls : Calls) (b : ℕ) (sound : AllCallsSound l.table calls b) (later : CallsLater calls) where
-  pub equal_correct : (at : Place) (ta tb : Tree) → Correct l calls b ta → Correct l calls b tb → Correct l calls b (trees.Compare at Equal ta tb)
+module _ (l : Loading) (loaded : IsLoaded l) (calls : Calls) (begun_in : Call → Visits) (b : ℕ) (sound : AllCallsSound l.table calls b) (later : CallsLater calls) where
+  pub equal_correct : (at : Place) (ta tb : Tree) → Correct l calls begun_in b ta → Correct l calls begun_in b tb → Correct l calls begun_in b (trees.Compare at Equal ta tb)
   unfolding compare_equal_lines
   equal_correct at ta tb correct correct' = record {
-    runs = λ c f k self scope vs env made d first q m map console st s n type less' begins (type1, type2, has, has', comparable, is) code_at room.
+    runs = λ c f k self scope vs env made d first q m map console st s n type less' begins (type1, type2, has, has', comparable, is) code_at room watched.
         let small = code_at.small in
         let w = l.world in
+        let o = whole l in
         let ctx = context l c f in
         let la = code ctx (constants l) vs d first ta in
         let lb = code ctx (constants l) vs (d + 1) (first + tree_size ta) tb in
@@ -103,9 +108,14 @@ module _ (l : Loading) (loaded : IsLoaded l) (calls : Calls) (b : ℕ) (sound : 
         let pc2 = pc1 + 20 in
         let pc3 = pc2 + sizes lb in
         let final = q.pc + sizes (la ++ r1) in
-        let h1 : HasLines w pc1 r1 = has_back w la r1 q.pc pc1 refl code_at.lines in
-        let h2 : HasLines w pc2 r2 = has_back w push_lines r2 pc1 pc2 refl h1 in
-        let h3 : HasLines w pc3 r3 = has_back w lb r3 pc2 pc3 refl h2 in
+        let h1 : HasLines o pc1 r1 = has_back o la r1 q.pc pc1 refl code_at.lines in
+        let h2 : HasLines o pc2 r2 = has_back o push_lines r2 pc1 pc2 refl h1 in
+        let free = (own_placed l c f vs d first q.pc (trees.Compare at Equal ta tb) code_at).quiet in
+        let push_there : HasLines w pc1 push_lines = quiet l push_lines pc1 pc2 (omega arith) free.0 (has_front o push_lines r2 pc1 h1) in
+        let h3 : HasLines w pc3 r3 = quiet l r3 pc3 final (let a = sizes_append w la r1 in let e = sizes_append w lb r3 in omega arith) free.1 (has_back o lb r3 pc2 pc3 refl h2) in
+        let own = span vs d first q.pc (trees.Compare at Equal ta tb) in
+        let at_a = spans sizes ctx (constants l) vs d first q.pc ta in
+        let at_b = spans sizes ctx (constants l) vs (d + 1) (first + tree_size ta) pc2 tb in
         let ia = integers_in ta in let ib = integers_in tb in
         let xa = strings_in l.files ta in let xb = strings_in l.files tb in
         let asks : Asks l (ia ++ ib) (xa ++ xb) = asks_of l c f vs d first q.pc (trees.Compare at Equal ta tb) code_at in
@@ -114,9 +124,12 @@ module _ (l : Loading) (loaded : IsLoaded l) (calls : Calls) (b : ℕ) (sound : 
         let numbers = begins.at.numbers in
         let high : 4 ≤ q.sp = (let laid = w.laid in omega arith) in
         let same_end : pc3 + 16 ≡ final = (let a = sizes_append w la r1 in let e = sizes_append w lb r3 in omega arith) in
-        operands_run l loaded calls b sound later c f k self scope vs env made d first q m map console st s n less' begins ta tb type1 type2 correct correct' has has'
-        (part_at l c f vs d first q.pc ta (has_front w la r1 q.pc code_at.lines) (asks_front l ia ib xa xb asks) code_at.within.1 (omega arith)) (has_front w push_lines r2 pc1 h1)
-        (part_at l c f vs (d + 1) (first + tree_size ta) pc2 tb (has_front w lb r3 pc2 h2) (asks_back l ia ib xa xb asks) code_at.within.2 (omega arith)) (compare Equal) L (compare_later Equal) room
+        operands_run l loaded calls begun_in b sound later c f k self scope vs env made d first q m map console st s n less' begins ta tb type1 type2 correct correct' has has'
+        (part_at l c f vs d first q.pc ta (has_front o la r1 q.pc code_at.lines) (asks_front l ia ib xa xb asks) code_at.within.1 (omega arith)
+        (λ x h. code_at.spans x (in_rest own (at_a ++ at_b) x (Contains-append_left at_a at_b x h)))) push_there
+        (part_at l c f vs (d + 1) (first + tree_size ta) pc2 tb (has_front o lb r3 pc2 h2) (asks_back l ia ib xa xb asks) code_at.within.2 (omega arith)
+        (λ x h. code_at.spans x (in_rest own (at_a ++ at_b) x (Contains-append_right at_a at_b x h)))) (λ x h. watched x (inr (inl h))) (λ v t1 left e x h. watched x (inr (inr (v, t1, left, e, h))))
+        (compare Equal) L (compare_later Equal) room
         (λ v u t2 left2 words s2 i total heap way.
         let q3 : Pointers = record q { pc = pc3; gp = i.gp; sp = q.sp - 4; acc = i.acc; ra = i.ra } in
         let q4 : Pointers = record q { pc = w.place equality; gp = i.gp; acc = i.acc; ra = final } in

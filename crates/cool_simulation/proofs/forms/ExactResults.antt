@@ -37,6 +37,7 @@ use Rattle.cool_simulation.specs.Simulation.{Done, Runs, Stopped, Way}
 use Rattle.cool_simulation.proofs.ground.Sums.{raised_fits}
 use Rattle.cool_simulation.proofs.ground.OperatorWalks.{Result, Flagged}
 use Rattle.cool_simulation.proofs.ground.FlagWalks.{passes, refuses}
+use Rattle.cool_simulation.proofs.ground.Passages as passages
 use Rattle.cool_simulation.proofs.ground.PartsOfRuns.{run_gives}
 use Rattle.cool_simulation.proofs.ground.PicturesStay.{pictures_same}
 use Rattle.cool_simulation.proofs.ground.PartsBehind.{Gone, gone_same, gone_then, done_of, new_int_pic}
@@ -139,5 +140,6 @@ module _ (l : Loading) (loaded : IsLoaded l) where
       by true fit sum heap way = run_gives l (Int r) t s left 27 27 (Done l (record q { pc = final }) m0 map0 st whole) (omega arith) (made fit sum (omega arith) way)
       by false over sum heap way =
           let flagged : Flagged w q1 m console f s = record { at = result.at; t0_is = result.t0_is } in
-          wider w s 0 0 23 27 _ (omega arith) (omega arith)
-          (refused (Overflow at) at fits_label overflow_abort q1 m map console t f s (ends_by_overflow at small) small has (has_front w (ends_where_lines fits_label file at.line overflow_abort) new_int_lines pc lines) flagged (wrong over) shows pictures)
+          passages.passes l s 0 27 _
+          (wider w s 0 0 23 27 _ (omega arith) (omega arith)
+          (refused (Overflow at) at fits_label overflow_abort q1 m map console t f s (ends_by_overflow at small) small has (has_front w (ends_where_lines fits_label file at.line overflow_abort) new_int_lines pc lines) flagged (wrong over) shows pictures))

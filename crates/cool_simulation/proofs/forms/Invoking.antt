@@ -22,17 +22,19 @@ use Rattle.cool_runtime.proofs.Pieces.{done}
 use Rattle.cool_layout.specs.Labels.{method_label}
 use Rattle.cool_meaning.specs.Values.{Value, State}
 use Rattle.cool_meaning.specs.Meters.{spend, working}
-use Rattle.cool_meaning.specs.Evaluation.{Body, Calls, invoke}
+use Rattle.cool_meaning.specs.Evaluation.{Call, Body, Calls, invoke}
 use Rattle.cool_meaning.proofs.BasicClasses.{high_inherits}
 use Rattle.cool_meaning.proofs.FittingValues.{AllFit, meant, fit_length}
 use Rattle.cool_meaning.proofs.FittingValues as fitting
 use Rattle.cool_meaning.proofs.MethodsOfTables.{implementation_own, user_own}
-use Rattle.cool_simulation.specs.Loadings.{Loading, IsLoaded}
+use Rattle.cool_simulation.specs.Loadings.{Loading, IsLoaded, Watched}
 use Rattle.cool_simulation.specs.Pictures.{Map}
 use Rattle.cool_simulation.specs.Simulation.{Done, Runs, Way, Paused, AllCallsCorrect}
+use Rattle.cool_simulation.specs.Visits.{Visits, Visit, behind_step, called}
 use Rattle.cool_simulation.proofs.forms.CallLines.{AtPlace}
 use Rattle.cool_simulation.proofs.forms.Received.{Received, BasicCorrect, called_of, received_at}
 use Rattle.cool_simulation.proofs.ground.PartsOfRuns.{run_wider, run_behind}
+use Rattle.cool_simulation.proofs.ground.Passages.{passes}
 
 pub each_length : {A B : Type 0} (f : A → B) (xs : List A) → length (each f xs) ≡ length xs
 each_length f [] = refl
@@ -52,25 +54,25 @@ callee l loaded j x owner i name found within below =
     let plain : MayInherit j = high_inherits p typed j owner below_owner (subst (λ (y : ClassId). 5 ≤ y.0) (sym same) high) in
     (has, below_owner, plain)
 
-module _ (l : Loading) (loaded : IsLoaded l) (basics : BasicCorrect l) (calls : Calls) (b : ℕ) (correct : AllCallsCorrect l calls b) where
+module _ (l : Loading) (loaded : IsLoaded l) (basics : BasicCorrect l) (calls : Calls) (begun_in : Call → Visits) (b : ℕ) (correct : AllCallsCorrect l calls begun_in b) where
   -- the method runs
   invoked : (at : Place) (self : Value) (j x : ClassId) (vs : List Value) (made : fitting.World) (q : Pointers) (m : Bytes) (map : Map) (console : Console) (st : State) (s : Machine) (n : ℕ) (name : List ℕ) (file : Name) (method : MethodRef)
       → n < b → q.ra < 4294967296 → implementation l.table (chain l.table x) name ≡ Some method → x.0 < length l.table → Below l.table j x → AllFit l.table made vs (each (meant l.table j) (formals_of l.table method))
       → Received l j self vs made q m map console st s → q.pc ≡ l.world.place (method_label l.table method) → AtPlace l.world q m console file at.line s
       → StringAt l.world m q.gp (l.world.place file) (get_or l.files at.file []) → at.line < 2147483648
       → q.gp + 4 * (invoke l.table calls at self vs (Some method) st n).words ≤ l.world.top → l.world.low ≤ q.sp - (16 + 16 * (invoke l.table calls at self vs (Some method) st n).peak)
-      → Way l (invoke l.table calls at self vs (Some method) st n).outcome
+      → Way l (invoke l.table calls at self vs (Some method) st n).outcome → ((x : Visit) → called l.table calls begun_in self vs (Some method) st n x → Watched l.watch x)
       → Runs l s n (64 * (length vs + (invoke l.table calls at self vs (Some method) st n).work) + 51)
       (Done l (record q { pc = q.ra; sp = q.sp + 4 * length vs }) m map st (invoke l.table calls at self vs (Some method) st n).words) (invoke l.table calls at self vs (Some method) st n).outcome
-  invoked at self j x vs made q m map console st s n name file (Basic method) less small_ra found within below args received begins placed string small heap stack way =
+  invoked at self j x vs made q m map console st s n name file (Basic method) less small_ra found within below args received begins placed string small heap stack way watched =
       basics method at self j vs made q m map console st s n received begins (subst (λ (a : ℕ). StringAt l.world m q.gp a (get_or l.files at.file [])) (sym placed.file_is) string) placed.line_is small
       (fit_length l.table made vs (each (meant l.table j) (basic_formals method)) args ∙ each_length (meant l.table j) (basic_formals method))
       (record { heap = heap; stack = omega arith; way = way })
-  invoked at self j x vs made q m map console st s n name file (User owner i) less small_ra found within below args received begins placed string small heap stack way =
+  invoked at self j x vs made q m map console st s n name file (User owner i) less small_ra found within below args received begins placed string small heap stack way watched =
       let (has, below_owner, plain) = callee l loaded j x owner i name found within below in
       run_wider l (calls (Body owner i self vs) st n).outcome s n (64 * (calls (Body owner i self vs) st n).work + 17) (64 * (length vs + (calls (Body owner i self vs) st n).work) + 51) _ (omega arith)
       ((correct n less).body owner i self j vs made q m map console st s n (omega arith) has below_owner (called_of l j self vs made q m map console st s plain small_ra received) begins args
-      (record { heap = heap; stack = omega arith; way = way }))
+      (record { heap = heap; stack = omega arith; way = way }) watched)
 
   -- the step is spent by the lines of the call
   pub dispatched : (at : Place) (self : Value) (j x : ClassId) (vs : List Value) (made : fitting.World) (q : Pointers) (m : Bytes) (map : Map) (console : Console) (st : State) (s : Machine) (n ra : ℕ) (name : List ℕ) (file : Name)
@@ -82,18 +84,18 @@ module _ (l : Loading) (loaded : IsLoaded l) (basics : BasicCorrect l) (calls : 
       → StringAt l.world m q.gp (l.world.place file) (get_or l.files at.file []) → at.line < 2147483648
       → q.gp + 4 * (spend (working (length vs) (invoke l.table calls at self vs o)) st n).words ≤ l.world.top
       → l.world.low ≤ q.sp - (16 + 16 * (spend (working (length vs) (invoke l.table calls at self vs o)) st n).peak)
-      → Way l (spend (working (length vs) (invoke l.table calls at self vs o)) st n).outcome
+      → Way l (spend (working (length vs) (invoke l.table calls at self vs o)) st n).outcome → ((y : Visit) → behind_step (called l.table calls begun_in self vs o) st n y → Watched l.watch y)
       → Runs l s n (64 * (spend (working (length vs) (invoke l.table calls at self vs o)) st n).work + 60)
       (Done l (record q { pc = ra; sp = q.sp + 4 * length vs; ra = ra }) m map st (spend (working (length vs) (invoke l.table calls at self vs o)) st n).words)
       (spend (working (length vs) (invoke l.table calls at self vs o)) st n).outcome
-  dispatched at self j x vs made q m map console st s zero ra name file o e le small_ra within below args received lines string small heap stack way =
+  dispatched at self j x vs made q m map console st s zero ra name file o e le small_ra within below args received lines string small heap stack way watched =
       let at' = received.at in
-      done l.world 60 s (Paused st) (record { output = at'.output_is ∙ received.shows.output; input = at'.input_is ∙ received.shows.input })
-  dispatched at self j x vs made q m map console st s (suc n) ra name file None e le small_ra within below args received lines string small heap stack way = tt
-  dispatched at self j x vs made q m map console st s (suc n) ra name file (Some method) e le small_ra within below args received lines string small heap stack way =
+      passes l s 0 60 _ (done l.world 60 s (Paused st) (record { output = at'.output_is ∙ received.shows.output; input = at'.input_is ∙ received.shows.input }))
+  dispatched at self j x vs made q m map console st s (suc n) ra name file None e le small_ra within below args received lines string small heap stack way watched = tt
+  dispatched at self j x vs made q m map console st s (suc n) ra name file (Some method) e le small_ra within below args received lines string small heap stack way watched =
       let r = invoke l.table calls at self vs (Some method) st n in
       let q' : Pointers = record q { pc = l.world.place (method_label l.table method); ra = ra } in
       run_behind l r.outcome s (suc n) n 9 (64 * (length vs + r.work) + 51) (64 * (length vs + r.work) + 60) _ _ (omega arith)
       (wider l.world s 1 (suc n - n) 9 9 _ (omega arith) (omega arith) (lines method e)) (λ t placed.
       invoked at self j x vs made q' m map console st t n name file method (omega arith) small_ra e within below (args method e)
-      (received_at l j self vs made q m map console st s t (l.world.place (method_label l.table method)) ra received placed.at) refl placed string small heap stack way)
+      (received_at l j self vs made q m map console st s t (l.world.place (method_label l.table method)) ra received placed.at) refl placed string small heap stack way watched)

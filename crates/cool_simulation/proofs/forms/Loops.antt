@@ -1,6 +1,6 @@
 -- The code of `while` does what it means.
-use Rattle.std.proofs.Common.{◌≡◌, ℕ, zero, suc, ◌+◌, ◌-◌, ◌*◌, ◌≤◌, List, ◌++◌, refl, ap, ◌∙◌, subst, arith}
-use Rattle.std.specs.Prelude.{Bool as Truth, true, false, codes, if◌then◌else◌}
+use Rattle.std.proofs.Common.{◌≡◌, ℕ, zero, suc, ◌+◌, ◌-◌, ◌*◌, ◌≤◌, List, ◌++◌, refl, ap, ◌∙◌, subst, arith, inl, inr}
+use Rattle.std.specs.Prelude.{Bool as Truth, true, false, codes, if◌then◌else◌, Contains}
 use Rattle.mips_isa.specs.Bytes.{Bytes}
 use Rattle.mips_isa.specs.Calls.{State as Machine}
 use Rattle.mips_isa.specs.Lines.{Name, Line}
@@ -24,28 +24,38 @@ use Rattle.cool_codegen.specs.Code.{code, label_at}
 use Rattle.cool_meaning.specs.Values.{Value, Void, Bool, State, Environment}
 use Rattle.cool_meaning.specs.Meters.{Metered, Computation, give, spend, working, seq, ◌>>=◌, ◌>>◌}
 use Rattle.cool_meaning.specs.BasicMethods.{as_truth}
-use Rattle.cool_meaning.specs.Evaluation.{Calls, eval, turns}
+use Rattle.cool_meaning.specs.Evaluation.{Call, Calls, eval, turns}
 use Rattle.cool_meaning.proofs.FittingValues as fitting
 use Rattle.cool_meaning.proofs.SoundParts.{AllCallsSound}
-use Rattle.cool_simulation.specs.Loadings.{Loading, IsLoaded, constants, context}
+use Rattle.cool_simulation.specs.Loadings.{Loading, IsLoaded, constants, context, whole, Watched}
 use Rattle.cool_simulation.specs.Pictures.{Map, Pic}
 use Rattle.cool_simulation.specs.Simulation.{Begins, Done, Correct, Runs, Room, CodeAt, Paused}
+use Rattle.cool_simulation.specs.Visits.{Visit, Visits, begun, behind, behind_step, turns_begun, ◌or◌}
 use Rattle.cool_simulation.proofs.ground.Walks.{tests_true, tests_false, repeats, takes_void}
 use Rattle.cool_simulation.proofs.ground.PartsOfRuns.{run_behind, run_after, run_wider, run_as, run_gives, run_rule, bind_runs, truth_cases, Rest, room_rest, room_ruled, room_less}
 use Rattle.cool_simulation.proofs.ground.EvaluationLater.{CallsLater, ComesLater, bind_later, then_later, spend_later, if_later, give_later, truth_later, turns_later, eval_later}
 use Rattle.cool_simulation.proofs.ground.PartsBehind.{gone_of, gone_then, done_of, done_on}
-use Rattle.cool_simulation.proofs.ground.NextParts.{Next, next as behind, begins_at}
-use Rattle.cool_simulation.proofs.ground.CodeOfParts.{Asks, asks_of, asks_front, asks_back, part_at}
+use Rattle.cool_simulation.proofs.ground.NextParts.{Next, next as following, begins_at}
+use Rattle.cool_simulation.proofs.ground.CodeOfParts.{Asks, asks_of, asks_front, asks_back, part_at, in_rest, own_placed}
 use Rattle.cool_simulation.proofs.ground.FirstParts.{part_runs}
+use Rattle.std.proofs.lemmas.List.Elements.{Contains-append_left, Contains-append_right}
+use Rattle.cool_codegen.specs.Spans.{span, spans}
+use Rattle.cool_simulation.proofs.ground.Passages.{passes, quiet}
 
-module _ (l : Loading) (loaded : IsLoaded l) (calls : Calls) (b : ℕ) (sound : AllCallsSound l.table calls b) (later : CallsLater calls) (c : ClassId) (f : ℕ) (k : ClassId) (self : Value) (scope : List Binding) (vs : List Named)
-    (env : Environment) (d first pc : ℕ) (test body : Tree) (type : Ty) (begin end : Name) (correct : Correct l calls b test) (correct' : Correct l calls b body) (has : HasType l.table c scope test bool_type)
+module _ (l : Loading) (loaded : IsLoaded l) (calls : Calls) (begun_in : Call → Visits) (b : ℕ) (sound : AllCallsSound l.table calls b) (later : CallsLater calls) (c : ClassId) (f : ℕ) (k : ClassId) (self : Value) (scope : List Binding) (vs : List Named)
+    (env : Environment) (d first pc : ℕ) (test body : Tree) (type : Ty) (begin end : Name) (correct : Correct l calls begun_in b test) (correct' : Correct l calls begun_in b body) (has : HasType l.table c scope test bool_type)
     (has' : HasType l.table c scope body type) where
   abbrev T : Computation Value
   T = eval l.table calls self env test
 
   abbrev B : Computation Value
   B = eval l.table calls self env body
+
+  abbrev V : Visits
+  V = begun l.table calls begun_in c f self env first test
+
+  abbrev W : Visits
+  W = begun l.table calls begun_in c f self env (first + tree_size test) body
 
   abbrev lt : List Line
   lt = code (context l c f) (constants l) vs d first test
@@ -80,17 +90,19 @@ module _ (l : Loading) (loaded : IsLoaded l) (calls : Calls) (b : ℕ) (sound : 
     abbrev TurnsRun : ℕ → Type 0
     TurnsRun j =
         (made : fitting.World) (q : Pointers) (m : Bytes) (map : Map) (console : Console) (st : State) (s : Machine) (n : ℕ) → n ≤ b → Begins l c k self scope vs env made d (record q { pc = pc }) m map console st s
-        → Room l q 16 (turns j T B st n) → Runs l s n (64 * (turns j T B st n).work + 60) (Done l (record q { pc = final }) m map st (turns j T B st n).words) (turns j T B st n).outcome
+        → Room l q 16 (turns j T B st n) → ((x : Visit) → turns_begun l.table calls begun_in j T B V W st n x → Watched l.watch x)
+        → Runs l s n (64 * (turns j T B st n).work + 60) (Done l (record q { pc = final }) m map st (turns j T B st n).words) (turns j T B st n).outcome
 
     pub turns_run : (j : ℕ) (made : fitting.World) (q : Pointers) (m : Bytes) (map : Map) (console : Console) (st : State) (s : Machine) (n : ℕ) → n ≤ b → Begins l c k self scope vs env made d (record q { pc = pc }) m map console st s
-        → Room l q 16 (turns j T B st n) → Runs l s n (64 * (turns j T B st n).work + 60) (Done l (record q { pc = final }) m map st (turns j T B st n).words) (turns j T B st n).outcome
+        → Room l q 16 (turns j T B st n) → ((x : Visit) → turns_begun l.table calls begun_in j T B V W st n x → Watched l.watch x)
+        → Runs l s n (64 * (turns j T B st n).work + 60) (Done l (record q { pc = final }) m map st (turns j T B st n).words) (turns j T B st n).outcome
     unfolding repeat_lines take_void_lines
-    turns_run zero made q m map console st s n less begins room = tt
-    turns_run (suc j) made q m map console st s n less begins room =
-        part_runs l loaded calls b sound c f k self scope vs env made d first (record q { pc = pc }) m map console st s n less begins test bool_type correct has at (λ v. as_truth v >>= G j) L 16 60
+    turns_run zero made q m map console st s n less begins room watched = tt
+    turns_run (suc j) made q m map console st s n less begins room watched =
+        part_runs l loaded calls begun_in b sound c f k self scope vs env made d first (record q { pc = pc }) m map console st s n less begins test bool_type correct has at (λ x h. watched x (inl h)) (λ v. as_truth v >>= G j) L 16 60
         (λ v. bind_later (truth_later v) (λ x. G_later j x)) (record { heap = room.heap; stack = room.stack; way = room.way })
         (λ v t1 left u e i x sum rest. truth_cases l v (G j) u t1 left 60 q 16 _ L (record { heap = rest.heap; stack = rest.stack; way = rest.way })
-        (λ is words rest2. turn (turns_run j) v t1 left u i (subst (λ o. Pic w i.memory i.map' t1.drawn i.gp o i.acc) is i.value) x (sum ∙ ap (λ z. (T st n).words + z) words) rest2)
+        (λ is words rest2. turn (turns_run j) v t1 left u i (subst (λ o. Pic w i.memory i.map' t1.drawn i.gp o i.acc) is i.value) x (sum ∙ ap (λ z. (T st n).words + z) words) rest2 (λ x h. watched x (inr (v, t1, left, e, (is, h)))))
         (λ is words rest2. run_gives l Void t1 u left 4 60 L (omega arith)
         (let pic : Pic w i.memory i.map' t1.drawn i.gp (Bool false) i.acc = subst (λ o. Pic w i.memory i.map' t1.drawn i.gp o i.acc) is i.value in
         let q1 : Pointers = record q { pc = pc1; gp = i.gp; acc = i.acc; ra = i.ra } in
@@ -113,9 +125,10 @@ module _ (l : Loading) (loaded : IsLoaded l) (calls : Calls) (b : ℕ) (sound : 
         turn : TurnsRun j → (v : Value) (t1 : State) (left : ℕ) (u : Machine) → (i : Done l (record q { pc = pc1 }) m map st (T st n).words v t1 u) → Pic w i.memory i.map' t1.drawn i.gp (Bool true) i.acc
             → Next l loaded calls b sound c k self scope vs env made bool_type d (record q { pc = pc1; gp = i.gp; acc = i.acc; ra = i.ra }) i.memory i.map' i.console v t1 left n u
             → whole ≡ (T st n).words + (spend (working 1 (B >> turns j T B)) t1 left).words → Rest l q 16 (T st n).words (spend (working 1 (B >> turns j T B)) t1 left)
+            → ((x : Visit) → behind_step (W or behind B (λ w. turns_begun l.table calls begun_in j T B V W)) t1 left x → Watched l.watch x)
             → Runs l u left (64 * (spend (working 1 (B >> turns j T B)) t1 left).work + 60) L (spend (working 1 (B >> turns j T B)) t1 left).outcome
-        turn again v t1 zero u i pic x sum rest = done w 60 u (Paused t1) (record { output = i.at.output_is ∙ i.shows.output; input = i.at.input_is ∙ i.shows.input })
-        turn again v t1 (suc left) u i pic x sum rest =
+        turn again v t1 zero u i pic x sum rest watched = passes l u 0 60 _ (done w 60 u (Paused t1) (record { output = i.at.output_is ∙ i.shows.output; input = i.at.input_is ∙ i.shows.input }))
+        turn again v t1 (suc left) u i pic x sum rest watched =
             let q1 : Pointers = record q { pc = pc1; gp = i.gp; acc = i.acc; ra = i.ra } in
             let q2 : Pointers = record q { pc = pc2; gp = i.gp; acc = i.acc; ra = i.ra } in
             let r1 = B t1 left in
@@ -134,9 +147,9 @@ module _ (l : Loading) (loaded : IsLoaded l) (calls : Calls) (b : ℕ) (sound : 
             bind_runs l r1 (λ v2. turns j T B) u2 left 62 q2 16 K L
             (λ v2 t2 left2. (turns_later j T B (eval_later l.table calls later self env test) (eval_later l.table calls later self env body)).later t2 left2) room2
             (λ room3. run_wider l r1.outcome u2 left (64 * r1.work - 4) (64 * r1.work) K (omega arith)
-            (correct'.runs c f k self scope vs env x.made' d (first + tree_size test) q2 i.memory i.map' i.console t1 u2 left type (omega arith) begins2 has' at' (room_less l q2 16 0 r1 (omega arith) room3)))
+            (correct'.runs c f k self scope vs env x.made' d (first + tree_size test) q2 i.memory i.map' i.console t1 u2 left type (omega arith) begins2 has' at' (room_less l q2 16 0 r1 (omega arith) room3) (λ x h. watched x (inl h))))
             (λ v2 t2 left2 u3 e2 i2 sum2 rest2.
-            let x2 = behind l loaded calls b sound c k self body scope vs env x.made' type d q2 i.memory i.map' i.console t1 t2 u2 u3 left left2 r1.words pc3 v2 begins2 has' (omega arith) e2 i2 in
+            let x2 = following l loaded calls b sound c k self body scope vs env x.made' type d q2 i.memory i.map' i.console t1 t2 u2 u3 left left2 r1.words pc3 v2 begins2 has' (omega arith) e2 i2 in
             let r3 = turns j T B t2 left2 in
             let q3 : Pointers = record q { pc = pc3; gp = i2.gp; acc = i2.acc; ra = i2.ra } in
             let q4 : Pointers = record q { pc = pc; gp = i2.gp; acc = i2.acc; ra = i2.ra } in
@@ -151,15 +164,17 @@ module _ (l : Loading) (loaded : IsLoaded l) (calls : Calls) (b : ℕ) (sound : 
             (gone_then w i.memory i2.memory i3.memory i.map' i2.map' i3.map' t1 t2 t3 i.gp i2.gp i3.gp q.sp q.sp r1.words r3.words (r1.words + r3.words) (omega arith) even
             (gone_of l (record q2 { pc = pc3 }) i.memory i.map' t1 r1.words v2 t2 u3 i2) (gone_of l (record q4 { pc = final }) i2.memory i2.map' t2 r3.words v3 t3 u5 i3) (omega arith)) (omega arith)))
             (again x2.made' q4 i2.memory i2.map' i2.console t2 u4 left2 (omega arith)
-            (begins_at l loaded calls b sound c k self scope vs env x2.made' d q3 i2.memory i2.map' i2.console t2 u3 u4 pc i2.acc i2.ra x2.begins there4) (room_rest l q2 q4 16 16 r1.words r3 used2 (omega arith) rest2)))))
+            (begins_at l loaded calls b sound c k self scope vs env x2.made' d q3 i2.memory i2.map' i2.console t2 u3 u4 pc i2.acc i2.ra x2.begins there4) (room_rest l q2 q4 16 16 r1.words r3 used2 (omega arith) rest2)
+            (λ x h. watched x (inr (v2, t2, left2, e2, h)))))))
 
-module _ (l : Loading) (loaded : IsLoaded l) (calls : Calls) (b : ℕ) (sound : AllCallsSound l.table calls b) (later : CallsLater calls) where
-  pub while_correct : (at : Place) (test body : Tree) → Correct l calls b test → Correct l calls b body → Correct l calls b (trees.While at test body)
+module _ (l : Loading) (loaded : IsLoaded l) (calls : Calls) (begun_in : Call → Visits) (b : ℕ) (sound : AllCallsSound l.table calls b) (later : CallsLater calls) where
+  pub while_correct : (at : Place) (test body : Tree) → Correct l calls begun_in b test → Correct l calls begun_in b body → Correct l calls begun_in b (trees.While at test body)
   unfolding mark_lines test_lines repeat_lines
   while_correct at test body correct correct' = record {
-    runs = λ c f k self scope vs env made d first q m map console st s n type less begins (type1, has, has', is) code_at room.
+    runs = λ c f k self scope vs env made d first q m map console st s n type less begins (type1, has, has', is) code_at room watched.
         let small = code_at.small in
         let w = l.world in
+        let o = whole l in
         let ctx = context l c f in
         let loop = label_at ctx (codes "loop") (root first (trees.While at test body)) in
         let end = label_at ctx (codes "end") (root first (trees.While at test body)) in
@@ -173,21 +188,33 @@ module _ (l : Loading) (loaded : IsLoaded l) (calls : Calls) (b : ℕ) (sound : 
         let a2 = a1 + 12 in
         let a3 = a2 + sizes lb' in
         let last = a3 + 8 in
-        let h1 : HasLines w q.pc r1 = has_back w (mark_lines loop) r1 q.pc q.pc (omega arith) code_at.lines in
-        let h2 : HasLines w a1 r2 = has_back w lt' r2 q.pc a1 refl h1 in
-        let h3 : HasLines w a2 r3 = has_back w (test_lines end) r3 a1 a2 refl h2 in
-        let h4 : HasLines w a3 r4 = has_back w lb' r4 a2 a3 refl h3 in
+        let h1 : HasLines o q.pc r1 = has_back o (mark_lines loop) r1 q.pc q.pc (omega arith) code_at.lines in
+        let h2 : HasLines o a1 r2 = has_back o lt' r2 q.pc a1 refl h1 in
+        let h3 : HasLines o a2 r3 = has_back o (test_lines end) r3 a1 a2 refl h2 in
+        let h4 : HasLines o a3 r4 = has_back o lb' r4 a2 a3 refl h3 in
         let ia = integers_in test in let ib = integers_in body in
         let xa = strings_in l.files test in let xb = strings_in l.files body in
         let asks : Asks l (ia ++ ib) (xa ++ xb) = asks_of l c f vs d first q.pc (trees.While at test body) code_at in
+        let p0 = q.pc + sizes (mark_lines loop) in
+        let p2 = p0 + sizes lt' + sizes (test_lines end) in
+        let same0 : q.pc ≡ p0 = omega arith in
+        let same2 : a2 ≡ p2 = omega arith in
+        let own = span vs d first q.pc (trees.While at test body) in
+        let at_t = spans sizes ctx (constants l) vs d first p0 test in
+        let at_b = spans sizes ctx (constants l) vs d (first + tree_size test) p2 body in
         let T' = eval l.table calls self env test in
         let B' = eval l.table calls self env body in
         let r = turns (suc n) T' B' st n in
-        let same : last ≡ q.pc + sizes (mark_lines loop ++ r1) = (let x = sizes_append w lt' r2 in let y = sizes_append w lb' r4 in omega arith) in
+        let same : last ≡ q.pc + sizes (mark_lines loop ++ r1) = (let x = sizes_append o lt' r2 in let y = sizes_append o lb' r4 in omega arith) in
+        let free = (own_placed l c f vs d first q.pc (trees.While at test body) code_at).quiet in
+        let tests : HasLines w a1 (test_lines end) = quiet l (test_lines end) a1 a2 (omega arith) (λ i even from to. free.0 i even (omega arith) (omega arith)) (has_front o (test_lines end) r3 a1 h2) in
+        let ends : HasLines w a3 r4 = quiet l r4 a3 last (omega arith) (λ i even from to. free.1 i even (omega arith) (omega (arith, same))) h4 in
         subst (λ a. Runs l s n (64 * (1 + r.work) - 4) (Done l (record q { pc = a }) m map st r.words) r.outcome) same
         (run_rule l r s n (Done l (record q { pc = last }) m map st r.words)
-        (turns_run l loaded calls b sound later c f k self scope vs env d first q.pc test body type1 loop end correct correct' has has'
-        (part_at l c f vs d first q.pc test (has_front w lt' r2 q.pc h1) (asks_front l ia ib xa xb asks) code_at.within.1 (omega arith))
-        (part_at l c f vs d (first + tree_size test) a2 body (has_front w lb' r4 a2 h3) (asks_back l ia ib xa xb asks) code_at.within.2 (omega arith))
-        (has_front w (test_lines end) r3 a1 h2) h4 code_at.lines.0.labels.0 (suc n) made q m map console st s n less begins (room_ruled l q 0 r room)));
+        (turns_run l loaded calls begun_in b sound later c f k self scope vs env d first q.pc test body type1 loop end correct correct' has has'
+        (part_at l c f vs d first q.pc test (has_front o lt' r2 q.pc h1) (asks_front l ia ib xa xb asks) code_at.within.1 (omega arith)
+        (λ x h. code_at.spans x (in_rest own (at_t ++ at_b) x (Contains-append_left at_t at_b x (subst (λ a. Contains (spans sizes ctx (constants l) vs d first a test) x) same0 h)))))
+        (part_at l c f vs d (first + tree_size test) a2 body (has_front o lb' r4 a2 h3) (asks_back l ia ib xa xb asks) code_at.within.2 (omega arith)
+        (λ x h. code_at.spans x (in_rest own (at_t ++ at_b) x (Contains-append_right at_t at_b x (subst (λ a. Contains (spans sizes ctx (constants l) vs d (first + tree_size test) a body) x) same2 h)))))
+        tests ends code_at.lines.0.labels.0 (suc n) made q m map console st s n less begins (room_ruled l q 0 r room) (λ x h. watched x (inr h))));
   }

@@ -1,5 +1,5 @@
 -- The code of names does what they mean: self, and variables in words of the stack and of objects.
-use Rattle.std.proofs.Common.{◌≡◌, ℕ, ◌+◌, ◌-◌, ◌*◌, ◌%◌, ◌<◌, ◌≤◌, ◌⊎◌, inl, inr, ℤ, pos, negsuc, List, sym, ap, ◌∙◌, subst, arith}
+use Rattle.std.proofs.Common.{◌≡◌, ℕ, ◌+◌, ◌-◌, ◌*◌, ◌%◌, ◌<◌, ◌≤◌, ◌⊎◌, inl, inr, ℤ, pos, negsuc, List, sym, ap, ◌∙◌, subst, arith, refl}
 use Rattle.std.specs.Prelude.{Bool as Truth, true, false, slice_get, Option, Some, if◌then◌else◌, bytes_eq, codes}
 use Rattle.mips_isa.specs.declared.address_map.TheConstants.{HEAP_START, STACK_END}
 use Rattle.mips_isa.specs.Bytes.{Bytes, word}
@@ -13,11 +13,10 @@ use Rattle.cool_classes.specs.declared.class_id.Ty.{Ty}
 use Rattle.cool_classes.specs.declared.class_id.Ty.TheVariants.{SelfType}
 use Rattle.cool_rules.specs.Scopes.{Binding}
 use Rattle.cool_rules.specs.Scopes as scopes
-use Rattle.cool_runtime.specs.Reaches.{World, Reaches, stands}
+use Rattle.cool_runtime.specs.Reaches.{World, stands}
 use Rattle.cool_runtime.specs.Standing.{HasLines, sizes}
 use Rattle.cool_runtime.specs.Walk.{OkWord}
 use Rattle.cool_runtime.specs.Machines.{At, Pointers, Console}
-use Rattle.cool_runtime.proofs.Pieces.{next, done}
 use Rattle.cool_codegen.specs.declared.variables.Variable.{Variable}
 use Rattle.cool_codegen.specs.Variables.{Named}
 use Rattle.cool_codegen.specs.Variables as variables
@@ -25,14 +24,17 @@ use Rattle.cool_codegen.specs.Pieces.{take_self_lines, load_lines}
 use Rattle.cool_codegen.specs.Code.{load_of}
 use Rattle.cool_meaning.specs.Values.{Value, State, Environment, location_of}
 use Rattle.cool_meaning.specs.Meters.{Metered, Val, free, given, load, give, ◌>>=◌}
-use Rattle.cool_meaning.specs.Evaluation.{Calls}
+use Rattle.cool_meaning.specs.Evaluation.{Call, Calls}
 use Rattle.cool_meaning.proofs.FittingValues as fitting
-use Rattle.cool_simulation.specs.Loadings.{Loading, IsLoaded}
+use Rattle.cool_simulation.specs.Loadings.{Loading, IsLoaded, Watched, whole}
 use Rattle.cool_simulation.specs.Pictures.{Map, Pictures, HomeStands, Shows}
-use Rattle.cool_simulation.specs.Simulation.{Begins, Done, Correct, Runs, IsWordAt, IsVariableAt}
-use Rattle.cool_simulation.proofs.ground.Walks.{takes_self, loads}
-use Rattle.cool_simulation.proofs.ground.PartsOfRuns.{run_gives}
+use Rattle.cool_simulation.specs.Simulation.{Begins, Done, Correct, Runs, IsWordAt, IsVariableAt, Passes, Shown}
+use Rattle.cool_simulation.specs.Visits.{Visits, Visit}
+use Rattle.cool_simulation.proofs.ground.PartsOfRuns.{run_comes, stands_as}
 use Rattle.cool_simulation.proofs.ground.PartsBehind.{done_here, pic_fits}
+use Rattle.cool_simulation.proofs.ground.Heads.{head_loads, head_takes_self, visit, visit_shown}
+use Rattle.cool_simulation.proofs.ground.Passages.{passes_weaker}
+use Rattle.cool_simulation.proofs.ground.CodeOfParts.{own_placed}
 
 -- The word of a variable
 
@@ -72,51 +74,52 @@ value_loaded env name st n i v there stored = ap (λ (o : Option ℕ). (given o 
 
 module _ (l : Loading) where
   -- the value of a name
-  name_loaded : (found : Option Variable) (v : Variable) (q : Pointers) (m : Bytes) (map : Map) (console : Console) (st : State) (s : Machine) (i : ℕ) → found ≡ Some v → HasLines l.world q.pc (load_of found) → At l.world q m console s
+  name_loaded : (found : Option Variable) (v : Variable) (q : Pointers) (m : Bytes) (map : Map) (console : Console) (st : State) (s : Machine) (i : ℕ) → found ≡ Some v → (x : Visit) → Watched l.watch x → Shown l x s → HasLines (whole l) q.pc (load_of found) → At l.world q m console s
       → Shows st console → Pictures l.table l.world l.memory m map st q.gp q.sp → (some : 0 < map.home i) → IsVariableAt q v (map.home i)
-      → (value : Value) × (slice_get st.store i ≡ Some value) × Reaches l.world s 0 1 (stands (Done l (record q { pc = q.pc + sizes (load_of found) }) m map st 0 value st))
+      → (value : Value) × (slice_get st.store i ≡ Some value) × Passes l s 0 1 (stands (Done l (record q { pc = q.pc + sizes (load_of found) }) m map st 0 value st))
   unfolding load_lines
-  name_loaded found v q m map console st s i e has at shows pictures some there =
+  name_loaded found v q m map console st s i e x watched shown has at shows pictures some there =
       let home : HomeStands l.world m map st q.gp q.sp i = pictures.homes i some in
       let numbers = at.numbers in
       let laid = l.world.laid in
-      let has' : HasLines l.world q.pc (load_lines v.offset v.base) = subst (λ o. HasLines l.world q.pc (load_of o)) e has in
+      let has' : HasLines (whole l) q.pc (load_lines v.offset v.base) = subst (λ o. HasLines (whole l) q.pc (load_of o)) e has in
       let four : sizes (load_of found) ≡ 4 = ap (λ o. sizes (load_of o)) e in (
         home.value,
         home.stored,
-        next l.world s 1 0 1 _ _
-            (loads l.world v.base v.offset (map.home i) q m console s has' at (variable_address l.world v q m console s (map.home i) at there (home_small l.world (map.home i) q.gp q.sp home.room numbers.gp_to))
+        passes_weaker l s 0 1 _ _
+            (stands_as _ _ (λ u there'. done_here l (record q { pc = q.pc + sizes (load_of found) }) m map st 0 home.value u (word m (map.home i)) q.ra console
+            (subst (λ x. At l.world (record q { pc = q.pc + x; acc = word m (map.home i) }) m console u) (sym four) there') shows pictures home.picture))
+            (head_loads l q m console s at x watched shown v.base v.offset (map.home i) has' (variable_address l.world v q m console s (map.home i) at there (home_small l.world (map.home i) q.gp q.sp home.room numbers.gp_to))
             (home_ok l.world (map.home i) q.gp q.sp home.even home.room numbers.gp_to numbers.sp_from)
-            (pic_fits l.world l.table l.memory m map st q.gp q.sp home.value _ (omega arith) pictures home.picture)) (omega arith)
-            (λ u there'. done l.world 0 u _ (done_here l (record q { pc = q.pc + sizes (load_of found) }) m map st 0 home.value u (word m (map.home i)) q.ra console
-            (subst (λ x. At l.world (record q { pc = q.pc + x; acc = word m (map.home i) }) m console u) (sym four) there') shows pictures home.picture)),
+            (pic_fits l.world l.table l.memory m map st q.gp q.sp home.value _ (omega arith) pictures home.picture)),
       )
 
-module _ (l : Loading) (loaded : IsLoaded l) (calls : Calls) (b : ℕ) where
-  pub id_correct : (at : Place) (name : List ℕ) → Correct l calls b (trees.Id at name)
+module _ (l : Loading) (loaded : IsLoaded l) (calls : Calls) (begun_in : Call → Visits) (b : ℕ) where
+  pub id_correct : (at : Place) (name : List ℕ) → Correct l calls begun_in b (trees.Id at name)
   unfolding take_self_lines
   id_correct at name = record {
-    runs = λ c f k self scope vs env made d first q m map console st s n type less begins has code room.
-        by c k self scope vs env made d q m map console st s n type begins (bytes_eq name (codes "self")) has code.lines;
+    runs = λ c f k self scope vs env made d first q m map console st s n type less begins has code room watched.
+        by c k self scope vs env made d q m map console st s n type begins (visit c f first (trees.Id at name) self env st n) (watched (visit c f first (trees.Id at name) self env st n) refl)
+        (visit_shown l c f k self scope vs env made d first q m map console st s n (trees.Id at name) begins (own_placed l c f vs d first q.pc (trees.Id at name) code)) (bytes_eq name (codes "self")) has code.lines;
   }
     where
       by : (c k : ClassId) (self : Value) (scope : List Binding) (vs : List Named) (env : Environment) (made : fitting.World) (d : ℕ) (q : Pointers) (m : Bytes) (map : Map) (console : Console) (st : State) (s : Machine) (n : ℕ) (type : Ty)
-          → Begins l c k self scope vs env made d q m map console st s → (x : Truth) → (if x then Some SelfType else scopes.found scope name) ≡ Some type
-          → HasLines l.world q.pc (if x then take_self_lines else load_of (variables.found vs name))
+          → Begins l c k self scope vs env made d q m map console st s → (z : Visit) → Watched l.watch z → Shown l z s → (x : Truth) → (if x then Some SelfType else scopes.found scope name) ≡ Some type
+          → HasLines (whole l) q.pc (if x then take_self_lines else load_of (variables.found vs name))
           → Runs l s n (64 * (1 + ((if x then give self else (given (location_of env name) >>= load)) st n).work) - 4)
           (Done l (record q { pc = q.pc + sizes (if x then take_self_lines else load_of (variables.found vs name)) }) m map st ((if x then give self else (given (location_of env name) >>= load)) st n).words)
           ((if x then give self else (given (location_of env name) >>= load)) st n).outcome
-      by c k self scope vs env made d q m map console st s n type begins true has lines =
+      by c k self scope vs env made d q m map console st s n type begins z watched shown true has lines =
           let laid = l.world.laid in
           let numbers = begins.at.numbers in
-          run_gives l self st s n 1 60 (Done l (record q { pc = q.pc + 4 }) m map st 0) (omega arith)
-          (next l.world s 1 0 1 _ _ (takes_self l.world q m console s lines begins.at (pic_fits l.world l.table l.memory m map st q.gp q.sp self q.self (omega arith) begins.pictures begins.self_is)) (omega arith)
-          (λ u there. done l.world 0 u _ (done_here l (record q { pc = q.pc + 4 }) m map st 0 self u q.self q.ra console there begins.shows begins.pictures begins.self_is)))
-      by c k self scope vs env made d q m map console st s n type begins false has lines =
+          run_comes l self st s n 1 60 (Done l (record q { pc = q.pc + 4 }) m map st 0) (omega arith)
+          (passes_weaker l s 0 1 _ _ (stands_as _ _ (λ u there. done_here l (record q { pc = q.pc + 4 }) m map st 0 self u q.self q.ra console there begins.shows begins.pictures begins.self_is))
+          (head_takes_self l q m console s begins.at z watched shown lines (pic_fits l.world l.table l.memory m map st q.gp q.sp self q.self (omega arith) begins.pictures begins.self_is)))
+      by c k self scope vs env made d q m map console st s n type begins z watched shown false has lines =
           let (v, found, same) = begins.variables.typed name type has in
           let (i, there, some, word_at) = begins.variables.homes name v found in
-          let (value, stored, reaches) = name_loaded l (variables.found vs name) v q m map console st s i found lines begins.at begins.shows begins.pictures some word_at in
+          let (value, stored, reaches) = name_loaded l (variables.found vs name) v q m map console st s i found z watched shown lines begins.at begins.shows begins.pictures some word_at in
           subst
           (λ (r : Metered Value). Runs l s n (64 * (1 + r.work) - 4) (Done l (record q { pc = q.pc + sizes (load_of (variables.found vs name)) }) m map st r.words) r.outcome)
           (sym (value_loaded env name st n i value there stored))
-          (run_gives l value st s n 1 60 (Done l (record q { pc = q.pc + sizes (load_of (variables.found vs name)) }) m map st 0) (omega arith) reaches)
+          (run_comes l value st s n 1 60 (Done l (record q { pc = q.pc + sizes (load_of (variables.found vs name)) }) m map st 0) (omega arith) reaches)

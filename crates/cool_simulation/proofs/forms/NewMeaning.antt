@@ -102,12 +102,17 @@ object_made p calls c st n =
 
 -- which of the four it is
 
-pub make_plain : (p : List Class) (calls : Calls) (c : ClassId) → MayInherit c → make p calls (Some c) ≡ working 1 (holding (length (chain p c)) (spend (new_object p calls c)))
-make_plain p calls c may =
+pub plain_number : (c : ClassId) → MayInherit c → ((c.0 == 2) ≡ false) × ((c.0 == 3) ≡ false) × ((c.0 == 4) ≡ false)
+plain_number c may =
     let no_int = may.no_int in let no_bool = may.no_bool in let no_string = may.no_string in
     let e2 : (c.0 == 2) ≡ false = grind arith in
     let e3 : (c.0 == 3) ≡ false = grind arith in
     let e4 : (c.0 == 4) ≡ false = grind arith in
+    (e2, e3, e4)
+
+pub make_plain : (p : List Class) (calls : Calls) (c : ClassId) → MayInherit c → make p calls (Some c) ≡ working 1 (holding (length (chain p c)) (spend (new_object p calls c)))
+make_plain p calls c may =
+    let (e2, e3, e4) = plain_number c may in
     by (c.0 == 2) (c.0 == 3) (c.0 == 4) e2 e3 e4
   where
     last : Computation Value

@@ -20,12 +20,13 @@ use Rattle.cool_layout.specs.LinesOfLayout.{new_fields}
 use Rattle.cool_layout.specs.Labels.{prototype, initializer, dispatch_table}
 use Rattle.cool_meaning.specs.Values.{Value, State}
 use Rattle.cool_meaning.specs.Lookups.{attributes}
-use Rattle.cool_meaning.specs.Evaluation.{Calls}
+use Rattle.cool_meaning.specs.Evaluation.{Call, Calls, Initials}
 use Rattle.cool_meaning.proofs.FittingValues.{AllFit}
 use Rattle.cool_meaning.proofs.FittingValues as fitting
-use Rattle.cool_simulation.specs.Loadings.{Loading, IsLoaded, item_word}
+use Rattle.cool_simulation.specs.Loadings.{Loading, IsLoaded, item_word, Watched}
 use Rattle.cool_simulation.specs.Pictures.{Map, Pic, Pictures, Kept, Grown, Shows}
 use Rattle.cool_simulation.specs.Simulation.{Runs, Room, Called, Done, CallsCorrect}
+use Rattle.cool_simulation.specs.Visits.{Visit, Visits}
 use Rattle.cool_simulation.proofs.ground.PicturesStay.{kept_then, grown_then}
 use Rattle.cool_simulation.proofs.ground.PartsOfRuns.{run_as}
 use Rattle.cool_simulation.proofs.ground.DataHere.{fields_pic, fields_count, prototype_here}
@@ -163,12 +164,13 @@ module _ (l : Loading) (is : IsLoaded l) where
           fits = stored.store;
         }
 
-    module _ (calls : Calls) (n : ℕ) (correct : CallsCorrect l calls n) where
+    module _ (calls : Calls) (begun_in : Call → Visits) (n : ℕ) (correct : CallsCorrect l calls begun_in n) where
       -- the initializer runs on the copy
       pub initializes : (ra : ℕ) (u : Machine) → ra < 4294967296 → At l.world (entry q c ra) (copy_of m q c) console u → Room l (entry q c ra) (12 * length (chain l.table c)) (made_call l.table calls c st n)
+          → ((x : Visit) → begun_in (Initials c (made_object l.table c st)) st1 n x → Watched l.watch x)
           → Runs l u n (64 * (made_call l.table calls c st n).work + 20 * length (chain l.table c))
           (λ v. Done l (record q { pc = ra }) m map st (4 + length (attributes l.table c) + (made_call l.table calls c st n).words) (made_object l.table c st)) (made_call l.table calls c st n).outcome
-      initializes ra u low at room =
+      initializes ra u low at room watched =
           let typed = is.buildable.typed in
           let laid = l.world.laid in
           let numbers' = at.numbers in
@@ -178,4 +180,4 @@ module _ (l : Loading) (is : IsLoaded l) where
           let stored = object_stored l.table typed made c st within plain making.fits in
           run_as l (made_call l.table calls c st n).outcome u n _ _ _
           (λ v t z d. initialized (copy_of m q c) (q.gp + 4 * size_of c + 4) ra (made_call l.table calls c st n).words t z (omega arith) before.sp_even copy d)
-          (correct.initials c (made_object l.table c st) c stored.world (entry q c ra) (copy_of m q c) map1 console st1 u n (omega arith) within (below_itself l.table typed.whole c within) (initializer_called ra u low at) refl room)
+          (correct.initials c (made_object l.table c st) c stored.world (entry q c ra) (copy_of m q c) map1 console st1 u n (omega arith) within (below_itself l.table typed.whole c within) (initializer_called ra u low at) refl room watched)

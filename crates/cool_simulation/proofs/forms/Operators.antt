@@ -32,6 +32,7 @@ use Rattle.cool_simulation.proofs.ground.FlagWalks.{passes_on}
 use Rattle.cool_simulation.proofs.ground.PartsOfRuns.{run_after}
 use Rattle.cool_simulation.proofs.ground.PartsBehind.{Gone}
 use Rattle.cool_simulation.proofs.forms.ExactResults.{exact_runs, refused, ends_by_zero}
+use Rattle.cool_simulation.proofs.ground.Passages.{passes}
 
 -- What the flags say
 
@@ -142,9 +143,10 @@ module _ (l : Loading) (loaded : IsLoaded l) (c : ClassId) (f : ℕ) (at : Place
           → Runs l s left (64 * ((if z then stop (DivisionByZero at) else exact at (int_div x y)) t left).work + 48) (Done l (record q { pc = final }) m0 map0 st whole)
           ((if z then stop (DivisionByZero at) else exact at (int_div x y)) t left).outcome
       by true none sum heap way =
-          next w s 1 23 48 _ _ test (omega arith)
+          passes l s 0 48 _
+          (next w s 1 23 48 _ _ test (omega arith)
           (λ u tested. refused l loaded (DivisionByZero at) at some_label div_abort (record q1 { pc = pc + 4 }) m map console t _ u (ends_by_zero l loaded at small) small has (has_front w ends (divide_lines ++ ints) (pc + 4) behind)
-          (record { at = tested.both.at; t0_is = tested.t0_is }) (one_flag (word_of y) (none_word y none)) shows pictures)
+          (record { at = tested.both.at; t0_is = tested.t0_is }) (one_flag (word_of y) (none_word y none)) shows pictures))
       by false some sum heap way =
           let r : Metered Value = exact at (int_div x y) t left in
           let says = quotient_flags x y hx hy some in

@@ -7,17 +7,16 @@ use Rattle.cool_classes.specs.declared.class_id.ClassId.{ClassId}
 use Rattle.cool_runtime.specs.Reaches.{Reaches, stands}
 use Rattle.cool_runtime.specs.Contents.{Same}
 use Rattle.cool_runtime.specs.Machines.{At, Pointers, Console}
-use Rattle.cool_runtime.proofs.Runs.{wider}
-use Rattle.cool_runtime.proofs.Runs as runs
 use Rattle.cool_meaning.specs.Values.{Value, State}
 use Rattle.cool_meaning.specs.Meters.{Metered, join}
 use Rattle.cool_meaning.proofs.FittingValues as fitting
 use Rattle.cool_simulation.specs.Loadings.{Loading}
 use Rattle.cool_simulation.specs.Pictures.{Map, Pic, Shows}
-use Rattle.cool_simulation.specs.Simulation.{Done, Runs}
-use Rattle.cool_simulation.proofs.ground.PartsOfRuns.{run_wider}
+use Rattle.cool_simulation.specs.Simulation.{Done, Runs, Passes}
+use Rattle.cool_simulation.proofs.ground.PartsOfRuns.{run_wider, stands_as}
 use Rattle.cool_simulation.proofs.forms.Received.{Received}
 use Rattle.cool_simulation.proofs.ground.PicturesStay.{kept_same, not_grown, pictures_same, pictures_console, pictures_higher}
+use Rattle.cool_simulation.proofs.ground.Passages.{passes, passes_weaker, passes_wider}
 
 -- what the routine of a basic method comes to, within what a dispatch leaves to it
 abbrev pub RoutineRuns : Loading → List Value → Pointers → Bytes → Map → State → Machine → ℕ → Metered Value → Type 0
@@ -64,5 +63,5 @@ module _ (l : Loading) where
   same_memory m gp sp = record { below = λ a h. refl; over = λ a h. refl }
 
   -- a routine's end, and what it is
-  pub reaches_as : (s : Machine) (n a most : ℕ) (P Q : Machine → Type 0) → a ≤ most → Reaches l.world s 0 a (stands P) → ((t : Machine) → P t → Q t) → Reaches l.world s (n - n) most (stands Q)
-  reaches_as s n a most P Q le h as' = wider l.world s (0 + 0) (n - n) (a + 0) most (stands Q) (omega arith) (omega arith) (runs.then l.world s 0 a 0 0 P (stands Q) h (λ t p. runs.here l.world t (stands Q) (as' t p)))
+  pub passes_as : (s : Machine) (n a most : ℕ) (P Q : Machine → Type 0) → a ≤ most → Reaches l.world s 0 a (stands P) → ((t : Machine) → P t → Q t) → Passes l s (n - n) most (stands Q)
+  passes_as s n a most P Q le h as' = passes_wider l s 0 (n - n) a most (stands Q) (omega arith) le (passes_weaker l s 0 a (stands P) (stands Q) (stands_as P Q as') (passes l s 0 a (stands P) h))

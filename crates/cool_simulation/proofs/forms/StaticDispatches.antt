@@ -1,5 +1,5 @@
 -- Static dispatch does what it means.
-use Rattle.std.proofs.Common.{◌≡◌, ℕ, ◌+◌, ◌-◌, ◌*◌, ◌<◌, ◌≤◌, List, [], ◌∷◌, ◌++◌, length, get_or, map as each, Option, Some, refl, sym, ap, ◌∙◌, subst, arith}
+use Rattle.std.proofs.Common.{◌≡◌, ℕ, ◌+◌, ◌-◌, ◌*◌, ◌<◌, ◌≤◌, List, [], ◌∷◌, ◌++◌, length, get_or, map as each, Option, Some, refl, sym, ap, ◌∙◌, subst, arith, inr}
 use Rattle.std.specs.Prelude.{Contains}
 use Rattle.std.proofs.lemmas.List.Elements.{Contains-append_left, Contains-append_right}
 use Rattle.mips_isa.specs.declared.address_map.TheConstants.{HEAP_START}
@@ -43,14 +43,15 @@ use Rattle.cool_codegen.specs.Asked.{integers_in, integers_in_all, strings_in, s
 use Rattle.cool_codegen.specs.Asked as asked
 use Rattle.cool_meaning.specs.Values.{Value, State, Environment, class_of}
 use Rattle.cool_meaning.specs.Meters.{◌>>=◌, given}
-use Rattle.cool_meaning.specs.Evaluation.{Calls, dispatch}
+use Rattle.cool_meaning.specs.Evaluation.{Call, Calls, dispatch}
 use Rattle.cool_meaning.proofs.FittingValues.{AllFit, meant, below_conforming}
 use Rattle.cool_meaning.proofs.FittingValues as fitting
 use Rattle.cool_meaning.proofs.MethodsOfTables.{implementation_own, formals_are_classes}
 use Rattle.cool_meaning.proofs.SoundParts.{AllCallsSound, arguments_fit}
-use Rattle.cool_simulation.specs.Loadings.{Loading, IsLoaded, constants, context}
+use Rattle.cool_simulation.specs.Loadings.{Loading, IsLoaded, constants, context, whole}
 use Rattle.cool_simulation.specs.Pictures.{Map}
 use Rattle.cool_simulation.specs.Simulation.{Done, Runs, CodeAt, AllCodeAt, Correct, AllCorrect, AllCallsCorrect}
+use Rattle.cool_simulation.specs.Visits.{Visits, behind, dispatched as dispatch_begun}
 use Rattle.cool_rules.proofs.StaticTypesAreGiven.{method_found, class_is, method_is as method_named}
 use Rattle.cool_simulation.proofs.forms.CallLines.{AtPlace, goes_static}
 use Rattle.cool_simulation.proofs.forms.ReceiverHeads.{has_head}
@@ -62,8 +63,11 @@ use Rattle.cool_simulation.proofs.ground.PartsOfRuns.{run_wider}
 use Rattle.cool_simulation.proofs.forms.Invoking.{dispatched}
 use Rattle.cool_simulation.proofs.forms.CallForms.{file_of, CallRuns, form_runs}
 use Rattle.cool_emit.proofs.TextOfCode.{count_low}
+use Rattle.cool_simulation.proofs.ground.Passages.{quiet}
+use Rattle.cool_codegen.specs.Spans.{arguments_spans, span, spans}
+use Rattle.cool_simulation.proofs.ground.CodeOfParts.{in_rest, own_placed}
 
-module _ (l : Loading) (loaded : IsLoaded l) (basics : BasicCorrect l) (calls : Calls) (b : ℕ) (later : CallsLater calls) (sound : AllCallsSound l.table calls b) (correct : AllCallsCorrect l calls b) where
+module _ (l : Loading) (loaded : IsLoaded l) (basics : BasicCorrect l) (calls : Calls) (begun_in : Call → Visits) (b : ℕ) (later : CallsLater calls) (sound : AllCallsSound l.table calls b) (correct : AllCallsCorrect l calls begun_in b) where
   -- there is no other method than the one that typing found
   one_method : (c x : ClassId) → c.0 < length l.table → x.0 < length l.table → (name : List ℕ) (receiver type : Ty) (given' : List Ty) → (call : IsCall l.table c x name receiver given' type) → (method : MethodRef)
       → implementation l.table (chain l.table x) name ≡ Some method → call.method ≡ method
@@ -107,9 +111,10 @@ module _ (l : Loading) (loaded : IsLoaded l) (basics : BasicCorrect l) (calls : 
       → c.0 < length l.table → x.0 < length l.table → HasLines l.world pc2 (la 24 (file_of l loaded at) ∷ li 25 at.line ∷ bne 4 0 ∷ j dispatch_abort ∷ jal label ∷ []) → pc2 + 28 ≡ pc3
       → Conforms l.table c receiver (IsClass x) → (call : IsCall l.table c x name receiver given' type) → label ≡ method_label l.table call.method
       → Contains (constants l).strings (get_or l.files at.file []) → at.line < 2147483648
-      → CallRuns l loaded calls b later sound c k self scope env q pc2 pc3 receiver given' (λ args v j. given (Some x) >>= λ y. dispatch l.table calls at y name v args)
+      → CallRuns l loaded calls begun_in b later sound c k self scope env q pc2 pc3 receiver given' (λ args v j. given (Some x) >>= λ y. dispatch l.table calls at y name v args)
+      (λ args v j. behind (given (Some x)) (λ y. dispatch_begun l.table calls begun_in y name v args))
   static_call at name c k x self scope env q pc2 pc3 label receiver given' type c_within x_within has pc3_is conforms call label_is among small =
-      λ args v j made gp acc ra m map console st s n is within below fits le scene received heap stack way.
+      λ args v j made gp acc ra m map console st s n is within below fits le scene received heap stack way watched.
       let p = l.table in
       let typed = loaded.buildable.typed in
       let below_x : Below p j x = below_trans p j (class_meant k receiver) x below (below_conforming p typed c k scene.k_within scene.below receiver (IsClass x) conforms) in
@@ -119,21 +124,23 @@ module _ (l : Loading) (loaded : IsLoaded l) (basics : BasicCorrect l) (calls : 
       let none : r.words ≡ 0 + r.words = omega arith in
       run_wider l r.outcome s n (64 * r.work + 60) (64 * (0 + r.work) + 60) _ (omega arith)
       (subst (λ (w : ℕ). Runs l s n (64 * r.work + 60) (Done l (record q { pc = pc3; gp = gp; sp = q.sp - 4 * length args + 4 * length args; acc = acc; ra = pc3 }) m map st w) r.outcome) none
-      (dispatched l loaded basics calls b correct at v j x args made q2 m map console st s n pc3 name (file_of l loaded at) (implementation p (chain p x) name) refl le (let low = has.0.words.0.low in omega arith) x_within below_x
+      (dispatched l loaded basics calls begun_in b correct at v j x args made q2 m map console st s n pc3 name (file_of l loaded at) (implementation p (chain p x) name) refl le (let low = has.0.words.0.low in omega arith) x_within below_x
       (λ method found. arguments_here c k j x made args given' name receiver type scene.k_within scene.below x_within fits call method found) received
       (λ method found. goes_by_label at name c x q pc2 pc3 label receiver given' type c_within x_within small has pc3_is call label_is args v j made gp acc ra m map console st s is received method found)
-      (string_pic l loaded m map st gp (q.sp - 4 * length args) from received.pictures (get_or l.files at.file []) among).0 small (omega arith) (omega arith) way))
+      (string_pic l loaded m map st gp (q.sp - 4 * length args) from received.pictures (get_or l.files at.file []) among).0 small (omega arith) (omega arith) way (λ y h. watched y (x, st, n, refl, h))))
 
   -- the parts of its code
 
   pub arguments_code_at : (at : Place) (c : ClassId) (f : ℕ) (vs : List Named) (d first pc : ℕ) (name : List ℕ) (class : TypeRef) (t : Tree) (ts : Trees) → CodeAt l c f vs d first pc (trees.StaticDispatch at t class name ts)
       → AllCodeAt l c f vs d (first + tree_size t) pc ts
   arguments_code_at at c f vs d first pc name class t ts code_at = record {
-    lines = has_front l.world (arguments_code (context l c f) (constants l) vs d (first + tree_size t) ts) _ pc code_at.lines;
+    lines = has_front (whole l) (arguments_code (context l c f) (constants l) vs d (first + tree_size t) ts) _ pc code_at.lines;
     integers = λ n there. code_at.integers n (Contains-append_left (integers_in_all ts) (integers_in t) n there);
     strings = λ bytes there. code_at.strings bytes (Contains-append_left (strings_in_all l.files ts) (strings_in l.files t ++ asked.file_of l.files at) bytes there);
     within = code_at.within.4;
     small = (let z = code_at.small in omega arith);
+    spans = λ x h. code_at.spans x (in_rest (span vs d first pc (trees.StaticDispatch at t class name ts)) (arguments_spans sizes (context l c f) (constants l) vs d (first + tree_size t) pc ts ++ spans sizes (context l c f) (constants l) vs (d + trees_count ts) first (pc + sizes (arguments_code (context l c f) (constants l) vs d (first + tree_size t) ts)) t) x (Contains-append_left (arguments_spans sizes (context l c f) (constants l) vs d (first + tree_size t) pc ts) (spans sizes (context l c f) (constants l) vs (d + trees_count ts) first (pc + sizes (arguments_code (context l c f) (constants l) vs d (first + tree_size t) ts)) t) x h));
+    pushes = (own_placed l c f vs d first pc (trees.StaticDispatch at t class name ts) code_at).quiet.0;
   }
 
   receiver_code_at : (at : Place) (c : ClassId) (f : ℕ) (vs : List Named) (d first pc : ℕ) (name : List ℕ) (class : TypeRef) (t : Tree) (ts : Trees) → CodeAt l c f vs d first pc (trees.StaticDispatch at t class name ts)
@@ -141,12 +148,13 @@ module _ (l : Loading) (loaded : IsLoaded l) (basics : BasicCorrect l) (calls : 
   receiver_code_at at c f vs d first pc name class t ts code_at = record {
     lines =
         let la = arguments_code (context l c f) (constants l) vs d (first + tree_size t) ts in
-        has_front l.world (code (context l c f) (constants l) vs (d + trees_count ts) first t) _ (pc + sizes la) (has_back l.world la _ pc (pc + sizes la) refl code_at.lines);
+        has_front (whole l) (code (context l c f) (constants l) vs (d + trees_count ts) first t) _ (pc + sizes la) (has_back (whole l) la _ pc (pc + sizes la) refl code_at.lines);
     integers = λ n there. code_at.integers n (Contains-append_right (integers_in_all ts) (integers_in t) n there);
     strings = λ bytes there. code_at.strings bytes
         (Contains-append_right (strings_in_all l.files ts) (strings_in l.files t ++ asked.file_of l.files at) bytes (Contains-append_left (strings_in l.files t) (asked.file_of l.files at) bytes there));
     within = code_at.within.1;
     small = (let z = code_at.small in let few = count_low ts in omega arith);
+    spans = λ x h. code_at.spans x (in_rest (span vs d first pc (trees.StaticDispatch at t class name ts)) (arguments_spans sizes (context l c f) (constants l) vs d (first + tree_size t) pc ts ++ spans sizes (context l c f) (constants l) vs (d + trees_count ts) first (pc + sizes (arguments_code (context l c f) (constants l) vs d (first + tree_size t) ts)) t) x (Contains-append_right (arguments_spans sizes (context l c f) (constants l) vs d (first + tree_size t) pc ts) (spans sizes (context l c f) (constants l) vs (d + trees_count ts) first (pc + sizes (arguments_code (context l c f) (constants l) vs d (first + tree_size t) ts)) t) x h));
   }
 
   file_among : (at : Place) (c : ClassId) (f : ℕ) (vs : List Named) (d first pc : ℕ) (name : List ℕ) (class : TypeRef) (t : Tree) (ts : Trees) → CodeAt l c f vs d first pc (trees.StaticDispatch at t class name ts)
@@ -163,9 +171,9 @@ module _ (l : Loading) (loaded : IsLoaded l) (basics : BasicCorrect l) (calls : 
   unfolding call_static_lines
   call_sizes file line label = refl
 
-  pub static_dispatch_correct : (at : Place) (t : Tree) (class : TypeRef) (name : List ℕ) (ts : Trees) → Correct l calls b t → AllCorrect l calls b ts → Correct l calls b (trees.StaticDispatch at t class name ts)
+  pub static_dispatch_correct : (at : Place) (t : Tree) (class : TypeRef) (name : List ℕ) (ts : Trees) → Correct l calls begun_in b t → AllCorrect l calls begun_in b ts → Correct l calls begun_in b (trees.StaticDispatch at t class name ts)
   static_dispatch_correct at t class name ts head tail = record {
-    runs = λ c f k self scope vs env made d first q m map console st s n type le begins (receiver, given', K, has, have, denotes, conforms, call) code_at room.
+    runs = λ c f k self scope vs env made d first q m map console st s n type le begins (receiver, given', K, has, have, denotes, conforms, call) code_at room watched.
         let p = l.table in
         let typed = loaded.buildable.typed in
         let scene = begins.scene in
@@ -181,16 +189,20 @@ module _ (l : Loading) (loaded : IsLoaded l) (basics : BasicCorrect l) (calls : 
         let label_is : label ≡ method_label p call.method =
         ap (λ (x : ClassId). method_label p (method_in p x name)) K_is ∙ ap (method_label p) (method_named p typed.whole c scene.c_within K denotes.0 name call.method call.found) in
         let lc : List Line = call_static_lines file at.line label in
-        let has_lines : HasLines l.world pc2 lc = has_back l.world lb lc pc1 pc2 refl (has_back l.world la (lb ++ lc) q.pc pc1 refl code_at.lines) in
+        let sum_la = sizes_append l.world la (lb ++ lc) in
+        let sum_lb = sizes_append l.world lb lc in
+        let has_lines : HasLines l.world pc2 lc =
+        quiet l lc pc2 pc3 (omega arith) (own_placed l c f vs d first q.pc (trees.StaticDispatch at t class name ts) code_at).quiet.1 (has_back (whole l) lb lc pc1 pc2 refl (has_back (whole l) la (lb ++ lc) q.pc pc1 refl code_at.lines)) in
         let lines = as_lines pc2 file at.line label has_lines in
         let sum : pc2 + 28 ≡ pc3 = omega (arith, sizes_append l.world la (lb ++ lc), sizes_append l.world lb lc, call_sizes file at.line label) in
         let among = file_among at c f vs d first q.pc name class t ts code_at in
         let small : at.line < 2147483648 = (let z = code_at.within.0.1 in omega arith) in
         let named : class_named p class.name ≡ Some K = class_by_name p typed.whole.table K class.name denotes.0 denotes.1 in
-        form_runs l loaded calls b later sound at t ts (jal label ∷ []) (λ args v j. given (class_named p class.name) >>= λ y. dispatch p calls at y name v args)
+        form_runs l loaded calls begun_in b later sound at t ts (jal label ∷ []) (λ args v j. given (class_named p class.name) >>= λ y. dispatch p calls at y name v args)
+        (λ args v j. behind (given (class_named p class.name)) (λ y. dispatch_begun p calls begun_in y name v args))
         (λ args v j. bind_later (given_later (class_named p class.name)) (λ y. dispatch_later p calls later at y name v args)) head tail
         c f k self scope vs env made d first q m map console st s n receiver given' pc1 pc2 pc3 le begins has have (arguments_code_at at c f vs d first q.pc name class t ts code_at) refl
         (receiver_code_at at c f vs d first q.pc name class t ts code_at) refl lines among small
-        (subst (λ (o : Option ClassId). CallRuns l loaded calls b later sound c k self scope env q pc2 pc3 receiver given' (λ args v j. given o >>= λ y. dispatch p calls at y name v args)) (sym named)
-        (static_call at name c k K self scope env q pc2 pc3 label receiver given' type scene.c_within denotes.0 lines sum conforms call label_is among small)) room;
+        (subst (λ (o : Option ClassId). CallRuns l loaded calls begun_in b later sound c k self scope env q pc2 pc3 receiver given' (λ args v j. given o >>= λ y. dispatch p calls at y name v args) (λ args v j. behind (given o) (λ y. dispatch_begun p calls begun_in y name v args))) (sym named)
+        (static_call at name c k K self scope env q pc2 pc3 label receiver given' type scene.c_within denotes.0 lines sum conforms call label_is among small)) room (λ x h. watched x (inr h));
   }

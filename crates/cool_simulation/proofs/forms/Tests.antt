@@ -1,5 +1,5 @@
 -- The code of `not` and of `isvoid` does what they mean.
-use Rattle.std.proofs.Common.{◌≡◌, ℕ, ◌+◌, ◌*◌, ◌≤◌, List, ◌++◌, refl, ap, subst, arith, not}
+use Rattle.std.proofs.Common.{◌≡◌, ℕ, ◌+◌, ◌*◌, ◌≤◌, List, ◌++◌, refl, ap, subst, arith, not, inr}
 use Rattle.std.specs.Prelude.{Bool as Truth, true, false, nat_lt}
 use Rattle.mips_isa.specs.Bytes.{Bytes}
 use Rattle.mips_isa.specs.Machine.{flag}
@@ -19,21 +19,24 @@ use Rattle.cool_codegen.specs.Code.{code, truth_label, bool_code}
 use Rattle.cool_meaning.specs.Values.{Value, Void, Int, Bool, Str, Obj, State}
 use Rattle.cool_meaning.specs.Meters.{give, ◌>>=◌}
 use Rattle.cool_meaning.specs.BasicMethods.{as_truth}
-use Rattle.cool_meaning.specs.Evaluation.{Calls, eval, is_void}
+use Rattle.cool_meaning.specs.Evaluation.{Call, Calls, eval, is_void}
 use Rattle.cool_meaning.proofs.SoundParts.{AllCallsSound}
 use Rattle.cool_rules.specs.Typing.{bool_type}
-use Rattle.cool_simulation.specs.Loadings.{Loading, IsLoaded, constants, context}
+use Rattle.cool_simulation.specs.Loadings.{Loading, IsLoaded, constants, context, whole}
 use Rattle.cool_simulation.specs.Pictures.{Map, Pic, Pictures, bit}
 use Rattle.cool_simulation.specs.Simulation.{Done, Correct}
+use Rattle.cool_simulation.specs.Visits.{Visits}
 use Rattle.cool_simulation.proofs.ground.OperatorWalks.{Flagged, complements, tests_void}
 use Rattle.cool_simulation.proofs.ground.FlagWalks.{flags}
 use Rattle.cool_simulation.proofs.ground.PartsOfRuns.{run_gives, truth_runs}
 use Rattle.cool_simulation.proofs.ground.EvaluationLater.{CallsLater, bind_later, give_later, truth_later}
 use Rattle.cool_simulation.proofs.ground.PartsBehind.{done_on}
-use Rattle.cool_simulation.proofs.ground.CodeOfParts.{asks_of, part_at}
+use Rattle.cool_simulation.proofs.ground.CodeOfParts.{asks_of, part_at, in_rest, own_placed}
 use Rattle.cool_simulation.proofs.ground.FirstParts.{rule_runs}
 use Rattle.cool_simulation.proofs.ground.DataHere.{truth_pic}
 use Rattle.cool_simulation.proofs.forms.Operators.{no_flag}
+use Rattle.cool_simulation.proofs.ground.Passages.{quiet}
+use Rattle.cool_codegen.specs.Spans.{span, spans}
 
 not_flag : (x : Truth) → flag (nat_lt (bit x) 1) ≡ flag (not x)
 not_flag true = refl
@@ -60,13 +63,14 @@ module _ (l : Loading) (loaded : IsLoaded l) where
       (subst (λ y. At l.world (record q { pc = y; gp = j.gp; acc = l.world.place (truth_label x); ra = j.ra }) j.memory j.console u2) e there)
       (truth_pic l loaded j.memory j.map' t j.gp q.sp numbers.gp_from j.pictures x)))
 
-module _ (l : Loading) (loaded : IsLoaded l) (calls : Calls) (b : ℕ) (sound : AllCallsSound l.table calls b) (later : CallsLater calls) where
-  pub not_correct : (at : Place) (t : Tree) → Correct l calls b t → Correct l calls b (trees.Not at t)
+module _ (l : Loading) (loaded : IsLoaded l) (calls : Calls) (begun_in : Call → Visits) (b : ℕ) (sound : AllCallsSound l.table calls b) (later : CallsLater calls) where
+  pub not_correct : (at : Place) (t : Tree) → Correct l calls begun_in b t → Correct l calls begun_in b (trees.Not at t)
   unfolding complement_lines flag_lines
   not_correct at t correct = record {
-    runs = λ c f k self scope vs env made d first q m map console st s n type less begins has code_at room.
+    runs = λ c f k self scope vs env made d first q m map console st s n type less begins has code_at room watched.
         let small = code_at.small in
         let w = l.world in
+        let o = whole l in
         let mine = code (context l c f) (constants l) vs d first t in
         let end_lines = bool_code (context l c f) (root first (trees.Not at t)) in
         let pc1 = q.pc + sizes mine in
@@ -74,10 +78,15 @@ module _ (l : Loading) (loaded : IsLoaded l) (calls : Calls) (b : ℕ) (sound : 
         let F = λ (v : Value). as_truth v >>= λ x. give (Bool (not x)) in
         let whole = (eval l.table calls self env (trees.Not at t) st n).words in
         let L = Done l (record q { pc = pc2 }) m map st whole in
-        let h1 : HasLines w pc1 (complement_lines ++ end_lines) = has_back w mine (complement_lines ++ end_lines) q.pc pc1 refl code_at.lines in
+        let free = (own_placed l c f vs d first q.pc (trees.Not at t) code_at).quiet in
+        let own = span vs d first q.pc (trees.Not at t) in
+        let at_t = spans sizes (context l c f) (constants l) vs d first q.pc t in
+        let h1 : HasLines w pc1 (complement_lines ++ end_lines) =
+        quiet l (complement_lines ++ end_lines) pc1 pc2 (let h = sizes_append w mine (complement_lines ++ end_lines) in omega arith) free (has_back o mine (complement_lines ++ end_lines) q.pc pc1 refl code_at.lines) in
         let h2 : HasLines w (pc1 + 8) end_lines = has_back w complement_lines end_lines pc1 (pc1 + 8) refl h1 in
-        rule_runs l loaded calls b sound c f k self scope vs env made d first q m map console st s n less begins t bool_type correct has.0
-        (part_at l c f vs d first q.pc t (has_front w mine (complement_lines ++ end_lines) q.pc code_at.lines) (asks_of l c f vs d first q.pc (trees.Not at t) code_at) code_at.within.1 (omega arith))
+        rule_runs l loaded calls begun_in b sound c f k self scope vs env made d first q m map console st s n less begins t bool_type correct has.0
+        (part_at l c f vs d first q.pc t (has_front o mine (complement_lines ++ end_lines) q.pc code_at.lines) (asks_of l c f vs d first q.pc (trees.Not at t) code_at) code_at.within.1 (omega arith)
+        (λ x h. code_at.spans x (in_rest own at_t x h))) (λ x h. watched x (inr h))
         F L (λ v. bind_later (truth_later v) (λ x. give_later (Bool (not x)))) room
         (λ v t1 left u e j x sum rest. truth_runs l v (λ x. give (Bool (not x))) u t1 left 60 q 16 _ L rest (λ y is same rest2.
         let q1 : Pointers = record q { pc = pc1; gp = j.gp; acc = j.acc; ra = j.ra } in
@@ -88,12 +97,13 @@ module _ (l : Loading) (loaded : IsLoaded l) (calls : Calls) (b : ℕ) (sound : 
         (subst (λ z. Flagged w (record q1 { pc = pc1 + 8 }) j.memory j.console z u2) (not_flag y) flagged) (let h = sizes_append w mine (complement_lines ++ end_lines) in omega arith)))));
   }
 
-  pub is_void_correct : (at : Place) (t : Tree) → Correct l calls b t → Correct l calls b (trees.IsVoid at t)
+  pub is_void_correct : (at : Place) (t : Tree) → Correct l calls begun_in b t → Correct l calls begun_in b (trees.IsVoid at t)
   unfolding is_void_lines flag_lines
   is_void_correct at t correct = record {
-    runs = λ c f k self scope vs env made d first q m map console st s n type less begins has code_at room.
+    runs = λ c f k self scope vs env made d first q m map console st s n type less begins has code_at room watched.
         let small = code_at.small in
         let w = l.world in
+        let o = whole l in
         let mine = code (context l c f) (constants l) vs d first t in
         let end_lines = bool_code (context l c f) (root first (trees.IsVoid at t)) in
         let pc1 = q.pc + sizes mine in
@@ -101,10 +111,15 @@ module _ (l : Loading) (loaded : IsLoaded l) (calls : Calls) (b : ℕ) (sound : 
         let F = λ (v : Value). give (Bool (is_void v)) in
         let whole = (eval l.table calls self env (trees.IsVoid at t) st n).words in
         let L = Done l (record q { pc = pc2 }) m map st whole in
-        let h1 : HasLines w pc1 (is_void_lines ++ end_lines) = has_back w mine (is_void_lines ++ end_lines) q.pc pc1 refl code_at.lines in
+        let free = (own_placed l c f vs d first q.pc (trees.IsVoid at t) code_at).quiet in
+        let own = span vs d first q.pc (trees.IsVoid at t) in
+        let at_t = spans sizes (context l c f) (constants l) vs d first q.pc t in
+        let h1 : HasLines w pc1 (is_void_lines ++ end_lines) =
+        quiet l (is_void_lines ++ end_lines) pc1 pc2 (let h = sizes_append w mine (is_void_lines ++ end_lines) in omega arith) free (has_back o mine (is_void_lines ++ end_lines) q.pc pc1 refl code_at.lines) in
         let h2 : HasLines w (pc1 + 4) end_lines = has_back w is_void_lines end_lines pc1 (pc1 + 4) refl h1 in
-        rule_runs l loaded calls b sound c f k self scope vs env made d first q m map console st s n less begins t has.0 correct has.1
-        (part_at l c f vs d first q.pc t (has_front w mine (is_void_lines ++ end_lines) q.pc code_at.lines) (asks_of l c f vs d first q.pc (trees.IsVoid at t) code_at) code_at.within.1 (omega arith))
+        rule_runs l loaded calls begun_in b sound c f k self scope vs env made d first q m map console st s n less begins t has.0 correct has.1
+        (part_at l c f vs d first q.pc t (has_front o mine (is_void_lines ++ end_lines) q.pc code_at.lines) (asks_of l c f vs d first q.pc (trees.IsVoid at t) code_at) code_at.within.1 (omega arith)
+        (λ x h. code_at.spans x (in_rest own at_t x h))) (λ x h. watched x (inr h))
         F L (λ v. give_later (Bool (is_void v))) room
         (λ v t1 left u e j x sum rest.
         let q1 : Pointers = record q { pc = pc1; gp = j.gp; acc = j.acc; ra = j.ra } in

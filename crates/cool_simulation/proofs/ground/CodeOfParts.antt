@@ -1,16 +1,20 @@
 -- The code of a part stands where that of the whole does, with what the whole asks for.
-use Rattle.std.proofs.Common.{ℕ, ◌+◌, ◌≤◌, List, ◌++◌, length}
+use Rattle.std.proofs.Common.{ℕ, suc, ◌+◌, ◌≤◌, List, ◌∷◌, ◌++◌, length, refl, arith}
 use Rattle.std.specs.Prelude.{Contains}
 use Rattle.std.proofs.lemmas.List.Elements.{Contains-append_left, Contains-append_right}
+use Rattle.mips_isa.specs.Lines.{Line}
 use Rattle.cool_syntax.specs.Tree.{Tree, tree_size}
+use Rattle.cool_syntax.specs.Tree as trees
 use Rattle.cool_syntax.specs.TreesWithinLimits.{IsTreeWithin}
 use Rattle.cool_classes.specs.declared.class_id.ClassId.{ClassId}
-use Rattle.cool_runtime.specs.Standing.{HasLines}
+use Rattle.cool_runtime.specs.Standing.{HasLines, sizes}
 use Rattle.cool_codegen.specs.Variables.{Named}
-use Rattle.cool_codegen.specs.Code.{code}
+use Rattle.cool_codegen.specs.Code.{Context, code}
+use Rattle.cool_codegen.specs.Spans.{Span, span, spans}
+use Rattle.cool_consts.specs.Constants.{Constants}
 use Rattle.cool_codegen.specs.Asked.{integers_in, strings_in}
-use Rattle.cool_simulation.specs.Loadings.{Loading, constants, context}
-use Rattle.cool_simulation.specs.Simulation.{CodeAt}
+use Rattle.cool_simulation.specs.Loadings.{Loading, constants, context, whole}
+use Rattle.cool_simulation.specs.Simulation.{CodeAt, Placed}
 
 -- what a piece of code asks for is among the constants
 pub record Asks (l : Loading) (integers : List ℕ) (strings : List (List ℕ)) : Type 0 where
@@ -31,6 +35,35 @@ pub asks_of : (l : Loading) (c : ClassId) (f : ℕ) (vs : List Named) (d first p
 asks_of l c f vs d first pc t at = record { integers_there = at.integers; strings_there = at.strings }
 
 -- the code of a part
-pub part_at : (l : Loading) (c : ClassId) (f : ℕ) (vs : List Named) (d first pc : ℕ) (t : Tree) → HasLines l.world pc (code (context l c f) (constants l) vs d first t) → Asks l (integers_in t) (strings_in l.files t)
-    → IsTreeWithin (length l.files) t → d + tree_size t ≤ 8000 → CodeAt l c f vs d first pc t
-part_at l c f vs d first pc t lines asks within small = record { lines = lines; integers = asks.integers_there; strings = asks.strings_there; within = within; small = small }
+pub part_at : (l : Loading) (c : ClassId) (f : ℕ) (vs : List Named) (d first pc : ℕ) (t : Tree) → HasLines (whole l) pc (code (context l c f) (constants l) vs d first t) → Asks l (integers_in t) (strings_in l.files t)
+    → IsTreeWithin (length l.files) t → d + tree_size t ≤ 8000 → ((x : Span) → Contains (spans sizes (context l c f) (constants l) vs d first pc t) x → Placed l c f x) → CodeAt l c f vs d first pc t
+part_at l c f vs d first pc t lines asks within small placed = record { lines = lines; integers = asks.integers_there; strings = asks.strings_there; within = within; small = small; spans = placed }
+
+-- the span of a whole tree is the first of its spans
+pub own_span : (size : List Line → ℕ) (s : Context) (g : Constants) (vs : List Named) (d k pc : ℕ) (t : Tree) → Contains (spans size s g vs d k pc t) (span vs d k pc t)
+own_span size s g vs d k pc (trees.Id at name) = (0, omega arith, refl)
+own_span size s g vs d k pc (trees.Int at n) = (0, omega arith, refl)
+own_span size s g vs d k pc (trees.Str at bytes) = (0, omega arith, refl)
+own_span size s g vs d k pc (trees.Bool at x) = (0, omega arith, refl)
+own_span size s g vs d k pc (trees.Assign at name t) = (0, omega arith, refl)
+own_span size s g vs d k pc (trees.Dispatch at t name ts) = (0, omega arith, refl)
+own_span size s g vs d k pc (trees.StaticDispatch at t class name ts) = (0, omega arith, refl)
+own_span size s g vs d k pc (trees.If at t y n) = (0, omega arith, refl)
+own_span size s g vs d k pc (trees.While at t u) = (0, omega arith, refl)
+own_span size s g vs d k pc (trees.Block at ts) = (0, omega arith, refl)
+own_span size s g vs d k pc (trees.Let at name declared o t) = (0, omega arith, refl)
+own_span size s g vs d k pc (trees.Case at t cs) = (0, omega arith, refl)
+own_span size s g vs d k pc (trees.New at class) = (0, omega arith, refl)
+own_span size s g vs d k pc (trees.IsVoid at t) = (0, omega arith, refl)
+own_span size s g vs d k pc (trees.Arith at op t u) = (0, omega arith, refl)
+own_span size s g vs d k pc (trees.Neg at t) = (0, omega arith, refl)
+own_span size s g vs d k pc (trees.Compare at op t u) = (0, omega arith, refl)
+own_span size s g vs d k pc (trees.Not at t) = (0, omega arith, refl)
+
+-- it is one of the feature, whose pieces have no mark
+pub own_placed : (l : Loading) (c : ClassId) (f : ℕ) (vs : List Named) (d first pc : ℕ) (t : Tree) → CodeAt l c f vs d first pc t → Placed l c f (span vs d first pc t)
+own_placed l c f vs d first pc t at = at.spans (span vs d first pc t) (own_span sizes (context l c f) (constants l) vs d first pc t)
+
+-- the spans of a part are among those behind the whole's own
+pub in_rest : {A : Type 0} (own : A) (xs : List A) (x : A) → Contains xs x → Contains (own ∷ xs) x
+in_rest own xs x h = let less = h.1 in (suc h.0, omega arith, h.2)

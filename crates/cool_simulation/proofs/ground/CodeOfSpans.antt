@@ -19,7 +19,7 @@ use Rattle.cool_codegen.specs.Variables.{Named, bind}
 use Rattle.cool_syntax.specs.Falls.{one_le_size}
 use Rattle.cool_emit.proofs.TextOfCode.{count_low}
 use Rattle.lists.proofs.AllItems.{all_append}
-use Rattle.cool_simulation.specs.Loadings.{Loading, constants, context}
+use Rattle.cool_simulation.specs.Loadings.{Loading, constants, context, whole}
 use Rattle.cool_simulation.specs.Simulation.{CodeAt}
 use Rattle.cool_codegen.specs.Spans.{Span, spans, arguments_spans, items_spans, initial_spans, Spanned, with_branch, branches, along}
 use Rattle.cool_codegen.proofs.SpansStand.{span_stands}
@@ -167,16 +167,19 @@ module _ (files : List (List ℕ)) (I : ℕ → Type 0) (X : List ℕ → Type 0
 
 -- the code of each span of an expression stands where the span says, with what it asks for
 pub code_of_span : (l : Loading) (c : ClassId) (f : ℕ) (vs : List Named) (d first pc : ℕ) (t : Tree) (x : Span) → CodeAt l c f vs d first pc t
-    → Contains (spans sizes (context l c f) (constants l) vs d first pc t) x → CodeAt l c f x.scope x.depth x.first x.from x.tree
-code_of_span l c f vs d first pc t x h there =
+    → Contains (spans sizes (context l c f) (constants l) vs d first pc t) x
+    → ((y : Span) → Contains (spans sizes (context l c f) (constants l) x.scope x.depth x.first x.from x.tree) y → Contains (spans sizes (context l c f) (constants l) vs d first pc t) y)
+    → CodeAt l c f x.scope x.depth x.first x.from x.tree
+code_of_span l c f vs d first pc t x h there inside =
     let I : ℕ → Type 0 = λ n. Contains (constants l).integers n in
     let X : List ℕ → Type 0 = λ bytes. Contains (constants l).strings bytes in
     let all = spans_fit l.files I X sizes (context l c f) (constants l) vs d first pc t (record { integers = h.integers; strings = h.strings }) h.within h.small in
     let fit = All-contains (FitSpan l.files I X) (spans sizes (context l c f) (constants l) vs d first pc t) x (All-from_recursion _ (spans sizes (context l c f) (constants l) vs d first pc t) all) there in
     record {
-      lines = span_stands l.world (context l c f) (constants l) vs d first pc t x h.lines there;
+      lines = span_stands (whole l) (context l c f) (constants l) vs d first pc t x h.lines there;
       integers = fit.asked.integers;
       strings = fit.asked.strings;
       within = fit.within;
       small = fit.small;
+      spans = λ y k. h.spans y (inside y k);
     }

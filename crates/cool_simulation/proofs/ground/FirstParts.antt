@@ -13,19 +13,21 @@ use Rattle.cool_codegen.specs.Variables.{Named}
 use Rattle.cool_codegen.specs.Code.{code}
 use Rattle.cool_meaning.specs.Values.{Value, State, Environment}
 use Rattle.cool_meaning.specs.Meters.{Val, Computation, seq, rule, ◌>>=◌}
-use Rattle.cool_meaning.specs.Evaluation.{Calls, eval}
+use Rattle.cool_meaning.specs.Evaluation.{Call, Calls, eval}
 use Rattle.cool_meaning.proofs.FittingValues as fitting
 use Rattle.cool_meaning.proofs.SoundParts.{AllCallsSound}
-use Rattle.cool_simulation.specs.Loadings.{Loading, IsLoaded, constants, context}
+use Rattle.cool_simulation.specs.Loadings.{Loading, IsLoaded, Watched, constants, context}
 use Rattle.cool_simulation.specs.Pictures.{Map}
 use Rattle.cool_simulation.specs.Simulation.{Begins, Done, Correct, Runs, Room, CodeAt}
+use Rattle.cool_simulation.specs.Visits.{Visit, Visits, begun}
 use Rattle.cool_simulation.proofs.ground.PartsOfRuns.{run_wider, run_rule, bind_runs, room_ruled, room_less, Rest}
 use Rattle.cool_simulation.proofs.ground.EvaluationLater.{ComesLater}
 use Rattle.cool_simulation.proofs.ground.NextParts.{Next, next}
 
-module _ (l : Loading) (loaded : IsLoaded l) (calls : Calls) (b : ℕ) (sound : AllCallsSound l.table calls b) (c : ClassId) (f : ℕ) (k : ClassId) (self : Value) (scope : List Binding) (vs : List Named)
+module _ (l : Loading) (loaded : IsLoaded l) (calls : Calls) (begun_in : Call → Visits) (b : ℕ) (sound : AllCallsSound l.table calls b) (c : ClassId) (f : ℕ) (k : ClassId) (self : Value) (scope : List Binding) (vs : List Named)
     (env : Environment) (made : fitting.World) (d first : ℕ) (q : Pointers) (m : Bytes) (map : Map) (console : Console) (st : State) (s : Machine) (n : ℕ) (less : n ≤ b)
-    (begins : Begins l c k self scope vs env made d q m map console st s) (t : Tree) (type : Ty) (correct : Correct l calls b t) (has : HasType l.table c scope t type) (at : CodeAt l c f vs d first q.pc t) where
+    (begins : Begins l c k self scope vs env made d q m map console st s) (t : Tree) (type : Ty) (correct : Correct l calls begun_in b t) (has : HasType l.table c scope t type) (at : CodeAt l c f vs d first q.pc t)
+    (watched : (x : Visit) → begun l.table calls begun_in c f self env first t st n x → Watched l.watch x) where
   -- what follows a part that came to a value
   abbrev pub Following : {B : Type 0} → (Value → Computation B) → (B → State → Machine → Type 0) → ℕ → ℕ → Type 0
   Following F L besides extra =
@@ -43,7 +45,7 @@ module _ (l : Loading) (loaded : IsLoaded l) (calls : Calls) (b : ℕ) (sound : 
       let pc1 = q.pc + sizes (code (context l c f) (constants l) vs d first t) in
       let K = Done l (record q { pc = pc1 }) m map st r.words in
       bind_runs l r F s n extra q besides K L (λ v t1 left. (later v).later t1 left) room
-      (λ room1. run_wider l r.outcome s n (64 * r.work - 4) (64 * r.work) K (omega arith) (correct.runs c f k self scope vs env made d first q m map console st s n type less begins has at (room_less l q besides 0 r (omega arith) room1)))
+      (λ room1. run_wider l r.outcome s n (64 * r.work - 4) (64 * r.work) K (omega arith) (correct.runs c f k self scope vs env made d first q m map console st s n type less begins has at (room_less l q besides 0 r (omega arith) room1) watched))
       (λ v t1 left u e j sum rest. more v t1 left u e j (next l loaded calls b sound c k self t scope vs env made type d q m map console st t1 s u n left r.words pc1 v begins has less e j) sum rest)
 
   -- a rule that begins with a part

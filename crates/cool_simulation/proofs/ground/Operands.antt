@@ -18,13 +18,14 @@ use Rattle.cool_runtime.proofs.Words.{word_same}
 use Rattle.cool_codegen.specs.Variables.{Named}
 use Rattle.cool_codegen.specs.Code.{code}
 use Rattle.cool_meaning.specs.Values.{Value, State, Environment}
-use Rattle.cool_meaning.specs.Meters.{Computation, rule, ◌>>=◌}
-use Rattle.cool_meaning.specs.Evaluation.{Calls, eval}
+use Rattle.cool_meaning.specs.Meters.{Computation, rule, ◌>>=◌, Val}
+use Rattle.cool_meaning.specs.Evaluation.{Call, Calls, eval}
 use Rattle.cool_meaning.proofs.FittingValues as fitting
 use Rattle.cool_meaning.proofs.SoundParts.{AllCallsSound}
-use Rattle.cool_simulation.specs.Loadings.{Loading, IsLoaded, constants, context}
+use Rattle.cool_simulation.specs.Loadings.{Loading, IsLoaded, Watched, constants, context}
 use Rattle.cool_simulation.specs.Pictures.{Map, Pic, Pictures, Shows}
 use Rattle.cool_simulation.specs.Simulation.{Begins, Done, Correct, Runs, Room, CodeAt, Way}
+use Rattle.cool_simulation.specs.Visits.{Visit, Visits, begun}
 use Rattle.cool_simulation.proofs.ground.PartsOfRuns.{run_after, unless_stuck, way_of, room_rest}
 use Rattle.cool_simulation.proofs.ground.EvaluationLater.{CallsLater, ComesLater, bind_later, eval_later}
 use Rattle.cool_simulation.proofs.ground.PartsBehind.{Gone, gone_of, gone_same, gone_then, pic_gone, word_gone, push_same}
@@ -89,11 +90,13 @@ module _ (l : Loading) where
             (gone_then l.world j.memory m1 i.memory j.map' j.map' i.map' t1 t1 t2 j.gp j.gp i.gp q.sp (q.sp - 4) 0 b b (omega arith) even pushed gone2 (omega arith)) (omega arith);
       }
 
-module _ (l : Loading) (loaded : IsLoaded l) (calls : Calls) (b : ℕ) (sound : AllCallsSound l.table calls b) (later : CallsLater calls) (c : ClassId) (f : ℕ) (k : ClassId) (self : Value) (scope : List Binding) (vs : List Named)
+module _ (l : Loading) (loaded : IsLoaded l) (calls : Calls) (begun_in : Call → Visits) (b : ℕ) (sound : AllCallsSound l.table calls b) (later : CallsLater calls) (c : ClassId) (f : ℕ) (k : ClassId) (self : Value) (scope : List Binding) (vs : List Named)
     (env : Environment) (made : fitting.World) (d first : ℕ) (q : Pointers) (m : Bytes) (map : Map) (console : Console) (st : State) (s : Machine) (n : ℕ) (less : n ≤ b)
-    (begins : Begins l c k self scope vs env made d q m map console st s) (ta tb : Tree) (type type' : Ty) (correct : Correct l calls b ta) (correct' : Correct l calls b tb) (has : HasType l.table c scope ta type)
+    (begins : Begins l c k self scope vs env made d q m map console st s) (ta tb : Tree) (type type' : Ty) (correct : Correct l calls begun_in b ta) (correct' : Correct l calls begun_in b tb) (has : HasType l.table c scope ta type)
     (has' : HasType l.table c scope tb type') (at : CodeAt l c f vs d first q.pc ta) (lines : HasLines l.world (q.pc + sizes (code (context l c f) (constants l) vs d first ta)) push_lines)
-    (at' : CodeAt l c f vs (d + 1) (first + tree_size ta) (q.pc + sizes (code (context l c f) (constants l) vs d first ta) + 20) tb) where
+    (at' : CodeAt l c f vs (d + 1) (first + tree_size ta) (q.pc + sizes (code (context l c f) (constants l) vs d first ta) + 20) tb)
+    (watched : (x : Visit) → begun l.table calls begun_in c f self env first ta st n x → Watched l.watch x)
+    (watched' : (v : Value) (t : State) (left : ℕ) → (eval l.table calls self env ta st n).outcome ≡ Val v t left → (x : Visit) → begun l.table calls begun_in c f self env (first + tree_size ta) tb t left x → Watched l.watch x) where
   -- A rule of two operands, and what is done with their values.
   pub operands_run : {B : Type 0} (G : Value → Value → Computation B) (L : B → State → Machine → Type 0) → ((v w : Value) → ComesLater (G v w))
       → Room l q 0 (rule (eval l.table calls self env ta >>= λ v. eval l.table calls self env tb >>= λ w. G v w) st n)
@@ -110,7 +113,7 @@ module _ (l : Loading) (loaded : IsLoaded l) (calls : Calls) (b : ℕ) (sound : 
       let numbers = begins.at.numbers in
       let depth = begins.depth in
       let laid = l.world.laid in
-      rule_runs l loaded calls b sound c f k self scope vs env made d first q m map console st s n less begins ta type correct has at F L F_later room
+      rule_runs l loaded calls begun_in b sound c f k self scope vs env made d first q m map console st s n less begins ta type correct has at watched F L F_later room
       (λ v t1 left u e j x sum rest.
       let r = F v t1 left in
       unless_stuck l r.outcome u left (64 * r.work + 60) L (λ some.
@@ -126,8 +129,8 @@ module _ (l : Loading) (loaded : IsLoaded l) (calls : Calls) (b : ℕ) (sound : 
       run_after l r.outcome u left 8 (64 * r.work + 52) (64 * r.work + 60) (At l.world q2 m1 j.console) L (omega arith)
       (push l.world q1 j.memory j.console u (limits_of l loaded) lines j.at (omega arith) way1)
       (λ u2 there.
-      part_runs l loaded calls b sound c f k self scope vs env x.made' (d + 1) (first + tree_size ta) q2 m1 j.map' j.console t1 u2 left (omega arith)
-      (begins_pushed l loaded calls b sound c k self scope vs env x.made' d q1 j.memory j.map' j.console t1 u u2 (pc1 + 20) room1 x.begins there) tb type' correct' has' at' (λ w. G v w) L 12 52 (comes v)
+      part_runs l loaded calls begun_in b sound c f k self scope vs env x.made' (d + 1) (first + tree_size ta) q2 m1 j.map' j.console t1 u2 left (omega arith)
+      (begins_pushed l loaded calls b sound c k self scope vs env x.made' d q1 j.memory j.map' j.console t1 u u2 (pc1 + 20) room1 x.begins there) tb type' correct' has' at' (watched' v t1 left e) (λ w. G v w) L 12 52 (comes v)
       (room_rest l q q2 16 12 _ r used (omega arith) rest)
       (λ w t2 left2 u3 e2 i x2 sum2 rest2.
       let two = two_done l q m map st t1 t2 u u2 u3 _ _ pc1 (pc1 + 20) (pc1 + 20 + sizes (code (context l c f) (constants l) vs (d + 1) (first + tree_size ta) tb)) v w (omega arith) numbers.sp_even (omega arith) j room1 i in

@@ -4,7 +4,7 @@ use Rattle.std.specs.Prelude.{Bool as Truth, true, false}
 use Rattle.mips_isa.specs.Calls.{State as Machine}
 use Rattle.cool_runtime.specs.Reaches.{Reaches, stands, OnTheWay}
 use Rattle.cool_runtime.specs.Machines.{Pointers}
-use Rattle.cool_runtime.proofs.Runs.{wider, then, weaker}
+use Rattle.cool_runtime.proofs.Runs.{wider}
 use Rattle.mips_isa.specs.Calls.{Outcome as MachineOutcome, Running, Exited, Trapped}
 use Rattle.cool_meaning.specs.Values.{Value, Void, Int, Bool, Str, Obj, State}
 use Rattle.cool_meaning.specs.Meters.{Outcome, Val, Stop, On, Stuck, Metered, Computation, seq_of, seq, join, ◌>>=◌}
@@ -12,7 +12,8 @@ use Rattle.cool_meaning.specs.BasicMethods.{as_truth, as_number}
 use Rattle.cool_meaning.specs.SourceRun.{error_text}
 use Rattle.cool_meaning.proofs.Later.{Later, After}
 use Rattle.cool_simulation.specs.Loadings.{Loading}
-use Rattle.cool_simulation.specs.Simulation.{Runs, Way, Room}
+use Rattle.cool_simulation.specs.Simulation.{Passes, Runs, Way, Room}
+use Rattle.cool_simulation.proofs.ground.Passages.{passes, passes_then, passes_weaker, passes_wider}
 
 -- what is less than said of a state where the run goes on
 pub stands_as : (P Q : Machine → Type 0) → ((t : Machine) → P t → Q t) → (o : MachineOutcome) → stands P o → stands Q o
@@ -22,42 +23,55 @@ stands_as P Q as' (Trapped trap s) h = h
 
 module _ (l : Loading) where
   pub run_wider : {A : Type 0} (o : Outcome A) (s : Machine) (n a b : ℕ) (K : A → State → Machine → Type 0) → a ≤ b → Runs l s n a K o → Runs l s n b K o
-  run_wider (Val v t left) s n a b K le h = wider l.world s (n - left) (n - left) a b _ (omega arith) le h
-  run_wider (Stop e t) s n a b K le h = wider l.world s 0 0 a b _ (omega arith) le h
-  run_wider (On t) s n a b K le h = wider l.world s n n a b _ (omega arith) le h
+  run_wider (Val v t left) s n a b K le h = passes_wider l s (n - left) (n - left) a b _ (omega arith) le h
+  run_wider (Stop e t) s n a b K le h = passes_wider l s 0 0 a b _ (omega arith) le h
+  run_wider (On t) s n a b K le h = passes_wider l s n n a b _ (omega arith) le h
   run_wider Stuck s n a b K le h = tt
 
   pub run_as : {A : Type 0} (o : Outcome A) (s : Machine) (n a : ℕ) (K L : A → State → Machine → Type 0) → ((v : A) (t : State) (u : Machine) → K v t u → L v t u) → Runs l s n a K o → Runs l s n a L o
-  run_as (Val v t left) s n a K L as' h = weaker l.world s (n - left) a _ _ (stands_as (K v t) (L v t) (as' v t)) h
+  run_as (Val v t left) s n a K L as' h = passes_weaker l s (n - left) a _ _ (stands_as (K v t) (L v t) (as' v t)) h
   run_as (Stop e t) s n a K L as' h = h
   run_as (On t) s n a K L as' h = h
   run_as Stuck s n a K L as' h = tt
 
   -- a stretch, and what then runs
+  pub run_past : {A : Type 0} (o : Outcome A) (s : Machine) (n n1 a b total : ℕ) (P : Machine → Type 0) (K : A → State → Machine → Type 0) → a + b ≤ total → Passes l s (n - n1) a (stands P)
+      → ((u : Machine) → P u → Runs l u n1 b K o) → Runs l s n total K o
+  run_past (Val v t left) s n n1 a b total P K le first more = passes_wider l s (n - n1 + (n1 - left)) (n - left) (a + b) total _ (omega arith) le (passes_then l s (n - n1) a (n1 - left) b P _ first more)
+  run_past (Stop e t) s n n1 a b total P K le first more = passes_wider l s (n - n1 + 0) 0 (a + b) total _ (omega arith) le (passes_then l s (n - n1) a 0 b P _ first more)
+  run_past (On t) s n n1 a b total P K le first more = passes_wider l s (n - n1 + n1) n (a + b) total _ (omega arith) le (passes_then l s (n - n1) a n1 b P _ first more)
+  run_past Stuck s n n1 a b total P K le first more = tt
+
+  -- a stretch without a mark
   pub run_behind : {A : Type 0} (o : Outcome A) (s : Machine) (n n1 a b total : ℕ) (P : Machine → Type 0) (K : A → State → Machine → Type 0) → a + b ≤ total → Reaches l.world s (n - n1) a (stands P)
       → ((u : Machine) → P u → Runs l u n1 b K o) → Runs l s n total K o
-  run_behind (Val v t left) s n n1 a b total P K le first more = wider l.world s (n - n1 + (n1 - left)) (n - left) (a + b) total _ (omega arith) le (then l.world s (n - n1) a (n1 - left) b P _ first more)
-  run_behind (Stop e t) s n n1 a b total P K le first more = wider l.world s (n - n1 + 0) 0 (a + b) total _ (omega arith) le (then l.world s (n - n1) a 0 b P _ first more)
-  run_behind (On t) s n n1 a b total P K le first more = wider l.world s (n - n1 + n1) n (a + b) total _ (omega arith) le (then l.world s (n - n1) a n1 b P _ first more)
-  run_behind Stuck s n n1 a b total P K le first more = tt
+  run_behind o s n n1 a b total P K le first more = run_past o s n n1 a b total P K le (passes l s (n - n1) a (stands P) first) more
 
   -- a stretch in which no step is spent
   pub run_after : {A : Type 0} (o : Outcome A) (s : Machine) (n a b total : ℕ) (P : Machine → Type 0) (K : A → State → Machine → Type 0) → a + b ≤ total → Reaches l.world s 0 a (stands P)
       → ((u : Machine) → P u → Runs l u n b K o) → Runs l s n total K o
   run_after o s n a b total P K le first more = run_behind o s n n a b total P K le (wider l.world s 0 (n - n) a a _ (omega arith) (omega arith) first) more
 
+  -- one that begins at a mark
+  pub run_from : {A : Type 0} (o : Outcome A) (s : Machine) (n a b total : ℕ) (P : Machine → Type 0) (K : A → State → Machine → Type 0) → a + b ≤ total → Passes l s 0 a (stands P)
+      → ((u : Machine) → P u → Runs l u n b K o) → Runs l s n total K o
+  run_from o s n a b total P K le first more = run_past o s n n a b total P K le (passes_wider l s 0 (n - n) a a _ (omega arith) (omega arith) first) more
+
   -- a value at once
   pub run_gives : {A : Type 0} (v : A) (t : State) (s : Machine) (n a b : ℕ) (K : A → State → Machine → Type 0) → a ≤ b → Reaches l.world s 0 a (stands (K v t)) → Runs l s n b K (Val v t n)
-  run_gives v t s n a b K le h = wider l.world s 0 (n - n) a b _ (omega arith) le h
+  run_gives v t s n a b K le h = passes_wider l s 0 (n - n) a b _ (omega arith) le (passes l s 0 a _ h)
+
+  pub run_comes : {A : Type 0} (v : A) (t : State) (s : Machine) (n a b : ℕ) (K : A → State → Machine → Type 0) → a ≤ b → Passes l s 0 a (stands (K v t)) → Runs l s n b K (Val v t n)
+  run_comes v t s n a b K le h = passes_wider l s 0 (n - n) a b _ (omega arith) le h
 
   -- a part, and what follows its value
   pub run_bind : {A B : Type 0} (o : Outcome A) (wk ws pk : ℕ) (F : A → Computation B) (s : Machine) (n extra part : ℕ) (K : A → State → Machine → Type 0) (L : B → State → Machine → Type 0) → part ≤ 64 * wk
       → Runs l s n part K o → ((v : A) (t : State) (left : ℕ) (u : Machine) → o ≡ Val v t left → K v t u → Runs l u left (64 * (F v t left).work + extra) L (F v t left).outcome)
       → Runs l s n (64 * (seq_of o wk ws pk F).work + extra) L (seq_of o wk ws pk F).outcome
   run_bind (Val v t left) wk ws pk F s n extra part K L le first more =
-      run_behind (F v t left).outcome s n left part (64 * (F v t left).work + extra) (64 * (wk + (F v t left).work) + extra) (K v t) L (omega arith) first (λ u k. more v t left u refl k)
-  run_bind (Stop e t) wk ws pk F s n extra part K L le first more = wider l.world s 0 0 part (64 * wk + extra) _ (omega arith) (omega arith) first
-  run_bind (On t) wk ws pk F s n extra part K L le first more = wider l.world s n n part (64 * wk + extra) _ (omega arith) (omega arith) first
+      run_past (F v t left).outcome s n left part (64 * (F v t left).work + extra) (64 * (wk + (F v t left).work) + extra) (K v t) L (omega arith) first (λ u k. more v t left u refl k)
+  run_bind (Stop e t) wk ws pk F s n extra part K L le first more = passes_wider l s 0 0 part (64 * wk + extra) _ (omega arith) (omega arith) first
+  run_bind (On t) wk ws pk F s n extra part K L le first more = passes_wider l s n n part (64 * wk + extra) _ (omega arith) (omega arith) first
   run_bind Stuck wk ws pk F s n extra part K L le first more = tt
 
   -- what a rule adds
@@ -144,9 +158,10 @@ module _ (l : Loading) where
   -- what runs, and then a stretch from its value
   pub run_on : {A : Type 0} (o : Outcome A) (s : Machine) (n a b total : ℕ) (K L : A → State → Machine → Type 0) → a + b ≤ total → Runs l s n a K o → ((v : A) (t : State) (u : Machine) → K v t u → Reaches l.world u 0 b (stands (L v t)))
       → Runs l s n total L o
-  run_on (Val v t left) s n a b total K L le h more = wider l.world s (n - left + 0) (n - left) (a + b) total _ (omega arith) le (then l.world s (n - left) a 0 b (K v t) _ h (more v t))
-  run_on (Stop e t) s n a b total K L le h more = wider l.world s 0 0 a total _ (omega arith) (omega arith) h
-  run_on (On t) s n a b total K L le h more = wider l.world s n n a total _ (omega arith) (omega arith) h
+  run_on (Val v t left) s n a b total K L le h more =
+      passes_wider l s (n - left + 0) (n - left) (a + b) total _ (omega arith) le (passes_then l s (n - left) a 0 b (K v t) _ h (λ u k. passes l u 0 b (stands (L v t)) (more v t u k)))
+  run_on (Stop e t) s n a b total K L le h more = passes_wider l s 0 0 a total _ (omega arith) (omega arith) h
+  run_on (On t) s n a b total K L le h more = passes_wider l s n n a total _ (omega arith) (omega arith) h
   run_on Stuck s n a b total K L le h more = tt
 
   -- The truth and the number of a value: where it is none, no rule applies.

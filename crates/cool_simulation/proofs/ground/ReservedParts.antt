@@ -3,21 +3,22 @@ use Rattle.std.proofs.Common.{◌≡◌, ℕ, ◌+◌, ◌-◌, ◌*◌, ◌≤�
 use Rattle.mips_isa.specs.Calls.{State as Machine}
 use Rattle.cool_runtime.specs.Reaches.{Reaches, stands, OnTheWay}
 use Rattle.cool_runtime.proofs.Runs.{wider}
-use Rattle.cool_runtime.proofs.Runs as runs
 use Rattle.cool_meaning.specs.Values.{State}
 use Rattle.cool_meaning.specs.Meters.{Outcome, Val, Stop, On, Stuck, Computation, seq_of}
 use Rattle.cool_meaning.proofs.Later.{After}
 use Rattle.cool_simulation.specs.Loadings.{Loading}
 use Rattle.cool_simulation.specs.Simulation.{Runs, Way}
-use Rattle.cool_simulation.proofs.ground.PartsOfRuns.{run_behind, unless_stuck, way_of}
+use Rattle.cool_simulation.proofs.ground.PartsOfRuns.{unless_stuck, way_of, run_past}
+use Rattle.cool_simulation.proofs.ground.Passages.{passes, passes_then, passes_wider}
 
 module _ (l : Loading) where
   -- a run, and a stretch behind its value
   pub run_then : {A : Type 0} (s : Machine) (n a b most : ℕ) (K1 K2 : A → State → Machine → Type 0) (o : Outcome A) → a + b ≤ most → Runs l s n a K1 o
       → ((v : A) (t : State) (m : Machine) → K1 v t m → Reaches l.world m 0 b (stands (K2 v t))) → Runs l s n most K2 o
-  run_then s n a b most K1 K2 (Val v t left) le h more = wider l.world s (n - left + 0) (n - left) (a + b) most _ (omega arith) le (runs.then l.world s (n - left) a 0 b _ _ h (more v t))
-  run_then s n a b most K1 K2 (Stop e t) le h more = wider l.world s 0 0 a most _ (omega arith) (omega arith) h
-  run_then s n a b most K1 K2 (On t) le h more = wider l.world s n n a most _ (omega arith) (omega arith) h
+  run_then s n a b most K1 K2 (Val v t left) le h more =
+      passes_wider l s (n - left + 0) (n - left) (a + b) most _ (omega arith) le (passes_then l s (n - left) a 0 b _ _ h (λ m k. passes l m 0 b (stands (K2 v t)) (more v t m k)))
+  run_then s n a b most K1 K2 (Stop e t) le h more = passes_wider l s 0 0 a most _ (omega arith) (omega arith) h
+  run_then s n a b most K1 K2 (On t) le h more = passes_wider l s n n a most _ (omega arith) (omega arith) h
   run_then s n a b most K1 K2 Stuck le h more = tt
 
   -- no step was spent
@@ -40,10 +41,10 @@ module _ (l : Loading) where
   bind_reserved (Val v t left) wk ws pk F s n first extra total gp base sp K1 K2 low fits grows heap stack way part rest =
       let enough = fits v t left refl in
       with_way t s n _ K2 (F v t left).outcome (grows v t left) way (λ on.
-      run_behind l (F v t left).outcome s n left first (64 * (F v t left).work + extra) (64 * (wk + (F v t left).work) + total) (K1 v t) K2 (omega arith)
+      run_past l (F v t left).outcome s n left first (64 * (F v t left).work + extra) (64 * (wk + (F v t left).work) + total) (K1 v t) K2 (omega arith)
       (part (omega arith) (omega arith) on) (λ m k. rest v t left m refl k heap (omega arith) way))
   bind_reserved (Stop e t) wk ws pk F s n first extra total gp base sp K1 K2 low fits grows heap stack way part rest =
-      wider l.world s 0 0 first (64 * wk + total) _ (omega arith) (omega arith) (part heap stack way)
+      passes_wider l s 0 0 first (64 * wk + total) _ (omega arith) (omega arith) (part heap stack way)
   bind_reserved (On t) wk ws pk F s n first extra total gp base sp K1 K2 low fits grows heap stack way part rest =
-      wider l.world s n n first (64 * wk + total) _ (omega arith) (omega arith) (part heap stack way)
+      passes_wider l s n n first (64 * wk + total) _ (omega arith) (omega arith) (part heap stack way)
   bind_reserved Stuck wk ws pk F s n first extra total gp base sp K1 K2 low fits grows heap stack way part rest = tt

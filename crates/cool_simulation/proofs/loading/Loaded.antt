@@ -17,6 +17,7 @@ use Rattle.cool_simulation.proofs.loading.LoadedImages.{HasImage, are_laid}
 use Rattle.cool_simulation.proofs.loading.LoadedText as code
 use Rattle.cool_simulation.proofs.loading.LoadedConstants as constants
 use Rattle.cool_simulation.proofs.loading.LoadedTables as tables
+use Rattle.std.specs.Prelude.{None}
 
 module _ (p : List Class) (files : List (List ℕ)) (b : IsBuildable p files) (limits : Limits) (are : AreLimits limits) where
   -- the image of the program, where its labels are, and its segments
@@ -42,6 +43,7 @@ module _ (p : List Class) (files : List (List ℕ)) (b : IsBuildable p files) (l
     files = files;
     world = record { text = image.text; place = place; segments = segments; laid = laid; tags = tags; top = top; low = low; output = output; left = left };
     memory = bytes_of_image image;
+    watch = None;
   }
 
   module _ (top low : ℕ) (output left : List ℕ) where

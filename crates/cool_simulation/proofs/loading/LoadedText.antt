@@ -109,7 +109,7 @@ module _ (all a b c d : List Line) (h : Among all (a ++ (b ++ (c ++ d)))) where
   fourth_of : Among all d
   fourth_of = among_right all c d (among_right all b (c ++ d) (among_right all a (b ++ (c ++ d)) h))
 
-among_routines : (r : Routine) → Among all_routine_lines (routine_lines r)
+pub among_routines : (r : Routine) → Among all_routine_lines (routine_lines r)
 among_routines routines.Start = first_of all_routine_lines (routine_lines routines.Start) (routine_lines routines.Copy) (routine_lines routines.Abort) (routine_lines routines.TypeName) object_routines
 among_routines routines.Copy = second_of all_routine_lines (routine_lines routines.Start) (routine_lines routines.Copy) (routine_lines routines.Abort) (routine_lines routines.TypeName) object_routines
 among_routines routines.Abort = third_of all_routine_lines (routine_lines routines.Start) (routine_lines routines.Copy) (routine_lines routines.Abort) (routine_lines routines.TypeName) object_routines
@@ -131,7 +131,7 @@ among_routines routines.Overflow = second_of all_routine_lines (routine_lines ro
 among_routines routines.HeapLimit = third_of all_routine_lines (routine_lines routines.SubstrRange) (routine_lines routines.Overflow) (routine_lines routines.HeapLimit) (routine_lines routines.StackLimit) limit_routines
 among_routines routines.StackLimit = fourth_of all_routine_lines (routine_lines routines.SubstrRange) (routine_lines routines.Overflow) (routine_lines routines.HeapLimit) (routine_lines routines.StackLimit) limit_routines
 
-routine_begins : (r : Routine) → routine_lines r ≡ label (routine_label r) ∷ drop 1 (routine_lines r)
+pub routine_begins : (r : Routine) → routine_lines r ≡ label (routine_label r) ∷ drop 1 (routine_lines r)
 unfolding routine_lines
 routine_begins routines.Start = refl
 routine_begins routines.Copy = refl

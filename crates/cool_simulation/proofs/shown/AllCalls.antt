@@ -1,5 +1,5 @@
 -- What calls begin is shown, by induction on the steps: a call of a program runs a body or initial values, whose own calls have fewer steps.
-use Rattle.std.proofs.Common.{ℕ, zero, suc, ◌<◌, subst, arith}
+use Rattle.std.proofs.Common.{ℕ, zero, suc, ◌<◌, subst, arith, ◌≡◌, None}
 use Rattle.cool_syntax.specs.declared.file_tree.Feature.TheVariants.{Method, Attribute}
 use Rattle.cool_syntax.specs.Tree.{Tree}
 use Rattle.cool_syntax.specs.WrittenTrees.{IsWritable, IsValueWritable}
@@ -17,7 +17,7 @@ use Rattle.cool_simulation.proofs.shown.Bodies.{body_shown}
 use Rattle.cool_simulation.proofs.shown.Forms.{form_shown}
 use Rattle.cool_simulation.proofs.shown.Initializers.{initials_shown}
 
-module _ (l : Loading) (loaded : IsLoaded l) (written : IsWritten l.table) where
+module _ (l : Loading) (loaded : IsLoaded l) (none : l.watch ≡ None) (written : IsWritten l.table) where
   pub calls_shown : (n m : ℕ) → m < n → CallsShown l (calls_within l.table n) (begun_within l.table n) m
   calls_shown zero m less = absurd (omega arith)
   calls_shown (suc n) m less =
@@ -25,13 +25,13 @@ module _ (l : Loading) (loaded : IsLoaded l) (written : IsWritten l.table) where
       let begun_in = begun_within l.table n in
       let later = later_within l loaded written n in
       let sound : AllCallsSound l.table calls m = λ i few. within_sound l.table loaded.buildable.typed n i (omega arith) in
-      let fewer : AllCallsCorrect l calls m = λ i few. calls_correct l loaded written n i (omega arith) in
+      let fewer : AllCallsCorrect l calls begun_in m = λ i few. calls_correct l loaded written n i (omega arith) in
       let fewer_shown : AllCallsShown l calls begun_in m = λ i few. calls_shown n i (omega arith) in
-      let forms : (t : Tree) → IsWritable t → Correct l calls m t = form_correct l loaded calls m later sound fewer in
-      let shown : (t : Tree) → IsWritable t → AllShown l calls begun_in m t = form_shown l loaded calls begun_in m later sound fewer fewer_shown in
+      let forms : (t : Tree) → IsWritable t → Correct l calls begun_in m t = form_correct l loaded calls begun_in m later sound fewer in
+      let shown : (t : Tree) → IsWritable t → AllShown l calls begun_in m t = form_shown l loaded none calls begun_in m later sound fewer fewer_shown in
       record {
-        body = body_shown l loaded calls begun_in m later IsWritable forms shown (λ c k def within there. written c k (Method def) within there);
-        initials = initials_shown l loaded calls begun_in m later sound IsWritable forms shown (λ c k a t within there value. subst IsValueWritable value (written c k (Attribute a) within there));
+        body = body_shown l loaded none calls begun_in m later IsWritable forms shown (λ c k def within there. written c k (Method def) within there);
+        initials = initials_shown l loaded none calls begun_in m later sound IsWritable forms shown (λ c k a t within there value. subst IsValueWritable value (written c k (Attribute a) within there));
       }
 
   -- as many calls as there are steps

@@ -1,5 +1,5 @@
 -- What arguments begin is shown: each behind the push of the one before it.
-use Rattle.std.proofs.Common.{ℕ, ◌+◌, ◌-◌, ◌≤◌, List, [], ◌∷◌, ◌++◌, refl, arith}
+use Rattle.std.proofs.Common.{ℕ, ◌+◌, ◌-◌, ◌≤◌, List, [], ◌∷◌, ◌++◌, refl, arith, ◌≡◌, None}
 use Rattle.std.specs.Prelude.{Contains}
 use Rattle.std.proofs.lemmas.List.Elements.{Contains-append_left, Contains-append_right}
 use Rattle.mips_isa.specs.Bytes.{Bytes, set_word}
@@ -24,8 +24,8 @@ use Rattle.cool_meaning.proofs.FittingValues as fitting
 use Rattle.cool_meaning.proofs.SoundParts.{AllCallsSound}
 use Rattle.cool_simulation.specs.Loadings.{Loading, IsLoaded, constants, context}
 use Rattle.cool_simulation.specs.Pictures.{Map}
-use Rattle.cool_simulation.specs.Simulation.{Begins, CodeAt}
-use Rattle.cool_simulation.specs.Shown.{Comes, IsSpan, Shown}
+use Rattle.cool_simulation.specs.Simulation.{Begins, CodeAt, IsSpan, Shown}
+use Rattle.cool_simulation.specs.Shown.{Comes}
 use Rattle.cool_simulation.specs.Visits.{Visit, Visits, all_begun}
 use Rattle.cool_simulation.proofs.forms.Blocks.{EachCorrect}
 use Rattle.cool_simulation.proofs.ground.CallsLater.{all_later, held_later}
@@ -37,7 +37,7 @@ use Rattle.cool_simulation.proofs.shown.Blocks.{EachShown}
 use Rattle.cool_simulation.proofs.shown.Comings.{Ample, ample_first, ample_held, ample_then, cases, comes_behind, room_first}
 use Rattle.cool_simulation.proofs.shown.PartsShown.{comes_behind_part, part_code, part_shown}
 
-module _ (l : Loading) (loaded : IsLoaded l) (calls : Calls) (begun_in : Call → Visits) (b : ℕ) (sound : AllCallsSound l.table calls b) (later : CallsLater calls) (c : ClassId) (f : ℕ) (k : ClassId) (self : Value)
+module _ (l : Loading) (loaded : IsLoaded l) (none : l.watch ≡ None) (calls : Calls) (begun_in : Call → Visits) (b : ℕ) (sound : AllCallsSound l.table calls b) (later : CallsLater calls) (c : ClassId) (f : ℕ) (k : ClassId) (self : Value)
     (scope : List Binding) (vs : List Named) (env : Environment) (d0 first pc : ℕ) (whole : Tree) (code_at : CodeAt l c f vs d0 first pc whole)
     (among : (y : Span) → Contains (spans sizes (context l c f) (constants l) vs d0 first pc whole) y → IsSpan l c f y) where
   -- what is done with a first argument
@@ -47,7 +47,7 @@ module _ (l : Loading) (loaded : IsLoaded l) (calls : Calls) (begun_in : Call �
   F_later : (ts : Trees) (v : Value) → ComesLater (F ts v)
   F_later ts v = held_later 1 (bind_later (all_later l.table calls later self env ts) (λ us. give_later (v ∷ us)))
 
-  pub arguments_shown : (ts : Trees) → EachCorrect l calls b ts → EachShown l calls begun_in b ts → (made : fitting.World) (d first' : ℕ) (q : Pointers) (m : Bytes) (map : Map) (console : Console) (st : State) (s : Machine) (n : ℕ)
+  pub arguments_shown : (ts : Trees) → EachCorrect l calls begun_in b ts → EachShown l calls begun_in b ts → (made : fitting.World) (d first' : ℕ) (q : Pointers) (m : Bytes) (map : Map) (console : Console) (st : State) (s : Machine) (n : ℕ)
       (types : List Ty) (x : Visit) → n ≤ b → Begins l c k self scope vs env made d q m map console st s → HaveTypes l.table c scope ts types
       → HasLines l.world q.pc (arguments_code (context l c f) (constants l) vs d first' ts) → Ample l q 16 (eval_all l.table calls self env ts st n)
       → ((y : Span) → Contains (arguments_spans sizes (context l c f) (constants l) vs d first' q.pc ts) y → Contains (spans sizes (context l c f) (constants l) vs d0 first pc whole) y)
@@ -70,7 +70,7 @@ module _ (l : Loading) (loaded : IsLoaded l) (calls : Calls) (begun_in : Call �
       let laid = l.world.laid in
       cases visit
       (λ h. part_shown l calls begun_in b c f vs d0 first pc whole code_at among t each.0 k self scope vs env made d first' q m map console st s n type x in_t less begins has room1 h)
-      (λ (v, t1, left, e, h). comes_behind_part l loaded calls begun_in b sound c f k self scope vs env made d first' q m map console st s n less begins t type (Shown l x) v t1 left correct.0 has
+      (λ (v, t1, left, e, h). comes_behind_part l loaded none calls begun_in b sound c f k self scope vs env made d first' q m map console st s n less begins t type (Shown l x) v t1 left correct.0 has
       (part_code l calls begun_in b c f vs d0 first pc whole code_at among vs d first' q.pc t in_t) room1 e
       (λ u j behind.
       let fewer = behind.fewer in

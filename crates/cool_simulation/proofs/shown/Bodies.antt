@@ -1,5 +1,5 @@
 -- What a call of a method begins is shown: its body, behind the entry.
-use Rattle.std.proofs.Common.{◌≡◌, ℕ, ◌+◌, ◌<◌, ◌≤◌, inl, List, ◌++◌, map as each, length, Option, Some, refl, subst, arith}
+use Rattle.std.proofs.Common.{◌≡◌, ℕ, ◌+◌, ◌<◌, ◌≤◌, inl, List, ◌++◌, map as each, length, Option, Some, refl, subst, arith, None}
 use Rattle.std.specs.Prelude.{Contains, slice_get}
 use Rattle.mips_isa.specs.Bytes.{Bytes}
 use Rattle.mips_isa.specs.Calls.{State as Machine}
@@ -32,8 +32,8 @@ use Rattle.cool_meaning.proofs.Later.{after_on, later_same}
 use Rattle.cool_meaning.proofs.MethodsOfTables.{defined}
 use Rattle.cool_simulation.specs.Loadings.{Loading, IsLoaded, constants, context}
 use Rattle.cool_simulation.specs.Pictures.{Map}
-use Rattle.cool_simulation.specs.Simulation.{Called, Correct, Room}
-use Rattle.cool_simulation.specs.Shown.{AllShown, Comes, IsSpan, Shown}
+use Rattle.cool_simulation.specs.Simulation.{Called, Correct, Room, IsSpan, Shown}
+use Rattle.cool_simulation.specs.Shown.{AllShown, Comes}
 use Rattle.cool_simulation.specs.Visits.{Visit, Visits, begun, call_begun, method_begun}
 use Rattle.cool_simulation.proofs.calls.Entries.{entry_map, entry_of, located_in}
 use Rattle.cool_simulation.proofs.calls.Methods.{body_at, body_room, called_is, comes, enter_there, entered_at, fine, limits, typed, way_here}
@@ -43,7 +43,7 @@ use Rattle.cool_simulation.proofs.ground.LargerMaps.{numbers}
 use Rattle.cool_simulation.proofs.ground.PartsOfRuns.{way_of}
 use Rattle.cool_simulation.proofs.shown.Comings.{comes_behind, on_value, value_behind}
 
-module _ (l : Loading) (loaded : IsLoaded l) (calls : Calls) (begun_in : Call → Visits) (b : ℕ) (later : CallsLater calls) (IsGood : Tree → Type 0) (forms : (t : Tree) → IsGood t → Correct l calls b t)
+module _ (l : Loading) (loaded : IsLoaded l) (none : l.watch ≡ None) (calls : Calls) (begun_in : Call → Visits) (b : ℕ) (later : CallsLater calls) (IsGood : Tree → Type 0) (forms : (t : Tree) → IsGood t → Correct l calls begun_in b t)
     (shown : (t : Tree) → IsGood t → AllShown l calls begun_in b t) where
   -- the spans of a method's body, from where it begins
   body_among : (owner : ClassId) (i : ℕ) (def : MethodDef) (pc : ℕ) → slice_get (features_of l.table owner) i ≡ Some (Method def) → pc ≡ l.world.place (method_label l.table (User owner i)) → (y : Span)
@@ -63,26 +63,26 @@ module _ (l : Loading) (loaded : IsLoaded l) (calls : Calls) (begun_in : Call �
       let p = l.table in
       let env = located (formal_names def.formals) (numbers (length st.store) (length vs)) ++ environment_of p self in
       let named = with_formals p def.formals (attributes_in p owner) in
-      let r = comes l loaded calls b later IsGood forms owner i def within there good k self vs made q m map console st s n le below called begins args in
-      let is = called_is l loaded calls b later IsGood forms owner i def within there good k self vs made q m map console st s n le below called begins args in
+      let r = comes l loaded calls begun_in b later IsGood forms owner i def within there good k self vs made q m map console st s n le below called begins args in
+      let is = called_is l loaded calls begun_in b later IsGood forms owner i def within there good k self vs made q m map console st s n le below called begins args in
       let room1 : Room l q 12 (join 0 0 0 r) = subst (λ (y : Metered Value). Room l q 12 y) is room in
       let alive1 : r.outcome ≡ Stuck → ⊥ = subst (λ (y : Metered Value). y.outcome ≡ Stuck → ⊥) is alive in
       let V = λ (ls : List ℕ). begun p calls begun_in owner i self (located (formal_names def.formals) ls ++ environment_of p self) 0 def.body in
       let h : V (numbers (length st.store) (length vs)) (located_in st vs) n x =
       subst (λ (y : Metered (List ℕ)). on_value (λ ls t left. V ls t left x) y.outcome) (located_all vs st n) (value_behind (locate_all vs) V st n x visit) in
-      let typing = typed l loaded calls b later IsGood forms owner i def within there good k self vs made q m map console st s n le below called begins args in
+      let typing = typed l loaded calls begun_in b later IsGood forms owner i def within there good k self vs made q m map console st s n le below called begins args in
       let stack = room1.stack in
       let laid = l.world.laid in
       let numbers1 = called.at.numbers in
       let way = way_of l st r.outcome (after_on st (located_in st vs) r.outcome (later_same st (located_in st vs) refl refl) ((eval_later p calls later self env def.body).later (located_in st vs) n)) alive1 room1.way in
       comes_behind l.world s 0 12 (At l.world (entry_of q) (with_frame m q) console) (Shown l x)
-      (enters l.world q m console s (limits l loaded calls b later IsGood forms) (enter_there l loaded calls b later IsGood forms owner i def within there good k self vs made q m map console st s n le below called begins args) called.at
-      (omega arith) (way_here l loaded calls b later IsGood forms st console called.shows way))
+      (enters l.world q m console s (limits l loaded calls begun_in b later IsGood forms) (enter_there l loaded calls begun_in b later IsGood forms owner i def within there good k self vs made q m map console st s n le below called begins args) called.at
+      (omega arith) (way_here l loaded calls begun_in b later IsGood forms st console called.shows way))
       (λ s1 at1. (shown def.body good).shown owner i k self (formals_in_scope p def.formals ++ attributes_in_scope p (attributes_of p typing.chain)) named env
-      (fine l loaded calls b later IsGood forms owner i def within there good k self vs made q m map console st s n le below called begins args).world 0 0 (entry_of q) (with_frame m q) (entry_map map st vs q) console (located_in st vs) s1 n typing.type x le
-      (entered_at l loaded calls b later IsGood forms owner i def within there good k self vs made q m map console st s n le below called begins args s1 at1) typing.has
-      (body_at l loaded calls b later IsGood forms owner i def within there good k self vs made q m map console st s n le below called begins args)
-      (body_room l loaded calls b later IsGood forms owner i def within there good k self vs made q m map console st s n le below called begins args room1)
+      (fine l loaded calls begun_in b later IsGood forms owner i def within there good k self vs made q m map console st s n le below called begins args).world 0 0 (entry_of q) (with_frame m q) (entry_map map st vs q) console (located_in st vs) s1 n typing.type x le
+      (entered_at l loaded calls begun_in b later IsGood forms owner i def within there good k self vs made q m map console st s n le below called begins args s1 at1) typing.has
+      (body_at l loaded calls begun_in b later IsGood forms owner i def within there good k self vs made q m map console st s n le below called begins args)
+      (body_room l loaded calls begun_in b later IsGood forms owner i def within there good k self vs made q m map console st s n le below called begins args room1)
       (λ y i'. body_among owner i def q.pc there begins y i') h)
 
   -- a call of a method

@@ -20,12 +20,13 @@ use Rattle.cool_meaning.proofs.FittingValues.{AllFit, meant}
 use Rattle.cool_meaning.proofs.FittingValues as fitting
 use Rattle.cool_simulation.specs.Loadings.{Loading, IsLoaded}
 use Rattle.cool_simulation.specs.Pictures.{Map}
-use Rattle.cool_simulation.specs.Shown.{AllCallsShown, Comes, Shown}
+use Rattle.cool_simulation.specs.Shown.{AllCallsShown, Comes}
 use Rattle.cool_simulation.specs.Visits.{Visit, Visits, behind, behind_step, called}
 use Rattle.cool_simulation.proofs.forms.CallLines.{AtPlace}
 use Rattle.cool_simulation.proofs.forms.Invoking.{callee}
 use Rattle.cool_simulation.proofs.forms.Received.{Received, called_of, received_at}
 use Rattle.cool_simulation.proofs.shown.Comings.{Ample, ample_as, comes_behind, value_behind}
+use Rattle.cool_simulation.specs.Simulation.{Shown}
 
 module _ (l : Loading) where
   -- what is begun behind the class of a value, and the room that it has

@@ -1,14 +1,12 @@
 -- What a case begins is shown: its value, and behind it the body of the branch that is taken.
-use Rattle.std.proofs.Common.{◌≡◌, ℕ, ◌+◌, ◌-◌, ◌*◌, ◌<◌, List, [], ◌∷◌, ◌++◌, length, map as each, get_or, Option, Some, ap, sym, ◌∙◌, refl, subst, arith}
-use Rattle.std.specs.Prelude.{Contains, codes}
+use Rattle.std.proofs.Common.{◌≡◌, ℕ, ◌+◌, ◌-◌, ◌*◌, ◌<◌, List, [], ◌∷◌, ◌++◌, length, get_or, Option, Some, ap, sym, ◌∙◌, refl, subst, arith, None}
+use Rattle.std.specs.Prelude.{Contains}
 use Rattle.std.specs.List.{AllByRecursion}
 use Rattle.std.proofs.lemmas.List.Elements.{Contains-append_left, Contains-append_right}
 use Rattle.mips_isa.specs.Bytes.{set_word}
-use Rattle.mips_isa.specs.Lines.{Line}
 use Rattle.cool_syntax.specs.declared.place.Place.{Place}
 use Rattle.cool_syntax.specs.Tree.{Tree, Cases, NoCase, CaseOf, tree_size}
 use Rattle.cool_syntax.specs.Tree as trees
-use Rattle.cool_syntax.specs.NodeLists.{root}
 use Rattle.cool_classes.specs.declared.class_id.ClassId.{ClassId}
 use Rattle.cool_classes.specs.declared.class_id.Ty.{Ty}
 use Rattle.cool_classes.specs.declared.class_id.Ty.TheVariants.{Class as IsClass}
@@ -16,15 +14,11 @@ use Rattle.cool_classes.specs.ClimbedChains.{chain}
 use Rattle.cool_classes.proofs.ChainsOfTables.{chain_is}
 use Rattle.cool_rules.specs.Conformance.{class_of as class_meant}
 use Rattle.cool_rules.specs.Typing.{with_name}
-use Rattle.cool_runtime.specs.Standing.{HasLines, sizes}
+use Rattle.cool_runtime.specs.Standing.{sizes}
 use Rattle.cool_runtime.specs.Machines.{Pointers}
-use Rattle.cool_runtime.specs.Routines.{push_lines}
-use Rattle.cool_runtime.proofs.Pieces.{has_front, has_back}
-use Rattle.cool_codegen.specs.Arms.{arms_lines}
 use Rattle.cool_codegen.specs.Asked.{integers_in, strings_in, integers_in_cases, strings_in_cases, file_of}
-use Rattle.cool_codegen.specs.Code.{code, arms_code, file_label, label_at}
-use Rattle.cool_codegen.specs.Pieces.{case_begin_lines, case_end_lines, turn_lines}
-use Rattle.cool_codegen.specs.Spans.{Span, Spanned, along, branches, span, spans}
+use Rattle.cool_codegen.specs.Code.{code}
+use Rattle.cool_codegen.specs.Spans.{Span, span, spans}
 use Rattle.cool_codegen.specs.Variables.{bind}
 use Rattle.cool_meaning.specs.Values.{Value, State, Environment}
 use Rattle.cool_meaning.specs.Meters.{CaseVoid, Computation, Metered, given, locate, seq, working, ◌>>=◌}
@@ -32,38 +26,40 @@ use Rattle.cool_meaning.specs.Evaluation.{Branch, Call, Calls, branch_count, bra
 use Rattle.cool_meaning.proofs.FittingValues.{Fits, class_fits, fits_above}
 use Rattle.cool_meaning.proofs.SoundParts.{AllCallsSound}
 use Rattle.cool_simulation.specs.Loadings.{Loading, IsLoaded, constants, context}
-use Rattle.cool_simulation.specs.Simulation.{Begins, Correct}
-use Rattle.cool_simulation.specs.Shown.{AllShown, Shown}
+use Rattle.cool_simulation.specs.Simulation.{Begins, Correct, Shown}
+use Rattle.cool_simulation.specs.Shown.{AllShown}
 use Rattle.cool_simulation.specs.Visits.{Visits, behind, begun, branch_begun, nearest_name}
-use Rattle.cool_simulation.proofs.forms.BranchOrder.{Entry, branch, entries, first_among, nearest_is, with_entries}
-use Rattle.cool_simulation.proofs.forms.CaseArms.{all_entries, arm_of, arms_are, body_of, first_has, next_of, next_placed}
+use Rattle.cool_simulation.proofs.forms.BranchOrder.{Entry, branch, entries, first_among, nearest_is}
+use Rattle.cool_simulation.proofs.forms.CaseArms.{all_entries, first_has}
 use Rattle.cool_simulation.proofs.forms.CaseBranches.{nearest_later, take_later}
-use Rattle.cool_simulation.proofs.forms.CaseCorrect.{begin_sizes, class_or_later, rest_of}
+use Rattle.cool_simulation.proofs.forms.CaseCorrect.{class_or_later, rest_of}
 use Rattle.cool_simulation.proofs.forms.CaseParts.{BodiesCorrect, Good, all_good}
 use Rattle.cool_simulation.proofs.forms.CaseTaken.{Taken, finds}
 use Rattle.cool_simulation.proofs.forms.TagTests.{among_there, chain_all}
 use Rattle.cool_simulation.proofs.ground.BoundVariables.{bound_begins}
-use Rattle.cool_simulation.proofs.ground.CodeOfParts.{Asks, asks_back, asks_of}
+use Rattle.cool_simulation.proofs.ground.CodeOfParts.{Asks, asks_back, asks_of, in_rest}
 use Rattle.cool_simulation.proofs.ground.EvaluationLater.{CallsLater, ComesLater, bind_later}
 use Rattle.cool_simulation.proofs.ground.Homes.{homed}
 use Rattle.cool_simulation.proofs.ground.Operands.{shown_way}
 use Rattle.cool_simulation.proofs.ground.PartsOfRuns.{way_of}
 use Rattle.cool_simulation.proofs.shown.CallsBegun.{class_behind}
-use Rattle.cool_simulation.proofs.shown.CaseChoice.{branches_are, chosen, entry_begun, entry_stands, given_behind, spanned_of}
-use Rattle.cool_simulation.proofs.shown.Comings.{Ample, ample_as, ample_ruled, ample_then, cases, comes_behind, in_rest, room_first, value_behind}
+use Rattle.cool_simulation.proofs.shown.CaseChoice.{entry_begun, given_behind}
+use Rattle.cool_simulation.proofs.shown.Comings.{Ample, ample_as, ample_ruled, ample_then, cases, comes_behind, room_first, value_behind}
 use Rattle.cool_simulation.proofs.shown.PartsShown.{ample_of, comes_behind_part, own_shown, part_code, part_shown}
+use Rattle.cool_simulation.proofs.forms.CasePieces.{end_of, sorted, tests_at, told_inside}
+use Rattle.cool_simulation.proofs.forms.NamedBranches.{chosen}
 
 -- what the bodies of branches begin is shown
 abbrev pub BodiesShown : Loading → Calls → (Call → Visits) → ℕ → Cases → Type 0
 BodiesShown l calls begun_in b NoCase = Unit {0}
 BodiesShown l calls begun_in b (CaseOf at name declared t cs) = AllShown l calls begun_in b t × BodiesShown l calls begun_in b cs
 
-module _ (l : Loading) (loaded : IsLoaded l) (calls : Calls) (begun_in : Call → Visits) (b : ℕ) (sound : AllCallsSound l.table calls b) (later : CallsLater calls) where
+module _ (l : Loading) (loaded : IsLoaded l) (none : l.watch ≡ None) (calls : Calls) (begun_in : Call → Visits) (b : ℕ) (sound : AllCallsSound l.table calls b) (later : CallsLater calls) where
   entries_shown : (c : ClassId) (k : ℕ) (cs : Cases) → BodiesShown l calls begun_in b cs → AllByRecursion (λ (e : Entry). AllShown l calls begun_in b e.tree) (entries l.table c k cs)
   entries_shown c k NoCase h = tt
   entries_shown c k (CaseOf at name declared t cs) h = (h.0, entries_shown c (k + tree_size t) cs h.1)
 
-  pub case_shown : (at : Place) (t : Tree) (cs : Cases) → Correct l calls b t → BodiesCorrect l loaded calls b cs → AllShown l calls begun_in b t → BodiesShown l calls begun_in b cs → AllShown l calls begun_in b (trees.Case at t cs)
+  pub case_shown : (at : Place) (t : Tree) (cs : Cases) → Correct l calls begun_in b t → BodiesCorrect l loaded calls begun_in b cs → AllShown l calls begun_in b t → BodiesShown l calls begun_in b cs → AllShown l calls begun_in b (trees.Case at t cs)
   case_shown at t cs correct bodies shown bodies_shown = record {
     shown = λ c f k self scope vs env made d first q m map console st s n type x less begins (type1, ts, has, have, different, join) code_at room among visit.
         let p = l.table in
@@ -72,38 +68,20 @@ module _ (l : Loading) (loaded : IsLoaded l) (calls : Calls) (begun_in : Call �
         let small = code_at.small in
         let ctx = context l c f in
         let whole = trees.Case at t cs in
-        let end = label_at ctx (codes "end") (root first whole) in
+        let end = end_of l c f vs d first q.pc at t cs in
         let lt = code ctx (constants l) vs d first t in
         let k1 = first + tree_size t in
-        let es : List Entry = with_entries p [] (entries p c k1 cs) in
-        let begin = case_begin_lines (file_label ctx (constants l) at) at.line in
-        let written : List Line = arms_lines (arms_code ctx (constants l) vs d k1 end [] cs) in
-        let arms : List Line = arms_lines (each (arm_of ctx (constants l) vs d end) es) in
-        let same_arms : written ≡ arms = ap arms_lines (arms_are ctx (constants l) vs d end cs k1 []) in
-        let ends = case_end_lines end in
+        let es : List Entry = sorted l c f vs d first q.pc at t cs in
         let pc1 = q.pc + sizes lt in
-        let h1 : HasLines w pc1 (begin ++ (push_lines ++ (arms ++ ends))) =
-        subst (λ (xs : List Line). HasLines w pc1 (begin ++ (push_lines ++ (xs ++ ends)))) same_arms (has_back w lt (begin ++ (push_lines ++ (written ++ ends))) q.pc pc1 refl code_at.lines) in
-        let long : sizes begin ≡ 28 = begin_sizes (file_label ctx (constants l) at) at.line in
-        let h3 : HasLines w (pc1 + 28 + 20) (arms ++ ends) =
-        has_back w push_lines (arms ++ ends) (pc1 + 28) (pc1 + 28 + 20) refl (has_back w begin (push_lines ++ (arms ++ ends)) pc1 (pc1 + 28) (omega arith) h1) in
-        let h4 : HasLines w (pc1 + 28 + 20) arms = has_front w arms ends (pc1 + 28 + 20) h3 in
         let own = span vs d first q.pc whole in
         let xt = spans sizes ctx (constants l) vs d first q.pc t in
-        let told : ℕ → List Spanned → List Span = along sizes (λ (y : Spanned). y.arm.lines) (λ pc (y : Spanned). y.inside pc) in
-        let bs = branches sizes ctx (constants l) vs d k1 end [] cs in
-        let xb = told (pc1 + sizes begin + sizes push_lines) bs in
-        let same_bs : bs ≡ each (spanned_of ctx (constants l) vs d end) es = branches_are ctx (constants l) vs d end cs k1 [] in
-        let same_pc : pc1 + 28 + 20 ≡ pc1 + sizes begin + sizes push_lines = omega arith in
-        let F : Value → Computation Value = λ v. class_or (CaseVoid at) v >>= rest_of l loaded calls b sound later self env at cs v in
+        let F : Value → Computation Value = λ v. class_or (CaseVoid at) v >>= rest_of l loaded calls begun_in b sound later self env at cs v in
         let F_later : (v : Value) → ComesLater (F v) =
         λ v. bind_later (class_or_later (CaseVoid at) v) (λ c'. record { later = (take_later at c' v (nearest p (branch_of p calls self env cs) (chain p c')) (nearest_later p calls later self env cs (chain p c'))).later }) in
         let r = eval p calls self env t st n in
-        let ample : Ample l q 16 (seq r F) = ample_ruled l q 0 (seq r F) (ample_of l loaded calls begun_in b sound c f k self scope vs env made d first q m map console st s n less begins whole type (type1, ts, has, have, different, join) room) in
+        let ample : Ample l q 16 (seq r F) = ample_ruled l q 0 (seq r F) (ample_of l loaded none calls begun_in b sound c f k self scope vs env made d first q m map console st s n less begins whole type (type1, ts, has, have, different, join) room) in
         let room1 = room_first l r F q 16 (λ v t1 left. (F_later v).later t1 left) ample in
-        let in_t : (y : Span) → Contains xt y → Contains (own ∷ xt ++ xb) y = λ y i. in_rest own (xt ++ xb) y (Contains-append_left xt xb y i) in
-        let in_b : (y : Span) → Contains (told (pc1 + 28 + 20) (each (spanned_of ctx (constants l) vs d end) es)) y → Contains (own ∷ xt ++ xb) y = λ y i.
-        in_rest own (xt ++ xb) y (Contains-append_right xt xb y (subst (λ pc. Contains (told pc bs) y) same_pc (subst (λ z. Contains (told (pc1 + 28 + 20) z) y) (sym same_bs) i))) in
+        let in_t : (y : Span) → Contains xt y → Contains (spans sizes ctx (constants l) vs d first q.pc whole) y = λ y i. in_rest own _ y (Contains-append_left xt _ y i) in
         let asks = asks_of l c f vs d first q.pc whole code_at in
         let ic = integers_in_cases cs in
         let xf = file_of l.files at in
@@ -113,14 +91,14 @@ module _ (l : Loading) (loaded : IsLoaded l) (calls : Calls) (begun_in : Call �
         let named : Contains (constants l).strings (get_or l.files at.file []) = asks1.strings_there (get_or l.files at.file []) (Contains-append_left xf xc (get_or l.files at.file []) (0, omega arith, refl)) in
         let placed = code_at.within.0.1 in
         let line_small : at.line < 2147483648 = omega arith in
-        let good : AllByRecursion (Good l loaded calls b c scope d) es =
-        all_entries (Good l loaded calls b c scope d) p [] (entries p c k1 cs) tt (all_good l loaded calls b c scope d k1 cs ts have asks2 code_at.within.2 (omega arith) bodies) in
+        let good : AllByRecursion (Good l loaded calls begun_in b c scope d) es =
+        all_entries (Good l loaded calls begun_in b c scope d) p [] (entries p c k1 cs) tt (all_good l loaded calls begun_in b c scope d k1 cs ts have asks2 code_at.within.2 (omega arith) bodies) in
         let all_shown : AllByRecursion (λ (e : Entry). AllShown l calls begun_in b e.tree) es = all_entries (λ (e : Entry). AllShown l calls begun_in b e.tree) p [] (entries p c k1 cs) tt (entries_shown c k1 cs bodies_shown) in
         cases visit
-        (λ e. own_shown l loaded calls begun_in b sound c f k self scope vs env made d first q m map console st s n less begins whole x (among own (0, omega arith, refl)) e)
+        (λ e. own_shown l loaded none calls begun_in b sound c f k self scope vs env made d first q m map console st s n less begins whole x (among own (0, omega arith, refl)) e)
         (λ more. cases more
         (λ h. part_shown l calls begun_in b c f vs d first q.pc whole code_at among t shown k self scope vs env made d first q m map console st s n type1 x in_t less begins has room1 h)
-        (λ (v, t1, left, e, h). comes_behind_part l loaded calls begun_in b sound c f k self scope vs env made d first q m map console st s n less begins t type1 (Shown l x) v t1 left correct has
+        (λ (v, t1, left, e, h). comes_behind_part l loaded none calls begun_in b sound c f k self scope vs env made d first q m map console st s n less begins t type1 (Shown l x) v t1 left correct has
         (part_code l calls begun_in b c f vs d first q.pc whole code_at among vs d first q.pc t in_t) room1 e
         (λ u j behind1.
         let fewer = behind1.fewer in
@@ -128,13 +106,13 @@ module _ (l : Loading) (loaded : IsLoaded l) (calls : Calls) (begun_in : Call �
         let q1 : Pointers = record q { pc = pc1; gp = j.gp; acc = j.acc; ra = j.ra } in
         let rest : Ample l q1 16 (F v t1 left) = ample_then l r F q q1 16 16 v t1 left e ample used (omega arith) in
         let (jc, is, h2, rest2) = class_behind l (CaseVoid at) v (λ y. behind (given (nearest_name p calls begun_in cs (chain p y))) (λ name. branch_begun p calls begun_in c f self env k1 v name cs))
-        (rest_of l loaded calls b sound later self env at cs v) q1 16 t1 left x h rest in
+        (rest_of l loaded calls begun_in b sound later self env at cs v) q1 16 t1 left x h rest in
         let (name, near, h3) = given_behind (nearest_name p calls begun_in cs (chain p jc)) (λ name. branch_begun p calls begun_in c f self env k1 v name cs) t1 left x h2 in
         let (y, there, h4') = entry_begun p c calls begun_in c f self env k1 v name cs t1 left x h3 in
         let (below, jc_in, fits) = class_fits p typed behind1.made' v (class_meant k type1) jc behind1.value_fits is in
         let all_in = chain_all p typed.whole jc jc_in in
         let is_first : first_among (chain p jc) es ≡ Some y = chosen p c calls begun_in typed.whole.table cs k1 scope ts have jc jc_in all_in name y near there in
-        let has_y = first_has (Good l loaded calls b c scope d) (chain p jc) es y good is_first in
+        let has_y = first_has (Good l loaded calls begun_in b c scope d) (chain p jc) es y good is_first in
         let shown_y = first_has (λ (z : Entry). AllShown l calls begun_in b z.tree) (chain p jc) es y all_shown is_first in
         let fit : Fits p behind1.made' v y.class = fits_above p typed behind1.made' v jc y.class fits (chain p jc, chain_is p jc typed.whole.table jc_in, among_there (chain p jc) y.class has_y.1) in
         let env' : Environment = record { name = y.name; location = length t1.store } ∷ env in
@@ -147,16 +125,10 @@ module _ (l : Loading) (loaded : IsLoaded l) (calls : Calls) (begun_in : Call �
         let stack = rest.room.stack in
         let way1 = shown_way l t1 j.console j.shows (way_of l t1 (F v t1 left).outcome ((F_later v).later t1 left) rest.alive rest.room.way) in
         comes_behind w u 0 (15 + 4 * length es)
-        (Taken l loaded calls b later c f k self scope vs env behind1.made' d end q m map st t1 u r.words pc1 v j behind1.begins at named line_small jc is jc_in fits es good (first_among (chain p jc) es)) (Shown l x)
-        (finds l loaded calls b later c f k self scope vs env behind1.made' d end q m map st t1 u r.words pc1 v j behind1.begins at named line_small jc is jc_in fits es good h1 (omega arith) way1)
+        (Taken l loaded calls begun_in b later c f k self scope vs env behind1.made' d end q m map st t1 u r.words pc1 v j behind1.begins at named line_small jc is jc_in fits es good (first_among (chain p jc) es)) (Shown l x)
+        (finds l loaded calls begun_in b later c f k self scope vs env behind1.made' d end q m map st t1 u r.words pc1 v j behind1.begins at named line_small jc is jc_in fits es good (tests_at l c f vs d first q.pc at t cs code_at) (omega arith) way1)
         (λ u2 found.
-        let (pc2, lines2, tagged) = subst (λ o. Taken l loaded calls b later c f k self scope vs env behind1.made' d end q m map st t1 u r.words pc1 v j behind1.begins at named line_small jc is jc_in fits es good o u2) is_first found in
-        let (pc3, lines3, in_y) = entry_stands ctx (constants l) vs d end w (chain p jc) es y (pc1 + 28 + 20) h4 is_first in
-        let body = body_of ctx (constants l) vs d end y in
-        let turn = turn_lines end (next_of ctx (constants l) vs d end y) in
-        let place2 = next_placed ctx (constants l) vs d end w (pc2 + sizes body) y (has_back w body turn pc2 (pc2 + sizes body) refl lines2) in
-        let place3 = next_placed ctx (constants l) vs d end w (pc3 + sizes body) y (has_back w body turn pc3 (pc3 + sizes body) refl lines3) in
-        let same : pc3 ≡ pc2 = omega (arith, place2, place3) in
+        let (pc2, lines2, turn2, in_y, tagged) = subst (λ o. Taken l loaded calls begun_in b later c f k self scope vs env behind1.made' d end q m map st t1 u r.words pc1 v j behind1.begins at named line_small jc is jc_in fits es good o u2) is_first found in
         let q2 : Pointers = record q { pc = pc2; gp = j.gp; sp = q.sp - 4; acc = j.acc; ra = j.ra } in
         let m1 = set_word j.memory (q.sp - 4) j.acc in
         let map1 = homed j.map' (length t1.store) (q.sp - 4) in
@@ -169,6 +141,6 @@ module _ (l : Loading) (loaded : IsLoaded l) (calls : Calls) (begun_in : Call �
         let ry = eval p calls self env' y.tree t1' left in
         let rest4 : Ample l q2 0 ry = ample_as l q1 q2 16 0 (taken (branch p calls self env (Some y))) ry refl (omega arith) (omega arith) (omega arith) (omega arith) rest3 in
         part_shown l calls begun_in b c f vs d first q.pc whole code_at among y.tree shown_y.0 k self scope' (bind d y.name y.bound vs) env' made' (d + 1) y.first q2 m1 map1 j.console t1' u2 left has_y.0.type x
-        (λ z i. in_b z (in_y z (subst (λ pc. Contains (spans sizes ctx (constants l) (bind d y.name y.bound vs) (d + 1) y.first pc y.tree) z) (sym same) i))) (omega arith) begins2 has_y.0.has rest4.room
+        (λ z i. told_inside l c f vs d first q.pc at t cs z (in_y z i)) (omega arith) begins2 has_y.0.has rest4.room
         (value_behind (locate v) (λ i. begun p calls begun_in c f self (record { name = y.name; location = i } ∷ env) y.first y.tree) t1 left x h4')))));
   }

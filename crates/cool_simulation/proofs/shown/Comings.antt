@@ -1,6 +1,5 @@
 -- Ways to a state that is to come, put together; and the room of what is on the way.
-use Rattle.std.proofs.Common.{◌≡◌, ℕ, suc, ◌+◌, ◌-◌, ◌*◌, ◌≤◌, ◌⊎◌, inl, inr, List, ◌∷◌, refl, sym, ◌∙◌, subst, arith}
-use Rattle.std.specs.Prelude.{Contains}
+use Rattle.std.proofs.Common.{◌≡◌, ℕ, ◌+◌, ◌-◌, ◌*◌, ◌≤◌, ◌⊎◌, inl, inr, refl, sym, ◌∙◌, subst, arith, None}
 use Rattle.mips_isa.specs.Calls.{State as Machine, Outcome as MachineOutcome, Running, Exited, Trapped}
 use Rattle.mips_isa.specs.Run.{run}
 use Rattle.cool_runtime.specs.Reaches.{World, Ends, Reaches, stands}
@@ -14,15 +13,12 @@ use Rattle.cool_simulation.specs.Simulation.{Runs, Room, Way}
 use Rattle.cool_simulation.specs.Shown.{Comes}
 use Rattle.cool_simulation.specs.Visits.{Visit, Visits, behind}
 use Rattle.cool_simulation.proofs.ground.PartsOfRuns.{part_room, rest_room, room_rest}
+use Rattle.cool_simulation.proofs.ground.Passages.{plain}
 
 -- by one way or by the other
 pub cases : {A B C : Type 0} → A ⊎ B → (A → C) → (B → C) → C
 cases (inl a) f g = f a
 cases (inr b) f g = g b
-
--- the rest of a list is in it
-pub in_rest : {X : Type 0} (x : X) (xs : List X) (y : X) → Contains xs y → Contains (x ∷ xs) y
-in_rest x xs y h = let less = h.1 in (suc h.0, omega arith, h.2)
 
 -- what holds of a value that an outcome has
 abbrev pub on_value : {A : Type 0} → (A → State → ℕ → Type 0) → Outcome A → Type 0
@@ -58,9 +54,9 @@ module _ (w : World) where
 
 module _ (l : Loading) where
   -- a part that comes to a value, and then the way from there
-  pub comes_after : {A : Type 0} (o : Outcome A) (s : Machine) (n most : ℕ) (K : A → State → Machine → Type 0) (v : A) (t : State) (left : ℕ) (Q : Machine → Type 0) → o ≡ Val v t left → Runs l s n most K o
+  pub comes_after : {A : Type 0} → l.watch ≡ None → (o : Outcome A) (s : Machine) (n most : ℕ) (K : A → State → Machine → Type 0) (v : A) (t : State) (left : ℕ) (Q : Machine → Type 0) → o ≡ Val v t left → Runs l s n most K o
       → ((u : Machine) → K v t u → Comes l.world u Q) → Comes l.world s Q
-  comes_after o s n most K v t left Q e runs next = comes_behind l.world s (n - left) most (K v t) Q (subst (λ o. Runs l s n most K o) e runs) next
+  comes_after none o s n most K v t left Q e runs next = comes_behind l.world s (n - left) most (K v t) Q (plain l none s (n - left) most (stands (K v t)) (subst (λ o. Runs l s n most K o) e runs)) next
 
   -- The room of a computation that is not stuck.
   pub record Ample {A : Type 0} (q : Pointers) (besides : ℕ) (r : Metered A) : Type 0 where

@@ -1,5 +1,5 @@
 -- What `if` begins is shown: the test, and behind it the branch that is taken.
-use Rattle.std.proofs.Common.{◌≡◌, ℕ, ◌+◌, List, ◌++◌, refl, subst, arith}
+use Rattle.std.proofs.Common.{◌≡◌, ℕ, ◌+◌, List, ◌++◌, refl, subst, arith, None}
 use Rattle.std.specs.Prelude.{Bool as Truth, true, false, codes, if◌then◌else◌}
 use Rattle.std.proofs.lemmas.List.Elements.{Contains-append_left, Contains-append_right}
 use Rattle.mips_isa.specs.Lines.{Line}
@@ -21,17 +21,19 @@ use Rattle.cool_meaning.specs.Evaluation.{Call, Calls, eval}
 use Rattle.cool_meaning.proofs.SoundParts.{AllCallsSound}
 use Rattle.cool_simulation.specs.Loadings.{Loading, IsLoaded, constants, context}
 use Rattle.cool_simulation.specs.Pictures.{Pic}
-use Rattle.cool_simulation.specs.Simulation.{Correct}
-use Rattle.cool_simulation.specs.Shown.{AllShown, Shown}
+use Rattle.cool_simulation.specs.Simulation.{Correct, Shown}
+use Rattle.cool_simulation.specs.Shown.{AllShown}
 use Rattle.cool_simulation.specs.Visits.{Visits}
 use Rattle.cool_simulation.proofs.ground.Walks.{tests_true, tests_false}
 use Rattle.cool_simulation.proofs.ground.EvaluationLater.{CallsLater, bind_later, if_later, truth_later, eval_later}
 use Rattle.cool_simulation.proofs.ground.NextParts.{begins_at}
-use Rattle.cool_simulation.proofs.shown.Comings.{Ample, ample_as, ample_ruled, ample_then, cases, comes_behind, in_rest, room_first}
+use Rattle.cool_simulation.proofs.shown.Comings.{Ample, ample_as, ample_ruled, ample_then, cases, comes_behind, room_first}
 use Rattle.cool_simulation.proofs.shown.PartsShown.{ample_of, comes_behind_part, own_shown, part_code, part_shown}
+use Rattle.cool_simulation.proofs.ground.CodeOfParts.{in_rest}
+use Rattle.cool_simulation.proofs.ground.Passages.{plain_lines}
 
-module _ (l : Loading) (loaded : IsLoaded l) (calls : Calls) (begun_in : Call → Visits) (b : ℕ) (sound : AllCallsSound l.table calls b) (later : CallsLater calls) where
-  pub if_shown : (at : Place) (t y z : Tree) → Correct l calls b t → AllShown l calls begun_in b t → AllShown l calls begun_in b y → AllShown l calls begun_in b z → AllShown l calls begun_in b (trees.If at t y z)
+module _ (l : Loading) (loaded : IsLoaded l) (none : l.watch ≡ None) (calls : Calls) (begun_in : Call → Visits) (b : ℕ) (sound : AllCallsSound l.table calls b) (later : CallsLater calls) where
+  pub if_shown : (at : Place) (t y z : Tree) → Correct l calls begun_in b t → AllShown l calls begun_in b t → AllShown l calls begun_in b y → AllShown l calls begun_in b z → AllShown l calls begun_in b (trees.If at t y z)
   unfolding test_lines turn_lines mark_lines
   if_shown at t y z correct shown shown1 shown2 = record {
     shown = λ c f k self scope vs env made d first q m map console st s n type x less begins (type1, type2, has, has1, has2, join) code_at room among visit.
@@ -51,7 +53,7 @@ module _ (l : Loading) (loaded : IsLoaded l) (calls : Calls) (begun_in : Call �
         let pc2 = pc1 + 12 in
         let pc3 = pc2 + sizes ly in
         let pc4 = pc3 + 4 in
-        let h1 : HasLines w pc1 r1 = has_back w lt r1 q.pc pc1 refl code_at.lines in
+        let h1 : HasLines w pc1 r1 = has_back w lt r1 q.pc pc1 refl (plain_lines l none q.pc _ code_at.lines) in
         let h2 : HasLines w pc2 r2 = has_back w (test_lines other) r2 pc1 pc2 refl h1 in
         let h3 : HasLines w pc3 r3 = has_back w ly r3 pc2 pc3 refl h2 in
         let tests : HasLines w pc1 (test_lines other) = has_front w (test_lines other) r2 pc1 h1 in
@@ -62,14 +64,14 @@ module _ (l : Loading) (loaded : IsLoaded l) (calls : Calls) (begun_in : Call �
         let xz = spans sizes ctx (constants l) vs d (first + tree_size t + tree_size y) pc4 z in
         let F = λ (v : Value). as_truth v >>= λ (o : Truth). if o then eval l.table calls self env y else eval l.table calls self env z in
         let r = eval l.table calls self env t st n in
-        let ample : Ample l q 16 (seq r F) = ample_ruled l q 0 (seq r F) (ample_of l loaded calls begun_in b sound c f k self scope vs env made d first q m map console st s n less begins whole type (type1, type2, has, has1, has2, join) room) in
+        let ample : Ample l q 16 (seq r F) = ample_ruled l q 0 (seq r F) (ample_of l loaded none calls begun_in b sound c f k self scope vs env made d first q m map console st s n less begins whole type (type1, type2, has, has1, has2, join) room) in
         let room1 = room_first l r F q 16 (λ v t1 left. (bind_later (truth_later v) (λ o. if_later o (eval_later l.table calls later self env y) (eval_later l.table calls later self env z))).later t1 left) ample in
         cases visit
-        (λ e. own_shown l loaded calls begun_in b sound c f k self scope vs env made d first q m map console st s n less begins whole x (among own (0, omega arith, refl)) e)
+        (λ e. own_shown l loaded none calls begun_in b sound c f k self scope vs env made d first q m map console st s n less begins whole x (among own (0, omega arith, refl)) e)
         (λ more. cases more
         (λ h. part_shown l calls begun_in b c f vs d first q.pc whole code_at among t shown k self scope vs env made d first q m map console st s n bool_type x
         (λ i h. in_rest own (xt ++ (xy ++ xz)) i (Contains-append_left xt (xy ++ xz) i h)) less begins has room1 h)
-        (λ (v, t1, left, e, taken). comes_behind_part l loaded calls begun_in b sound c f k self scope vs env made d first q m map console st s n less begins t bool_type (Shown l x) v t1 left correct has
+        (λ (v, t1, left, e, taken). comes_behind_part l loaded none calls begun_in b sound c f k self scope vs env made d first q m map console st s n less begins t bool_type (Shown l x) v t1 left correct has
         (part_code l calls begun_in b c f vs d first q.pc whole code_at among vs d first q.pc t (λ i h. in_rest own (xt ++ (xy ++ xz)) i (Contains-append_left xt (xy ++ xz) i h))) room1 e
         (λ u j behind.
         let fewer = behind.fewer in

@@ -1,5 +1,5 @@
 -- What runs of the source begin is shown by the machine of the program's image.
-use Rattle.std.proofs.Common.{[], refl, sym, subst, arith, append-nil}
+use Rattle.std.proofs.Common.{[], refl, sym, subst, arith, append-nil, None}
 use Rattle.mips_isa.specs.Bytes.{Segments, bytes_of_image}
 use Rattle.mips_isa.specs.ImageBounds.{ImageParts}
 use Rattle.mips_isa.specs.Run as machine
@@ -10,7 +10,7 @@ use Rattle.cool_emit.specs.Programs.{program_data, program_text}
 use Rattle.cool_emit.proofs.ProgramsAreSound.{programs_sound}
 use Rattle.cool_simulation.specs.Loadings.{Loading}
 use Rattle.cool_simulation.specs.MainRun.{RunRoom}
-use Rattle.cool_simulation.specs.Shown.{ComesTo, ProgramsShown, Shown, VisitsShown}
+use Rattle.cool_simulation.specs.Shown.{ComesTo, ProgramsShown, VisitsShown}
 use Rattle.cool_simulation.proofs.calls.AllCalls.{all_calls_correct}
 use Rattle.cool_simulation.proofs.loading.Loaded.{has_image, image, is_loaded, loading, segments}
 use Rattle.cool_simulation.proofs.loading.LoadedImages.{image_is}
@@ -19,11 +19,12 @@ use Rattle.cool_simulation.proofs.loading.StartState.{begun, no_homes, starts, w
 use Rattle.cool_simulation.proofs.shown.AllCalls.{all_calls_shown}
 use Rattle.cool_simulation.proofs.shown.Mains.{program_shown}
 use Rattle.cool_simulation.proofs.shown.SpansInTables.{span_in_table}
+use Rattle.cool_simulation.specs.Simulation.{Shown}
 
 pub programs_shown : ProgramsShown
 programs_shown p names written w m loaded input q map console s n x starts room visit =
-    let l : Loading = record { table = p; files = names; world = w; memory = m } in
-    program_shown l loaded n (all_calls_correct l loaded written n) (all_calls_shown l loaded written n) input q map console s starts room x visit
+    let l : Loading = record { table = p; files = names; world = w; memory = m; watch = None } in
+    program_shown l loaded refl n (all_calls_correct l loaded written n) (all_calls_shown l loaded refl written n) input q map console s starts room x visit
 
 pub visits_shown : VisitsShown
 visits_shown p names input limits n x is bytes are visit heap stack =
@@ -45,6 +46,7 @@ visits_shown p names input limits n x is bytes are visit heap stack =
       table_is = refl;
       files_are = refl;
       text_is = refl;
+      unwatched = refl;
       loaded = loaded;
       count = count;
       machine = t;

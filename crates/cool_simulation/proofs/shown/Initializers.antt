@@ -32,10 +32,10 @@ use Rattle.cool_meaning.specs.Evaluation.{Call, Calls, Initials, run_call, run_i
 use Rattle.cool_meaning.proofs.FittingValues as fitting
 use Rattle.cool_meaning.proofs.Later.{After}
 use Rattle.cool_meaning.proofs.SoundParts.{AllCallsSound}
-use Rattle.cool_simulation.specs.Loadings.{Loading, IsLoaded, constants}
+use Rattle.cool_simulation.specs.Loadings.{Loading, IsLoaded, constants, whole as whole_world}
 use Rattle.cool_simulation.specs.Pictures.{Map}
-use Rattle.cool_simulation.specs.Simulation.{Called, Correct, Done, Room}
-use Rattle.cool_simulation.specs.Shown.{AllShown, Comes, Shown}
+use Rattle.cool_simulation.specs.Simulation.{Called, Correct, Done, Room, Shown}
+use Rattle.cool_simulation.specs.Shown.{AllShown, Comes}
 use Rattle.cool_simulation.specs.Visits.{Visit, Visits, behind, call_begun, initials_begun}
 use Rattle.cool_simulation.proofs.calls.BasicAttributes.{no_attributes}
 use Rattle.cool_simulation.proofs.calls.Entries.{entry_of}
@@ -45,6 +45,7 @@ use Rattle.cool_simulation.proofs.ground.EvaluationLater.{CallsLater}
 use Rattle.cool_simulation.proofs.ground.PartsOfRuns.{way_of}
 use Rattle.cool_simulation.proofs.shown.Comings.{Ample, ample_as, ample_first, ample_then, cases, comes_after, comes_behind}
 use Rattle.cool_simulation.proofs.shown.InitialValues.{parts_shown}
+use Rattle.cool_simulation.proofs.ground.Passages.{unwatched}
 
 -- what attributes begin is what those in front begin, or behind these the others
 split_begun : (p : List Class) (calls : Calls) (begun_in : Call → Visits) (self : Value) (rs rs' : List AttributeRef) (ls : List ℕ) (st : State) (n : ℕ) (x : Visit) → initials_begun p calls begun_in self (rs ++ rs') ls st n x
@@ -62,8 +63,8 @@ split_begun p calls begun_in self (r ∷ rs) rs' (i ∷ ls) st n x (inr (u, t, l
     by (inl k) = inl (inr (u, t, left, e, k))
     by (inr (v, t2, left2, e2, k)) = inr (v, t2, left2, ap (λ y. (seq_of y o.work o.words o.peak (λ _. run_initials p calls self rs ls)).outcome) e ∙ e2, k)
 
-module _ (l : Loading) (loaded : IsLoaded l) (calls : Calls) (begun_in : Call → Visits) (b : ℕ) (later : CallsLater calls) (sound : AllCallsSound l.table calls b) (IsGood : Tree → Type 0)
-    (forms : (t : Tree) → IsGood t → Correct l calls b t) (shown : (t : Tree) → IsGood t → AllShown l calls begun_in b t)
+module _ (l : Loading) (loaded : IsLoaded l) (none : l.watch ≡ None) (calls : Calls) (begun_in : Call → Visits) (b : ℕ) (later : CallsLater calls) (sound : AllCallsSound l.table calls b) (IsGood : Tree → Type 0)
+    (forms : (t : Tree) → IsGood t → Correct l calls begun_in b t) (shown : (t : Tree) → IsGood t → AllShown l calls begun_in b t)
     (goods : (c : ClassId) (j : ℕ) (a : AttributeDef) (t : Tree) → c.0 < length l.table → slice_get (features_of l.table c) j ≡ Some (Attribute a) → a.init ≡ Some t → IsGood t) where
   -- what the initializer of a class begins is shown
   abbrev InitializerShown : ClassId → Type 0
@@ -79,8 +80,8 @@ module _ (l : Loading) (loaded : IsLoaded l) (calls : Calls) (begun_in : Call �
       absurd (subst (λ (rs : List AttributeRef). initials_begun l.table calls begun_in self rs (locations_of self) st n x) (no_attributes l.table loaded.buildable.typed c within less) h)
 
   -- the initializer of a parent runs
-  parent_runs : (c : ClassId) → c.0 < length l.table → runs.InitializerRuns l loaded calls b later sound IsGood forms goods c
-  parent_runs c within self k made q m map console st s n le below called begins room = runs.initials_correct l loaded calls b later sound IsGood forms goods c self k made q m map console st s n le within below called begins room
+  parent_runs : (c : ClassId) → c.0 < length l.table → runs.InitializerRuns l loaded calls begun_in b later sound IsGood forms goods c
+  parent_runs c within self k made q m map console st s n le below called begins room watched = runs.initials_correct l loaded calls begun_in b later sound IsGood forms goods c self k made q m map console st s n le within below called begins room watched
 
   -- the spans of a class's own attributes, from behind the call of its parent's initializer
   own_among : (c parent : ClassId) (pc : ℕ) → 5 ≤ c.0 → parent_of l.table c ≡ Some parent → pc ≡ l.world.place (initializer l.table c) → (y : SpanOf)
@@ -101,48 +102,47 @@ module _ (l : Loading) (loaded : IsLoaded l) (calls : Calls) (begun_in : Call �
       let p = l.table in
       let typed = loaded.buildable.typed in
       let before = parent_runs parent ((typed.whole.grounded.above c parent within above).0) in
-      let first = runs.first l loaded calls b later sound IsGood forms goods c parent within high above before self k made q m map console st s n le below called begins in
-      let rest_locations = runs.rest_locations l loaded calls b later sound IsGood forms goods c parent within high above before self k made q m map console st s n le below called begins in
-      let whole = runs.whole l loaded calls b later sound IsGood forms goods c parent within high above before self k made q m map console st s n le below called begins in
-      let whole_is = runs.whole_is l loaded calls b later sound IsGood forms goods c parent within high above before self k made q m map console st s n le below called begins in
-      let q2 = runs.q2 l loaded calls b later sound IsGood forms goods c parent within high above before self k made q m map console st s n le below called begins in
-      let m1 = runs.m1 l loaded calls b later sound IsGood forms goods c parent within high above before self k made q m map console st s n le below called begins in
-      let map1 = runs.map1 l loaded calls b later sound IsGood forms goods c parent within high above before self k made q m map console st s n le below called begins in
+      let first = runs.first l loaded calls begun_in b later sound IsGood forms goods c parent within high above before self k made q m map console st s n le below called begins in
+      let rest_locations = runs.rest_locations l loaded calls begun_in b later sound IsGood forms goods c parent within high above before self k made q m map console st s n le below called begins in
+      let whole = runs.whole l loaded calls begun_in b later sound IsGood forms goods c parent within high above before self k made q m map console st s n le below called begins in
+      let whole_is = runs.whole_is l loaded calls begun_in b later sound IsGood forms goods c parent within high above before self k made q m map console st s n le below called begins in
+      let q2 = runs.q2 l loaded calls begun_in b later sound IsGood forms goods c parent within high above before self k made q m map console st s n le below called begins in
+      let m1 = runs.m1 l loaded calls begun_in b later sound IsGood forms goods c parent within high above before self k made q m map console st s n le below called begins in
+      let map1 = runs.map1 l loaded calls begun_in b later sound IsGood forms goods c parent within high above before self k made q m map console st s n le below called begins in
       let step = attributes_step p (rooted p typed.whole) c parent within above in
       let F = λ (_ : Value). run_initials p calls self (own_attributes c 0 (features_of p c)) rest_locations in
       let F_later = initials_later p calls later self (own_attributes c 0 (features_of p c)) rest_locations in
       let ample1 : Ample l q (12 * length (chain p c)) whole = subst (λ (y : Metered Value). Ample l q (12 * length (chain p c)) y) whole_is ample in
       let long : length (chain p c) ≡ 1 + length (chain p parent) =
-      (let h = ap length (runs.chain_same l loaded calls b later sound IsGood forms goods c parent within high above before self k made q m map console st s n le below called begins) in omega arith) in
+      (let h = ap length (runs.chain_same l loaded calls begun_in b later sound IsGood forms goods c parent within high above before self k made q m map console st s n le below called begins) in omega arith) in
       let ample2 : Ample l q2 (12 * length (chain p parent)) whole = ample_as l q q2 (12 * length (chain p c)) (12 * length (chain p parent)) whole whole refl (omega arith) (omega arith) (omega arith) (omega arith) ample1 in
       let ample3 : Ample l q2 (12 * length (chain p parent)) first = ample_first l first F q2 (12 * length (chain p parent)) (λ v t left. F_later.later t left) ample2 in
       let laid = l.world.laid in
       let numbers = called.at.numbers in
       let stack = ample1.room.stack in
-      let below' = runs.below_parent l loaded calls b later sound IsGood forms goods c parent within high above before self k made q m map console st s n le below called begins in
+      let below' = runs.below_parent l loaded calls begun_in b later sound IsGood forms goods c parent within high above before self k made q m map console st s n le below called begins in
       let way = way_of l st whole.outcome (subst (λ (y : Metered Value). After st y.outcome) whole_is ((initials_later p calls later self (attributes p c) (locations_of self)).later st n)) ample1.alive ample1.room.way in
       comes_behind l.world s 0 12 (At l.world (entry_of q) m1 console) (Shown l x)
-      (enters l.world q m console s (runs.limits l loaded calls b later sound IsGood forms goods)
-      (has_front l.world enter_lines (call_init_lines (initializer p parent) ++ (runs.own_lines l loaded calls b later sound IsGood forms goods c ++ runs.end_lines l loaded calls b later sound IsGood forms goods)) q.pc
-      (runs.behind_label l loaded calls b later sound IsGood forms goods c parent within high above before self k made q m map console st s n le below called begins)) called.at (omega arith)
-      (runs.way_here l loaded calls b later sound IsGood forms goods st console called.shows way))
+      (enters l.world q m console s (runs.limits l loaded calls begun_in b later sound IsGood forms goods)
+      (runs.enters_there l loaded calls begun_in b later sound IsGood forms goods c parent within high above before self k made q m map console st s n le below called begins) called.at (omega arith)
+      (runs.way_here l loaded calls begun_in b later sound IsGood forms goods st console called.shows way))
       (λ s1 at1. comes_behind l.world s1 0 1 (At l.world q2 m1 console) (Shown l x)
-      (starting.calls l.world (initializer p parent) (entry_of q) m1 console s1 (runs.jump l loaded calls b later sound IsGood forms goods c parent within high above before self k made q m map console st s n le below called begins) at1)
+      (starting.calls l.world (initializer p parent) (entry_of q) m1 console s1 (runs.jump l loaded calls begun_in b later sound IsGood forms goods c parent within high above before self k made q m map console st s n le below called begins) at1)
       (λ s2 at2.
-      let called' = runs.called_parent l loaded calls b later sound IsGood forms goods c parent within high above before self k made q m map console st s n le below called begins s2 at2 in
+      let called' = runs.called_parent l loaded calls begun_in b later sound IsGood forms goods c parent within high above before self k made q m map console st s n le below called begins s2 at2 in
       cases (split_begun p calls begun_in self (attributes p parent) (own_attributes c 0 (features_of p c)) (locations_of self) st n x (subst (λ (rs : List AttributeRef). initials_begun p calls begun_in self rs (locations_of self) st n x) step visit))
       (λ h. parent_shown self k made q2 m1 map1 console st s2 n x le below' called' refl ample3 h)
-      (λ (v, t, left, e, h). comes_after l first.outcome s2 n (64 * first.work + 20 * length (chain p parent)) (λ v. Done l (record q2 { pc = q.pc + 36 + 4 }) m1 map1 st first.words self) v t left (Shown l x) e
-      (before self k made q2 m1 map1 console st s2 n le below' called' refl ample3.room)
+      (λ (v, t, left, e, h). comes_after l none first.outcome s2 n (64 * first.work + 20 * length (chain p parent)) (λ v. Done l (record q2 { pc = q.pc + 36 + 4 }) m1 map1 st first.words self) v t left (Shown l x) e
+      (before self k made q2 m1 map1 console st s2 n le below' called' refl ample3.room (λ y h. unwatched l none y))
       (λ u d.
-      let (fine, inside, (more, made_rest), homes) = runs.own_part l loaded calls b later sound IsGood forms goods c parent within high above before self k made q m map console st s n le below called begins t left u v e d in
+      let (fine, inside, (more, made_rest), homes) = runs.own_part l loaded calls begun_in b later sound IsGood forms goods c parent within high above before self k made q m map console st s n le below called begins t left u v e d in
       let fewer = fine.fewer in
       let used = d.gp_to in
       let q3 : Pointers = record q2 { pc = q.pc + 36 + 4; gp = d.gp; acc = d.acc; ra = d.ra } in
-      parts_shown l loaded calls begun_in b later sound IsGood forms shown c k self within below called.within called.plain called.class (λ j a t there init. goods c j a t within there init) (features_of p c) 0 (attributes p parent) more rest_locations
+      parts_shown l loaded none calls begun_in b later sound IsGood forms shown c k self within below called.within called.plain called.class (λ j a t there init. goods c j a t within there init) (features_of p c) 0 (attributes p parent) more rest_locations
       (λ i y there. let same : i ≡ 0 + i = omega arith in subst (λ (z : ℕ). slice_get (features_of p c) z ≡ Some y) same there) step fine.world q3 d.memory d.map' d.console t u left x (omega arith) inside made_rest homes
-      (has_front l.world (runs.own_lines l loaded calls b later sound IsGood forms goods c) (runs.end_lines l loaded calls b later sound IsGood forms goods) (q.pc + 36 + 4)
-      (runs.behind_call l loaded calls b later sound IsGood forms goods c parent within high above before self k made q m map console st s n le below called begins))
+      (has_front (whole_world l) (runs.own_lines l loaded calls begun_in b later sound IsGood forms goods c) (runs.end_lines l loaded calls begun_in b later sound IsGood forms goods) (q.pc + 36 + 4)
+      (runs.behind_call l loaded calls begun_in b later sound IsGood forms goods c parent within high above before self k made q m map console st s n le below called begins))
       (ample_then l first F q2 q3 (12 * length (chain p parent)) 0 v t left e ample2 used (omega arith)) (λ y i. own_among c parent q.pc high above begins y i) h))))
 
   depth_step : (c : ClassId) → c.0 < length l.table → ((parent : ClassId) → parent_of l.table c ≡ Some parent → InitializerShown parent) → InitializerShown c

@@ -1,5 +1,5 @@
 -- What `while` begins is shown: in each turn the test, and where it holds, the body.
-use Rattle.std.proofs.Common.{◌≡◌, ℕ, zero, suc, ◌+◌, ◌≤◌, List, ◌++◌, refl, subst, arith}
+use Rattle.std.proofs.Common.{◌≡◌, ℕ, zero, suc, ◌+◌, ◌≤◌, List, ◌++◌, refl, subst, arith, None}
 use Rattle.std.specs.Prelude.{Bool as Truth, true, codes, if◌then◌else◌, Contains}
 use Rattle.std.proofs.lemmas.List.Elements.{Contains-append_left, Contains-append_right}
 use Rattle.mips_isa.specs.Bytes.{Bytes}
@@ -29,19 +29,21 @@ use Rattle.cool_meaning.proofs.FittingValues as fitting
 use Rattle.cool_meaning.proofs.SoundParts.{AllCallsSound}
 use Rattle.cool_simulation.specs.Loadings.{Loading, IsLoaded, constants, context}
 use Rattle.cool_simulation.specs.Pictures.{Map, Pic}
-use Rattle.cool_simulation.specs.Simulation.{Begins, CodeAt, Correct}
-use Rattle.cool_simulation.specs.Shown.{AllShown, Comes, IsSpan, Shown}
+use Rattle.cool_simulation.specs.Simulation.{Begins, CodeAt, Correct, IsSpan, Shown}
+use Rattle.cool_simulation.specs.Shown.{AllShown, Comes}
 use Rattle.cool_simulation.specs.Visits.{Visit, Visits, begun, behind, behind_step, turns_begun, ◌or◌}
 use Rattle.cool_simulation.proofs.ground.Walks.{tests_true, repeats}
 use Rattle.cool_simulation.proofs.ground.EvaluationLater.{CallsLater, ComesLater, bind_later, eval_later, give_later, if_later, spend_later, then_later, truth_later, turns_later}
 use Rattle.cool_simulation.proofs.ground.NextParts.{begins_at}
-use Rattle.cool_simulation.proofs.shown.Comings.{Ample, ample_as, ample_ruled, ample_then, cases, comes_behind, in_rest, room_first}
+use Rattle.cool_simulation.proofs.shown.Comings.{Ample, ample_as, ample_ruled, ample_then, cases, comes_behind, room_first}
 use Rattle.cool_simulation.proofs.shown.PartsShown.{ample_of, comes_behind_part, own_shown, part_code, part_shown}
+use Rattle.cool_simulation.proofs.ground.CodeOfParts.{in_rest}
+use Rattle.cool_simulation.proofs.ground.Passages.{plain_lines}
 
-module _ (l : Loading) (loaded : IsLoaded l) (calls : Calls) (begun_in : Call → Visits) (b : ℕ) (sound : AllCallsSound l.table calls b) (later : CallsLater calls) where
+module _ (l : Loading) (loaded : IsLoaded l) (none : l.watch ≡ None) (calls : Calls) (begun_in : Call → Visits) (b : ℕ) (sound : AllCallsSound l.table calls b) (later : CallsLater calls) where
   module _ (c : ClassId) (f : ℕ) (k : ClassId) (self : Value) (scope : List Binding) (vs : List Named) (env : Environment) (d first pc : ℕ) (whole test body : Tree) (type : Ty) (begin end : Name)
-      (code_at : CodeAt l c f vs d first pc whole) (among : (y : Span) → Contains (spans sizes (context l c f) (constants l) vs d first pc whole) y → IsSpan l c f y) (correct : Correct l calls b test)
-      (correct' : Correct l calls b body) (shown : AllShown l calls begun_in b test) (shown' : AllShown l calls begun_in b body) (has : HasType l.table c scope test bool_type) (has' : HasType l.table c scope body type) where
+      (code_at : CodeAt l c f vs d first pc whole) (among : (y : Span) → Contains (spans sizes (context l c f) (constants l) vs d first pc whole) y → IsSpan l c f y) (correct : Correct l calls begun_in b test)
+      (correct' : Correct l calls begun_in b body) (shown : AllShown l calls begun_in b test) (shown' : AllShown l calls begun_in b body) (has : HasType l.table c scope test bool_type) (has' : HasType l.table c scope body type) where
     abbrev T : Computation Value
     T = eval l.table calls self env test
 
@@ -100,7 +102,7 @@ module _ (l : Loading) (loaded : IsLoaded l) (calls : Calls) (begun_in : Call �
           let begins2 = begins_at l loaded calls b sound c k self scope vs env made d q1 m map console t1 u u2 pc2 q.acc q.ra begins there in
           cases h
           (λ i. part_shown l calls begun_in b c f vs d first pc whole code_at among body shown' k self scope vs env made d (first + tree_size test) q2 m map console t1 u2 left type x in_body (omega arith) begins2 has' room1 i)
-          (λ (v2, t2, left2, e2, i). comes_behind_part l loaded calls begun_in b sound c f k self scope vs env made d (first + tree_size test) q2 m map console t1 u2 left (omega arith) begins2 body type (Shown l x) v2 t2 left2 correct' has'
+          (λ (v2, t2, left2, e2, i). comes_behind_part l loaded none calls begun_in b sound c f k self scope vs env made d (first + tree_size test) q2 m map console t1 u2 left (omega arith) begins2 body type (Shown l x) v2 t2 left2 correct' has'
           (part_code l calls begun_in b c f vs d first pc whole code_at among vs d (first + tree_size test) pc2 body in_body) room1 e2
           (λ u3 j2 behind2.
           let fewer = behind2.fewer in
@@ -124,7 +126,7 @@ module _ (l : Loading) (loaded : IsLoaded l) (calls : Calls) (begun_in : Call �
           let room1 = room_first l r F q0 16 (λ v t1 left. (bind_later (truth_later v) (λ o. G_later j o)).later t1 left) ample0 in
           cases visit
           (λ h. part_shown l calls begun_in b c f vs d first pc whole code_at among test shown k self scope vs env made d first q0 m map console st s n bool_type x in_test less begins has room1 h)
-          (λ (v, t1, left, e, (is, h)). comes_behind_part l loaded calls begun_in b sound c f k self scope vs env made d first q0 m map console st s n less begins test bool_type (Shown l x) v t1 left correct has
+          (λ (v, t1, left, e, (is, h)). comes_behind_part l loaded none calls begun_in b sound c f k self scope vs env made d first q0 m map console st s n less begins test bool_type (Shown l x) v t1 left correct has
           (part_code l calls begun_in b c f vs d first pc whole code_at among vs d first pc test in_test) room1 e
           (λ u i behind1.
           let fewer = behind1.fewer in
@@ -134,7 +136,7 @@ module _ (l : Loading) (loaded : IsLoaded l) (calls : Calls) (begun_in : Call �
           turn j (turns_shown j) behind1.made' q1 i.memory i.map' i.console t1 u left x (omega arith) behind1.begins (subst (λ o. Pic l.world i.memory i.map' t1.drawn i.gp o i.acc) is i.value)
           (ample_as l q1 q1 16 16 (F (Bool true) t1 left) (G j true t1 left) refl (omega arith) (omega arith) (omega arith) (omega arith) (subst (λ o. Ample l q1 16 (F o t1 left)) is rest)) h))
 
-  pub while_shown : (at : Place) (test body : Tree) → Correct l calls b test → Correct l calls b body → AllShown l calls begun_in b test → AllShown l calls begun_in b body → AllShown l calls begun_in b (trees.While at test body)
+  pub while_shown : (at : Place) (test body : Tree) → Correct l calls begun_in b test → Correct l calls begun_in b body → AllShown l calls begun_in b test → AllShown l calls begun_in b body → AllShown l calls begun_in b (trees.While at test body)
   unfolding mark_lines test_lines repeat_lines
   while_shown at test body correct correct' shown shown' = record {
     shown = λ c f k self scope vs env made d first q m map console st s n type x less begins (type1, has, has', is) code_at room among visit.
@@ -152,7 +154,7 @@ module _ (l : Loading) (loaded : IsLoaded l) (calls : Calls) (begun_in : Call �
         let a1 = q.pc + sizes lt in
         let a2 = a1 + 12 in
         let a3 = a2 + sizes lb in
-        let h1 : HasLines w q.pc r1 = has_back w (mark_lines loop) r1 q.pc q.pc (omega arith) code_at.lines in
+        let h1 : HasLines w q.pc r1 = has_back w (mark_lines loop) r1 q.pc q.pc (omega arith) (plain_lines l none q.pc (mark_lines loop ++ r1) code_at.lines) in
         let h2 : HasLines w a1 r2 = has_back w lt r2 q.pc a1 refl h1 in
         let h3 : HasLines w a2 r3 = has_back w (test_lines end) r3 a1 a2 refl h2 in
         let h4 : HasLines w a3 r4 = has_back w lb r4 a2 a3 refl h3 in
@@ -165,10 +167,10 @@ module _ (l : Loading) (loaded : IsLoaded l) (calls : Calls) (begun_in : Call �
         let xb = spans sizes ctx (constants l) vs d (first + tree_size test) p2 body in
         let r = turns (suc n) (eval l.table calls self env test) (eval l.table calls self env body) st n in
         cases visit
-        (λ e. own_shown l loaded calls begun_in b sound c f k self scope vs env made d first q m map console st s n less begins whole x (among own (0, omega arith, refl)) e)
+        (λ e. own_shown l loaded none calls begun_in b sound c f k self scope vs env made d first q m map console st s n less begins whole x (among own (0, omega arith, refl)) e)
         (λ h. turns_shown c f k self scope vs env d first q.pc whole test body type1 loop end code_at among correct correct' shown shown' has has'
         (λ y i. in_rest own (xt ++ xb) y (Contains-append_left xt xb y (subst (λ a. Contains (spans sizes ctx (constants l) vs d first a test) y) same0 i)))
         (λ y i. in_rest own (xt ++ xb) y (Contains-append_right xt xb y (subst (λ a. Contains (spans sizes ctx (constants l) vs d (first + tree_size test) a body) y) same2 i)))
         (has_front w (test_lines end) r3 a1 h2) h4 code_at.lines.0.labels.0 (suc n) made q m map console st s n x less begins
-        (ample_ruled l q 0 r (ample_of l loaded calls begun_in b sound c f k self scope vs env made d first q m map console st s n less begins whole type (type1, has, has', is) room)) h);
+        (ample_ruled l q 0 r (ample_of l loaded none calls begun_in b sound c f k self scope vs env made d first q m map console st s n less begins whole type (type1, has, has', is) room)) h);
   }

@@ -1,5 +1,5 @@
 -- What the run of a loaded program begins is shown: the initial values of the new Main, and then what `main` begins.
-use Rattle.std.proofs.Common.{◌≡◌, ℕ, zero, suc, ◌+◌, ◌*◌, List, [], length, Option, Some, sym, ap, ◌∙◌, refl, subst, arith}
+use Rattle.std.proofs.Common.{◌≡◌, ℕ, zero, suc, ◌+◌, ◌*◌, List, [], length, Option, Some, sym, ap, ◌∙◌, refl, subst, arith, None}
 use Rattle.std.specs.Prelude.{codes, max}
 use Rattle.mips_isa.specs.Calls.{State as Machine}
 use Rattle.cool_syntax.specs.Bare.{nowhere}
@@ -22,16 +22,17 @@ use Rattle.cool_meaning.proofs.SoundRuns.{never_stuck, within_sound}
 use Rattle.cool_simulation.specs.Loadings.{Loading, IsLoaded}
 use Rattle.cool_simulation.specs.MainRun.{RunRoom, Starts}
 use Rattle.cool_simulation.specs.Pictures.{Map}
-use Rattle.cool_simulation.specs.Simulation.{AllCallsCorrect, Done}
-use Rattle.cool_simulation.specs.Shown.{AllCallsShown, Comes, Shown}
+use Rattle.cool_simulation.specs.Simulation.{AllCallsCorrect, Done, Shown}
+use Rattle.cool_simulation.specs.Shown.{AllCallsShown, Comes}
 use Rattle.cool_simulation.specs.Visits.{Visit, begun_within, behind, behind_step, called as called_begun, dispatched, program_begun}
 use Rattle.cool_simulation.proofs.ground.DataHere.{prototype_here}
 use Rattle.cool_simulation.proofs.theorem.MainCall as main
 use Rattle.cool_simulation.proofs.theorem.MainNames.{main_class, main_found, main_has, main_made, main_main_is, main_plain}
 use Rattle.cool_simulation.proofs.shown.Comings.{Ample, ample_as, ample_first, ample_less, ample_then, cases, comes_after, comes_behind, value_behind}
 use Rattle.cool_simulation.proofs.shown.News.{made_shown}
+use Rattle.cool_simulation.proofs.ground.Passages.{unwatched}
 
-module _ (l : Loading) (is : IsLoaded l) (n : ℕ) (correct : AllCallsCorrect l (calls_within l.table n) n) (shown : AllCallsShown l (calls_within l.table n) (begun_within l.table n) n) (input : List ℕ) (q : Pointers) (map : Map)
+module _ (l : Loading) (is : IsLoaded l) (none : l.watch ≡ None) (n : ℕ) (correct : AllCallsCorrect l (calls_within l.table n) (begun_within l.table n) n) (shown : AllCallsShown l (calls_within l.table n) (begun_within l.table n) n) (input : List ℕ) (q : Pointers) (map : Map)
     (console : Console) (s : Machine) (starts : Starts l input q map console s) where
   abbrev class : ClassId
   class = is.buildable.typed.lawful.main.class
@@ -89,7 +90,7 @@ module _ (l : Loading) (is : IsLoaded l) (n : ℕ) (correct : AllCallsCorrect l 
       let ample0 : Ample l q 0 M = ample_less l q q 12 0 M (omega arith) (omega arith) (ample_first l M F q 12 F_later ample) in
       let proto = prototype_here l is l.memory map st q.gp q.sp starts.at.numbers.gp_from starts.pictures class within in
       cases visit
-      (λ h. made_shown l is calls (begun_within p n) n correct (main.within_later p n) shown class within (main_plain p typed) [] q l.memory map console st s (main.making l is n correct input q map console s starts) (q.pc + 16) 20 n x
+      (λ h. made_shown l is none calls (begun_within p n) n correct (main.within_later p n) shown class within (main_plain p typed) [] q l.memory map console st s (main.making l is n correct input q map console s starts) (q.pc + 16) 20 n x
       (class_made p Void (codes "Main")) (main_made p typed) (main.ra_fits l is n correct input q map console s starts) (omega arith) (main.creates l is n correct input q map console s starts proto.lies proto.head.size_is)
       (subst (λ (o : Option ClassId). Ample l q 0 (make p calls o st n)) (sym (main_made p typed)) ample0) h)
       (λ (v, t, left, e, h).
@@ -97,7 +98,7 @@ module _ (l : Loading) (is : IsLoaded l) (n : ℕ) (correct : AllCallsCorrect l 
       let sound = (make_sound p typed calls n (within_sound p typed n) [] class within).sound st n (omega arith) tt in
       let fine : IsFine p [] n (λ w y. Fits p w y class) v t left = subst (NotStuck p [] n (λ w y. Fits p w y class)) e1 sound in
       let same : object ≡ v = main.object_given p calls class st n v t left (main_plain p typed) e1 in
-      comes_after l M.outcome s n (64 * M.work) (λ v t u. Done l (record q { pc = q.pc + 16 }) l.memory map st M.words v t u) v t left (Shown l x) e1 (main.made l is n correct input q map console s starts ample0.room)
+      comes_after l none M.outcome s n (64 * M.work) (λ v t u. Done l (record q { pc = q.pc + 16 }) l.memory map st M.words v t u) v t left (Shown l x) e1 (main.made l is n correct input q map console s starts ample0.room (λ y h. unwatched l none y))
       (λ u d.
       let V = λ (w : Value). behind (class_or (DispatchVoid nowhere) w) (λ c. dispatched p calls (begun_within p n) c (codes "main") w []) in
       let used = d.gp_to in

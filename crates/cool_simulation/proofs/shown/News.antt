@@ -1,5 +1,5 @@
 -- What `new` begins is shown: the initial values of the new object, behind the copy of its prototype.
-use Rattle.std.proofs.Common.{◌≡◌, ◌≢◌, ℕ, zero, suc, ◌+◌, ◌*◌, ◌<◌, ◌≤◌, List, ◌++◌, length, Option, Some, sym, ap, ◌∙◌, refl, subst, arith}
+use Rattle.std.proofs.Common.{◌≡◌, ◌≢◌, ℕ, zero, suc, ◌+◌, ◌*◌, ◌<◌, ◌≤◌, List, ◌++◌, length, Option, Some, sym, ap, ◌∙◌, refl, subst, arith, None}
 use Rattle.std.specs.Prelude.{Bool as Truth, if◌then◌else◌}
 use Rattle.mips_isa.specs.Bytes.{Bytes}
 use Rattle.mips_isa.specs.Calls.{State as Machine}
@@ -31,10 +31,10 @@ use Rattle.cool_meaning.specs.BasicMethods.{draw, locate_all}
 use Rattle.cool_meaning.specs.Evaluation.{Call, Calls, Initials, make}
 use Rattle.cool_meaning.proofs.FittingValues as fitting
 use Rattle.cool_meaning.proofs.SoundParts.{AllCallsSound, is_other}
-use Rattle.cool_simulation.specs.Loadings.{Loading, IsLoaded}
+use Rattle.cool_simulation.specs.Loadings.{Loading, IsLoaded, whole}
 use Rattle.cool_simulation.specs.Pictures.{Map}
-use Rattle.cool_simulation.specs.Simulation.{AllCallsCorrect, Begins, Way}
-use Rattle.cool_simulation.specs.Shown.{AllCallsShown, AllShown, Comes, Shown}
+use Rattle.cool_simulation.specs.Simulation.{AllCallsCorrect, Begins, Way, Shown}
+use Rattle.cool_simulation.specs.Shown.{AllCallsShown, AllShown, Comes}
 use Rattle.cool_simulation.specs.Visits.{Visit, Visits, behind, behind_step, made as object_begun}
 use Rattle.cool_simulation.proofs.ground.EvaluationLater.{CallsLater}
 use Rattle.cool_simulation.proofs.ground.LargerMaps.{numbers, with_values}
@@ -47,13 +47,17 @@ use Rattle.cool_simulation.proofs.forms.News.{computed, way_with}
 use Rattle.lists.proofs.EqualBytes.{bytes_differ, bytes_same}
 use Rattle.cool_simulation.proofs.shown.Comings.{Ample, cases, comes_behind, on_value, value_behind}
 use Rattle.cool_simulation.proofs.shown.PartsShown.{ample_of, own_shown}
+use Rattle.cool_simulation.proofs.ground.Passages.{plain, unwatched}
+use Rattle.cool_simulation.proofs.ground.NoMarks.{plain_free}
+use Rattle.cool_simulation.proofs.ground.Heads.{visit, visit_shown}
+use Rattle.cool_simulation.proofs.ground.CodeOfParts.{own_placed}
 
 -- an object whose call is stuck is stuck
 with_stuck : (v : Value) (o : Outcome Value) → o ≡ Stuck → outcome_with v o ≡ Stuck
 unfolding outcome_with
 with_stuck v o e = ap (outcome_with v) e
 
-module _ (l : Loading) (is : IsLoaded l) (calls : Calls) (begun_in : Call → Visits) (b : ℕ) (correct : AllCallsCorrect l calls b) (later : CallsLater calls) (shown : AllCallsShown l calls begun_in b) where
+module _ (l : Loading) (is : IsLoaded l) (none : l.watch ≡ None) (calls : Calls) (begun_in : Call → Visits) (b : ℕ) (correct : AllCallsCorrect l calls begun_in b) (later : CallsLater calls) (shown : AllCallsShown l calls begun_in b) where
   -- what a new object of a class begins
   abbrev begun_by : ClassId → Visits
   begun_by c = behind_step (behind (locate_all (default_values l.table (attributes l.table c))) (λ ls. behind draw (λ i. begun_in (Initials c (Obj c i ls)))))
@@ -62,7 +66,7 @@ module _ (l : Loading) (is : IsLoaded l) (calls : Calls) (begun_in : Call → Vi
     computed_shown : (ra a n : ℕ) (x : Visit) → ra < 4294967296 → n ≤ b
         → (q.gp + 4 * size_of l is c + 4 ≤ l.world.top → OnTheWay l.world console.output console.input
         → Reaches l.world s 1 (7 * size_of l is c + a) (stands (At l.world (entry l is q c ra) (copy_of l is m q c) console)))
-        → Ample l q 0 (computed l is calls b correct later c within plain made q m map console st s making st n) → begun_by c st n x → Comes l.world s (Shown l x)
+        → Ample l q 0 (computed l is calls begun_in b correct later c within plain made q m map console st s making st n) → begun_by c st n x → Comes l.world s (Shown l x)
     computed_shown ra a zero x low le copies ample h = absurd h
     computed_shown ra a (suc n) x low le copies ample h =
         let p = l.table in
@@ -101,37 +105,40 @@ module _ (l : Loading) (is : IsLoaded l) (calls : Calls) (begun_in : Call → Vi
         computed_shown ra a n x low le copies (subst (λ (d : Computation Value). Ample l q 0 (d st n)) (make_plain l.table calls c plain) ample1) h1.1
 
   new_begins : (c k : ClassId) (self : Value) (scope : List Binding) (vs : List Named) (env : Environment) (made : fitting.World) (d : ℕ) (q : Pointers) (m : Bytes) (map : Map) (console : Console) (st : State) (s : Machine) (n : ℕ)
-      (name : List ℕ) (type : Ty) (x : Visit) → n ≤ b → Begins l c k self scope vs env made d q m map console st s → Denotes l.table name type → HasLines l.world q.pc (new_code l.table (type_meant l.table name))
+      (name : List ℕ) (type : Ty) (y x : Visit) → Shown l y s → n ≤ b → Begins l c k self scope vs env made d q m map console st s → Denotes l.table name type → HasLines (whole l) q.pc (new_code l.table (type_meant l.table name))
       → Ample l q 0 (make l.table calls (class_made l.table self name) st n) → object_begun l.table calls begun_in (class_made l.table self name) st n x → Comes l.world s (Shown l x)
-  new_begins c k self scope vs env made d q m map console st s n name SelfType x le begins denotes has ample h =
+  new_begins c k self scope vs env made d q m map console st s n name SelfType y x here le begins denotes has ample h =
       let typed = is.buildable.typed in
       let scene = begins.scene in
       let meant : type_meant l.table name ≡ SelfType = meant_is l.table typed.whole.table name SelfType denotes in
       let class : class_made l.table self name ≡ Some k = ap (λ (y : Truth). if y then class_of self else class_named l.table name) (bytes_same name self_type denotes) ∙ scene.class in
-      let making = making_of l is calls b correct later c k self scope vs env made d q m map console st s begins in
-      let lines = subst (λ (y : Ty). HasLines l.world q.pc (new_code l.table y)) meant has in
-      made_shown k scene.k_within scene.plain made q m map console st s making (q.pc + 28 + 28) 30 n x (class_made l.table self name) class (let low = own_low l.world q.pc lines in omega arith) le
-      (λ room way. created_own l is calls b correct later made q m map console st s making k self scene.k_within scene.plain scene.class begins.self_is lines room way) ample h
-  new_begins c k self scope vs env made d q m map console st s n name (IsClass y) x le begins denotes has ample h =
+      let making = making_of l is calls begun_in b correct later c k self scope vs env made d q m map console st s begins in
+      let lines = subst (λ (u : Ty). HasLines (whole l) q.pc (new_code l.table u)) meant has in
+      made_shown k scene.k_within scene.plain made q m map console st s making (q.pc + 28 + 28) 30 n x (class_made l.table self name) class (let low = own_low (whole l) q.pc lines in omega arith) le
+      (λ room way. plain l none s 1 (7 * size_of l is k + 30) _
+      (created_own l is calls begun_in b correct later made q m map console st s making y (unwatched l none y) here k self scene.k_within scene.plain scene.class begins.self_is lines (plain_free l none (q.pc + 4) (q.pc + 56)) room way)) ample h
+  new_begins c k self scope vs env made d q m map console st s n name (IsClass z) y x here le begins denotes has ample h =
       let typed = is.buildable.typed in
-      let meant : type_meant l.table name ≡ IsClass y = meant_is l.table typed.whole.table name (IsClass y) denotes in
-      let other : name ≢ self_type = λ same. typed.whole.table.no_self_type y denotes.0 (denotes.1 ∙ same) in
-      let class : class_made l.table self name ≡ Some y =
-      ap (λ (z : Truth). if z then class_of self else class_named l.table name) (bytes_differ name self_type other) ∙ class_by_name l.table typed.whole.table y name denotes.0 denotes.1 in
-      let making = making_of l is calls b correct later c k self scope vs env made d q m map console st s begins in
-      let lines = subst (λ (z : Ty). HasLines l.world q.pc (new_code l.table z)) meant has in
-      let begun1 : object_begun l.table calls begun_in (Some y) st n x = subst (λ (z : Option ClassId). object_begun l.table calls begun_in z st n x) class h in
-      let plain : MayInherit y = record { no_int = is_other y.0 2 begun1.0.0; no_bool = is_other y.0 3 begun1.0.1; no_string = is_other y.0 4 begun1.0.2 } in
-      made_shown y denotes.0 plain made q m map console st s making (q.pc + 16) 20 n x (class_made l.table self name) class (let low = create_low l.world q.pc (prototype l.table y) (initializer l.table y) lines in omega arith) le
-      (λ room way. created l is calls b correct later made q m map console st s making y denotes.0 lines room way) ample h
+      let meant : type_meant l.table name ≡ IsClass z = meant_is l.table typed.whole.table name (IsClass z) denotes in
+      let other : name ≢ self_type = λ same. typed.whole.table.no_self_type z denotes.0 (denotes.1 ∙ same) in
+      let class : class_made l.table self name ≡ Some z =
+      ap (λ (u : Truth). if u then class_of self else class_named l.table name) (bytes_differ name self_type other) ∙ class_by_name l.table typed.whole.table z name denotes.0 denotes.1 in
+      let making = making_of l is calls begun_in b correct later c k self scope vs env made d q m map console st s begins in
+      let lines = subst (λ (u : Ty). HasLines (whole l) q.pc (new_code l.table u)) meant has in
+      let begun1 : object_begun l.table calls begun_in (Some z) st n x = subst (λ (u : Option ClassId). object_begun l.table calls begun_in u st n x) class h in
+      let inherits : MayInherit z = record { no_int = is_other z.0 2 begun1.0.0; no_bool = is_other z.0 3 begun1.0.1; no_string = is_other z.0 4 begun1.0.2 } in
+      made_shown z denotes.0 inherits made q m map console st s making (q.pc + 16) 20 n x (class_made l.table self name) class (let low = create_low (whole l) q.pc (prototype l.table z) (initializer l.table z) lines in omega arith) le
+      (λ room way. plain l none s 1 (7 * size_of l is z + 20) _
+      (created l is calls begun_in b correct later made q m map console st s making y (unwatched l none y) here z denotes.0 lines (plain_free l none (q.pc + 4) (q.pc + 16)) room way)) ample h
 
   pub new_shown : AllCallsSound l.table calls b → (at : Place) (class : TypeRef) → AllShown l calls begun_in b (trees.New at class)
   new_shown sound at class = record {
-    shown = λ c f k self scope vs env made d first q m map console st s n type x le begins has code_at room among visit.
+    shown = λ c f k self scope vs env made d first q m map console st s n type x le begins has code_at room among begun_here.
         let whole = trees.New at class in
         let own = span vs d first q.pc whole in
-        cases visit
-        (λ e. own_shown l is calls begun_in b sound c f k self scope vs env made d first q m map console st s n le begins whole x (among own (0, omega arith, refl)) e)
-        (λ h. new_begins c k self scope vs env made d q m map console st s n class.name type x le begins has code_at.lines
-        (ample_of l is calls begun_in b sound c f k self scope vs env made d first q m map console st s n le begins whole type has room) h);
+        cases begun_here
+        (λ e. own_shown l is none calls begun_in b sound c f k self scope vs env made d first q m map console st s n le begins whole x (among own (0, omega arith, refl)) e)
+        (λ h. new_begins c k self scope vs env made d q m map console st s n class.name type (visit c f first whole self env st n) x
+        (visit_shown l c f k self scope vs env made d first q m map console st s n whole begins (own_placed l c f vs d first q.pc whole code_at)) le begins has code_at.lines
+        (ample_of l is none calls begun_in b sound c f k self scope vs env made d first q m map console st s n le begins whole type has room) h);
   }

@@ -1,11 +1,9 @@
 -- What an expression begins: itself, where the machine stands, and what its parts begin, from where they do.
-use Rattle.std.proofs.Common.{◌≡◌, ℕ, ◌+◌, ◌-◌, ◌*◌, ◌≤◌, List, refl, sym, subst, arith}
+use Rattle.std.proofs.Common.{◌≡◌, ℕ, ◌+◌, ◌-◌, ◌*◌, ◌≤◌, List, refl, sym, subst, None}
 use Rattle.std.specs.Prelude.{Contains}
 use Rattle.mips_isa.specs.Bytes.{Bytes}
 use Rattle.mips_isa.specs.Calls.{State as Machine}
-use Rattle.mips_isa.specs.Lines.{Line}
 use Rattle.cool_syntax.specs.Tree.{Tree}
-use Rattle.cool_syntax.specs.Tree as trees
 use Rattle.cool_classes.specs.declared.class_id.ClassId.{ClassId}
 use Rattle.cool_classes.specs.declared.class_id.Ty.{Ty}
 use Rattle.cool_rules.specs.Conformance.{class_of as class_meant}
@@ -13,8 +11,7 @@ use Rattle.cool_rules.specs.Scopes.{Binding}
 use Rattle.cool_rules.specs.Typing.{HasType}
 use Rattle.cool_runtime.specs.Standing.{sizes}
 use Rattle.cool_runtime.specs.Machines.{Pointers, Console}
-use Rattle.cool_consts.specs.Constants.{Constants}
-use Rattle.cool_codegen.specs.Code.{Context, code}
+use Rattle.cool_codegen.specs.Code.{code}
 use Rattle.cool_codegen.specs.Spans.{Span, span, spans}
 use Rattle.cool_codegen.specs.Variables.{Named}
 use Rattle.cool_meaning.specs.Values.{Value, State, Environment}
@@ -27,35 +24,16 @@ use Rattle.cool_meaning.proofs.SoundParts.{AllCallsSound}
 use Rattle.cool_meaning.proofs.SoundEvaluation.{eval_sound}
 use Rattle.cool_simulation.specs.Loadings.{Loading, IsLoaded, constants, context}
 use Rattle.cool_simulation.specs.Pictures.{Map}
-use Rattle.cool_simulation.specs.Simulation.{Begins, CodeAt, Correct, Done, Room}
-use Rattle.cool_simulation.specs.Shown.{AllShown, Comes, IsSpan, Shown}
+use Rattle.cool_simulation.specs.Simulation.{Begins, CodeAt, Correct, Done, Room, IsSpan, Shown}
+use Rattle.cool_simulation.specs.Shown.{AllShown, Comes}
 use Rattle.cool_simulation.specs.Visits.{Visit, Visits, begun}
+use Rattle.cool_simulation.proofs.ground.CodeOfParts.{own_span}
 use Rattle.cool_simulation.proofs.ground.CodeOfSpans.{code_of_span}
 use Rattle.cool_simulation.proofs.ground.NextParts.{Next, next}
 use Rattle.cool_simulation.proofs.shown.Comings.{Ample, comes_after, comes_here}
+use Rattle.cool_simulation.proofs.ground.Passages.{unwatched}
 
--- the span of a whole tree is the first of its spans
-pub own_span : (size : List Line → ℕ) (s : Context) (g : Constants) (vs : List Named) (d k pc : ℕ) (t : Tree) → Contains (spans size s g vs d k pc t) (span vs d k pc t)
-own_span size s g vs d k pc (trees.Id at name) = (0, omega arith, refl)
-own_span size s g vs d k pc (trees.Int at n) = (0, omega arith, refl)
-own_span size s g vs d k pc (trees.Str at bytes) = (0, omega arith, refl)
-own_span size s g vs d k pc (trees.Bool at x) = (0, omega arith, refl)
-own_span size s g vs d k pc (trees.Assign at name t) = (0, omega arith, refl)
-own_span size s g vs d k pc (trees.Dispatch at t name ts) = (0, omega arith, refl)
-own_span size s g vs d k pc (trees.StaticDispatch at t class name ts) = (0, omega arith, refl)
-own_span size s g vs d k pc (trees.If at t y n) = (0, omega arith, refl)
-own_span size s g vs d k pc (trees.While at t u) = (0, omega arith, refl)
-own_span size s g vs d k pc (trees.Block at ts) = (0, omega arith, refl)
-own_span size s g vs d k pc (trees.Let at name declared o t) = (0, omega arith, refl)
-own_span size s g vs d k pc (trees.Case at t cs) = (0, omega arith, refl)
-own_span size s g vs d k pc (trees.New at class) = (0, omega arith, refl)
-own_span size s g vs d k pc (trees.IsVoid at t) = (0, omega arith, refl)
-own_span size s g vs d k pc (trees.Arith at op t u) = (0, omega arith, refl)
-own_span size s g vs d k pc (trees.Neg at t) = (0, omega arith, refl)
-own_span size s g vs d k pc (trees.Compare at op t u) = (0, omega arith, refl)
-own_span size s g vs d k pc (trees.Not at t) = (0, omega arith, refl)
-
-module _ (l : Loading) (loaded : IsLoaded l) (calls : Calls) (begun_in : Call → Visits) (b : ℕ) (sound : AllCallsSound l.table calls b) (c : ClassId) (f : ℕ) (k : ClassId) (self : Value) (scope : List Binding) (vs : List Named)
+module _ (l : Loading) (loaded : IsLoaded l) (none : l.watch ≡ None) (calls : Calls) (begun_in : Call → Visits) (b : ℕ) (sound : AllCallsSound l.table calls b) (c : ClassId) (f : ℕ) (k : ClassId) (self : Value) (scope : List Binding) (vs : List Named)
     (env : Environment) (made : fitting.World) (d first : ℕ) (q : Pointers) (m : Bytes) (map : Map) (console : Console) (st : State) (s : Machine) (n : ℕ) (less : n ≤ b)
     (begins : Begins l c k self scope vs env made d q m map console st s) where
   -- an expression where it begins
@@ -86,7 +64,7 @@ module _ (l : Loading) (loaded : IsLoaded l) (calls : Calls) (begun_in : Call �
   }
 
   -- behind a part that comes to a value
-  pub comes_behind_part : (t : Tree) (type : Ty) (Q : Machine → Type 0) (v : Value) (t1 : State) (left : ℕ) → Correct l calls b t → HasType l.table c scope t type → CodeAt l c f vs d first q.pc t
+  pub comes_behind_part : (t : Tree) (type : Ty) (Q : Machine → Type 0) (v : Value) (t1 : State) (left : ℕ) → Correct l calls begun_in b t → HasType l.table c scope t type → CodeAt l c f vs d first q.pc t
       → Room l q 0 (eval l.table calls self env t st n) → (eval l.table calls self env t st n).outcome ≡ Val v t1 left
       → ((u : Machine) → (j : Done l (record q { pc = q.pc + sizes (code (context l c f) (constants l) vs d first t) }) m map st (eval l.table calls self env t st n).words v t1 u)
       → Next l loaded calls b sound c k self scope vs env made type d (record q { pc = q.pc + sizes (code (context l c f) (constants l) vs d first t); gp = j.gp; acc = j.acc; ra = j.ra }) j.memory j.map' j.console v t1 left n u
@@ -95,8 +73,8 @@ module _ (l : Loading) (loaded : IsLoaded l) (calls : Calls) (begun_in : Call �
   comes_behind_part t type Q v t1 left correct has at room e more =
       let r = eval l.table calls self env t st n in
       let pc1 = q.pc + sizes (code (context l c f) (constants l) vs d first t) in
-      comes_after l r.outcome s n (64 * r.work - 4) (Done l (record q { pc = pc1 }) m map st r.words) v t1 left Q e
-      (correct.runs c f k self scope vs env made d first q m map console st s n type less begins has at room)
+      comes_after l none r.outcome s n (64 * r.work - 4) (Done l (record q { pc = pc1 }) m map st r.words) v t1 left Q e
+      (correct.runs c f k self scope vs env made d first q m map console st s n type less begins has at room (λ x h. unwatched l none x))
       (λ u j. more u j (next l loaded calls b sound c k self t scope vs env made type d q m map console st t1 s u n left r.words pc1 v begins has less e j))
 
 module _ (l : Loading) (calls : Calls) (begun_in : Call → Visits) (b : ℕ) (c : ClassId) (f : ℕ) (vs : List Named) (d first pc : ℕ) (whole : Tree) (code_at : CodeAt l c f vs d first pc whole)
@@ -109,7 +87,7 @@ module _ (l : Loading) (calls : Calls) (begun_in : Call → Visits) (b : ℕ) (c
   -- so its code stands there
   pub part_code : (vs' : List Named) (d' first' pc' : ℕ) (t : Tree) → Inside vs' d' first' pc' t → CodeAt l c f vs' d' first' pc' t
   part_code vs' d' first' pc' t inside =
-      code_of_span l c f vs d first pc whole (span vs' d' first' pc' t) code_at (inside (span vs' d' first' pc' t) (own_span sizes (context l c f) (constants l) vs' d' first' pc' t))
+      code_of_span l c f vs d first pc whole (span vs' d' first' pc' t) code_at (inside (span vs' d' first' pc' t) (own_span sizes (context l c f) (constants l) vs' d' first' pc' t)) inside
 
   -- and what it begins is shown from where it does
   pub part_shown : (t : Tree) → AllShown l calls begun_in b t → (k : ClassId) (self : Value) (scope : List Binding) (vs' : List Named) (env : Environment) (made : fitting.World) (d' first' : ℕ) (q : Pointers) (m : Bytes) (map : Map)

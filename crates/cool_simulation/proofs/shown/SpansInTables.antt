@@ -22,9 +22,9 @@ use Rattle.cool_emit.specs.Programs.{Placed, class_code, classes_code, initializ
 use Rattle.cool_emit.specs.SpansOfPrograms.{SpanOf, initializer_spans, placed_spans, program_spans, told_in_class}
 use Rattle.cool_emit.proofs.LabelsOfParts.{number_there}
 use Rattle.cool_simulation.specs.Loadings.{Loading, constants, context}
-use Rattle.cool_simulation.specs.Shown.{IsSpan}
-use Rattle.cool_simulation.proofs.shown.Comings.{in_rest}
 use Rattle.cool_simulation.proofs.shown.InitialValues.{in_image}
+use Rattle.cool_simulation.specs.Simulation.{IsSpan}
+use Rattle.cool_simulation.proofs.ground.CodeOfParts.{in_rest}
 
 module _ (l : Loading) where
   -- where one of the parts stands that stand one behind the other, with what is told of it

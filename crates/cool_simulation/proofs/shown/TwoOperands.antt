@@ -1,5 +1,5 @@
 -- What expressions with two operands begin is shown: the first operand, and behind the push of its value the second.
-use Rattle.std.proofs.Common.{ℕ, ◌+◌, ◌-◌, ◌≤◌, List, ◌++◌, ◌⊎◌, refl, arith}
+use Rattle.std.proofs.Common.{ℕ, ◌+◌, ◌-◌, ◌≤◌, List, ◌++◌, ◌⊎◌, refl, arith, ◌≡◌, None}
 use Rattle.std.specs.Prelude.{Contains}
 use Rattle.std.proofs.lemmas.List.Elements.{Contains-append_left, Contains-append_right}
 use Rattle.mips_isa.specs.Bytes.{Bytes, set_word}
@@ -31,20 +31,22 @@ use Rattle.cool_meaning.proofs.FittingValues as fitting
 use Rattle.cool_meaning.proofs.SoundParts.{AllCallsSound}
 use Rattle.cool_simulation.specs.Loadings.{Loading, IsLoaded, constants, context}
 use Rattle.cool_simulation.specs.Pictures.{Map}
-use Rattle.cool_simulation.specs.Simulation.{Begins, CodeAt, Correct}
-use Rattle.cool_simulation.specs.Shown.{AllShown, Comes, IsSpan, Shown}
+use Rattle.cool_simulation.specs.Simulation.{Begins, CodeAt, Correct, IsSpan, Shown}
+use Rattle.cool_simulation.specs.Shown.{AllShown, Comes}
 use Rattle.cool_simulation.specs.Visits.{Visit, Visits, behind, begun}
 use Rattle.cool_simulation.proofs.ground.EvaluationLater.{CallsLater, ComesLater, arithmetic_later, bind_later, compare_later, eval_later, number_later}
 use Rattle.cool_simulation.proofs.ground.NextParts.{begins_pushed}
 use Rattle.cool_simulation.proofs.ground.Operands.{limits_of, shown_way}
 use Rattle.cool_simulation.proofs.ground.PartsOfRuns.{way_of}
-use Rattle.cool_simulation.proofs.shown.Comings.{Ample, ample_ruled, ample_then, cases, comes_behind, in_rest, room_first}
+use Rattle.cool_simulation.proofs.shown.Comings.{Ample, ample_ruled, ample_then, cases, comes_behind, room_first}
 use Rattle.cool_simulation.proofs.shown.OnePart.{first_shown}
 use Rattle.cool_simulation.proofs.shown.PartsShown.{ample_of, comes_behind_part, own_shown, part_code, part_shown}
+use Rattle.cool_simulation.proofs.ground.CodeOfParts.{in_rest}
+use Rattle.cool_simulation.proofs.ground.Passages.{plain_lines}
 
-module _ (l : Loading) (loaded : IsLoaded l) (calls : Calls) (begun_in : Call → Visits) (b : ℕ) (sound : AllCallsSound l.table calls b) (later : CallsLater calls) where
+module _ (l : Loading) (loaded : IsLoaded l) (none : l.watch ≡ None) (calls : Calls) (begun_in : Call → Visits) (b : ℕ) (sound : AllCallsSound l.table calls b) (later : CallsLater calls) where
   -- the operands of an expression whose code has the first, a push, and the second
-  pub operands_shown : (whole ta tb : Tree) (G : Value → Value → Computation Value) → ((v w : Value) → ComesLater (G v w)) → Correct l calls b ta → AllShown l calls begun_in b ta → AllShown l calls begun_in b tb → (c : ClassId) (f : ℕ)
+  pub operands_shown : (whole ta tb : Tree) (G : Value → Value → Computation Value) → ((v w : Value) → ComesLater (G v w)) → Correct l calls begun_in b ta → AllShown l calls begun_in b ta → AllShown l calls begun_in b tb → (c : ClassId) (f : ℕ)
       (k : ClassId) (self : Value) (scope : List Binding) (vs : List Named) (env : Environment) (made : fitting.World) (d first : ℕ) (q : Pointers) (m : Bytes) (map : Map) (console : Console) (st : State) (s : Machine) (n : ℕ)
       (type type' : Ty) (x : Visit) (more : List Line) → n ≤ b → Begins l c k self scope vs env made d q m map console st s → HasType l.table c scope ta type → HasType l.table c scope tb type'
       → CodeAt l c f vs d first q.pc whole → HasLines l.world q.pc (code (context l c f) (constants l) vs d first ta ++ (push_lines ++ more))
@@ -73,8 +75,8 @@ module _ (l : Loading) (loaded : IsLoaded l) (calls : Calls) (begun_in : Call �
       let depth = begins.depth in
       let laid = l.world.laid in
       cases visit
-      (λ h. first_shown l loaded calls begun_in b sound whole ta F F_later shown c f k self scope vs env made d first q m map console st s n type x less begins has code_at ample among in_a h)
-      (λ (v, t1, left, e, h). comes_behind_part l loaded calls begun_in b sound c f k self scope vs env made d first q m map console st s n less begins ta type (Shown l x) v t1 left correct has
+      (λ h. first_shown l loaded none calls begun_in b sound whole ta F F_later shown c f k self scope vs env made d first q m map console st s n type x less begins has code_at ample among in_a h)
+      (λ (v, t1, left, e, h). comes_behind_part l loaded none calls begun_in b sound c f k self scope vs env made d first q m map console st s n less begins ta type (Shown l x) v t1 left correct has
       (part_code l calls begun_in b c f vs d first q.pc whole code_at among vs d first q.pc ta in_a) room1 e
       (λ u j behind'.
       let fewer = behind'.fewer in
@@ -94,7 +96,7 @@ module _ (l : Loading) (loaded : IsLoaded l) (calls : Calls) (begun_in : Call �
       (begins_pushed l loaded calls b sound c k self scope vs env behind'.made' d q1 j.memory j.map' j.console t1 u u2 pc2 room2 behind'.begins there) has'
       (room_first l (eval l.table calls self env tb t1 left) (λ u. G v u) q2 12 (λ w t2 left2. (comes v w).later t2 left2) rest2) h)))
 
-  pub arith_shown : (at : Place) (op : ArithOp) (ta tb : Tree) → Correct l calls b ta → AllShown l calls begun_in b ta → AllShown l calls begun_in b tb → AllShown l calls begun_in b (trees.Arith at op ta tb)
+  pub arith_shown : (at : Place) (op : ArithOp) (ta tb : Tree) → Correct l calls begun_in b ta → AllShown l calls begun_in b ta → AllShown l calls begun_in b tb → AllShown l calls begun_in b (trees.Arith at op ta tb)
   arith_shown at op ta tb correct shown shown' = record {
     shown = λ c f k self scope vs env made d first q m map console st s n type x less begins (has, has', is) code_at room among visit.
         let whole = trees.Arith at op ta tb in
@@ -102,13 +104,13 @@ module _ (l : Loading) (loaded : IsLoaded l) (calls : Calls) (begun_in : Call �
         let pc2 = q.pc + sizes (code (context l c f) (constants l) vs d first ta) + 20 in
         let xs = spans sizes (context l c f) (constants l) vs d first q.pc ta ++ spans sizes (context l c f) (constants l) vs (d + 1) (first + tree_size ta) pc2 tb in
         cases visit
-        (λ e. own_shown l loaded calls begun_in b sound c f k self scope vs env made d first q m map console st s n less begins whole x (among own (0, omega arith, refl)) e)
+        (λ e. own_shown l loaded none calls begun_in b sound c f k self scope vs env made d first q m map console st s n less begins whole x (among own (0, omega arith, refl)) e)
         (λ h. operands_shown whole ta tb (λ v u. as_number v >>= λ i. as_number u >>= λ j. arithmetic op at i j)
         (λ v u. bind_later (number_later v) (λ i. bind_later (number_later u) (λ j. arithmetic_later op at i j))) correct shown shown' c f k self scope vs env made d first q m map console st s n int_type int_type x (code (context l c f) (constants l) vs (d + 1) (first + tree_size ta) tb ++ arith_code (context l c f) (constants l) op at (root first whole)) less begins has has'
-        code_at code_at.lines (ample_of l loaded calls begun_in b sound c f k self scope vs env made d first q m map console st s n less begins whole type (has, has', is) room) among (λ y i. in_rest own xs y i) h);
+        code_at (plain_lines l none q.pc _ code_at.lines) (ample_of l loaded none calls begun_in b sound c f k self scope vs env made d first q m map console st s n less begins whole type (has, has', is) room) among (λ y i. in_rest own xs y i) h);
   }
 
-  pub compare_shown : (at : Place) (op : CompareOp) (ta tb : Tree) → Correct l calls b ta → AllShown l calls begun_in b ta → AllShown l calls begun_in b tb → AllShown l calls begun_in b (trees.Compare at op ta tb)
+  pub compare_shown : (at : Place) (op : CompareOp) (ta tb : Tree) → Correct l calls begun_in b ta → AllShown l calls begun_in b ta → AllShown l calls begun_in b tb → AllShown l calls begun_in b (trees.Compare at op ta tb)
   compare_shown at op ta tb correct shown shown' = record {
     shown = λ c f k self scope vs env made d first q m map console st s n type x less begins (type1, type2, has, has', comparable, is) code_at room among visit.
         let whole = trees.Compare at op ta tb in
@@ -116,8 +118,8 @@ module _ (l : Loading) (loaded : IsLoaded l) (calls : Calls) (begun_in : Call �
         let pc2 = q.pc + sizes (code (context l c f) (constants l) vs d first ta) + 20 in
         let xs = spans sizes (context l c f) (constants l) vs d first q.pc ta ++ spans sizes (context l c f) (constants l) vs (d + 1) (first + tree_size ta) pc2 tb in
         cases visit
-        (λ e. own_shown l loaded calls begun_in b sound c f k self scope vs env made d first q m map console st s n less begins whole x (among own (0, omega arith, refl)) e)
+        (λ e. own_shown l loaded none calls begun_in b sound c f k self scope vs env made d first q m map console st s n less begins whole x (among own (0, omega arith, refl)) e)
         (λ h. operands_shown whole ta tb (compare op) (compare_later op) correct shown shown' c f k self scope vs env made d first q m map console st s n type1 type2 x (code (context l c f) (constants l) vs (d + 1) (first + tree_size ta) tb ++ compare_code (context l c f) op (root first whole)) less begins has has'
-        code_at code_at.lines (ample_of l loaded calls begun_in b sound c f k self scope vs env made d first q m map console st s n less begins whole type (type1, type2, has, has', comparable, is) room) among
+        code_at (plain_lines l none q.pc _ code_at.lines) (ample_of l loaded none calls begun_in b sound c f k self scope vs env made d first q m map console st s n less begins whole type (type1, type2, has, has', comparable, is) room) among
         (λ y i. in_rest own xs y i) h);
   }

@@ -1,5 +1,5 @@
 -- The image of a typed program within the limits means the program, if no block and no case of it is empty and its strings are texts.
-use Rattle.std.proofs.Common.{List, ℕ}
+use Rattle.std.proofs.Common.{List, ℕ, None, refl}
 use Rattle.std.specs.List.{AllByRecursion}
 use Rattle.mips_isa.specs.Assembly.{image_of}
 use Rattle.cool_classes.specs.Chains.{Class}
@@ -15,7 +15,7 @@ use Rattle.cool_simulation.proofs.theorem.MainCall.{runs_main}
 
 -- a program without empty blocks and cases runs as it means, wherever it is loaded
 pub always_runs : (p : List Class) (files : List (List ℕ)) → IsWritten p → AlwaysRuns p files
-always_runs p files written = λ w m loaded. let l : Loading = record { table = p; files = files; world = w; memory = m } in runs_main l loaded (all_calls_correct l loaded written)
+always_runs p files written = λ w m loaded. let l : Loading = record { table = p; files = files; world = w; memory = m; watch = None } in runs_main l loaded refl (all_calls_correct l loaded written)
 
 -- the image of such a program means the program
 pub typed_images_mean : (p : List Class) (files : List (List ℕ)) → IsBuildable p files → IsWritten p → AllByRecursion IsText (program_constants p files).strings → Means (image_of (program_lines p files)) p files
