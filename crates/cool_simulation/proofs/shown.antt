@@ -20,4 +20,5 @@ pub mod News
 pub mod OnePart
 pub mod PartsShown
 pub mod SpansInTables
+pub mod SpansVisited
 pub mod TwoOperands

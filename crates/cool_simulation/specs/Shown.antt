@@ -20,7 +20,7 @@ use Rattle.cool_runtime.specs.Machines.{Pointers, Console}
 use Rattle.cool_layout.specs.Labels.{initializer, method_label}
 use Rattle.cool_codegen.specs.Spans.{Span, spans}
 use Rattle.cool_emit.specs.Programs.{program_lines}
-use Rattle.cool_emit.specs.SpansOfPrograms.{program_spans}
+use Rattle.cool_emit.specs.SpansOfPrograms.{program_spans, SpanOf}
 use Rattle.cool_codegen.specs.Variables.{Named}
 use Rattle.cool_classes.specs.declared.class_id.Ty.{Ty}
 use Rattle.cool_syntax.specs.Tree.{Tree}
@@ -99,3 +99,27 @@ abbrev pub VisitsShown : Type 0
 VisitsShown =
     (p : List Class) (names : List (List ℕ)) (input : List ℕ) (limits : Limits) (n : ℕ) (x : Visit) → IsCompilable p names → AreBytes input → AreLimits limits → program_begun p input n x
     → 4 * (run p names input n).words + 64 ≤ limits.heap → 16 * (run p names input n).peak + 256 ≤ limits.stack → ComesTo p names (image_of (program_lines p names)) limits input x
+
+-- A machine pictures a visit of the run with so many steps: an expression that the run begins, where it stands, with the program loaded, at the first
+-- word of the span that the table of code has for the expression.
+pub record Visited (p : List Class) (names : List (List ℕ)) (image : ImageParts) (input : List ℕ) (steps : ℕ) (machine : Machine) : Type 0 where
+  pub visit : Visit
+  pub begun : program_begun p input steps visit
+  pub loading : Loading
+  pub table_is : loading.table ≡ p
+  pub files_are : loading.files ≡ names
+  pub text_is : loading.world.text ≡ image.text
+  pub unwatched : loading.watch ≡ None
+  pub loaded : IsLoaded loading
+  pub shown : Shown loading visit machine
+  pub told : Contains (program_spans sizes p names TEXT_START) (record { class = visit.class; feature = visit.feature; span = shown.span })
+
+-- The other way round: wherever the run of the image comes to the first word of a span of the table of code, it pictures a visit. (The code of
+-- `while` begins with that of its test, so the span of the visit need not be this one, but begins at the same word.) A run of the source with so
+-- many steps tells of as many instructions.
+abbrev pub SpansAreVisits : Type 0
+SpansAreVisits =
+    (p : List Class) (names : List (List ℕ)) (input : List ℕ) (limits : Limits) (n count : ℕ) (machine : Machine) (span : SpanOf) → IsCompilable p names → AreBytes input → AreLimits limits → count < n
+    → 4 * (run p names input n).words + 64 ≤ limits.heap → 16 * (run p names input n).peak + 256 ≤ limits.stack
+    → run_image (image_of (program_lines p names)) limits.heap limits.stack input count ≡ Running machine → Contains (program_spans sizes p names TEXT_START) span → machine.core.pc ≡ span.span.from
+    → Visited p names (image_of (program_lines p names)) input n machine
