@@ -11,14 +11,6 @@ let shownLetters = 0, shownLines = 0;
 // What was typed for the last run.
 let typedLines = "";
 
-function numberOf(id, least, most) {
-    const value = Math.trunc(Number(at(id).value));
-    return String(Math.min(most, Math.max(least, Number.isFinite(value) ? value : least)));
-}
-
-const steps = (most = Infinity) => ["--steps", String(Math.min(most, Number(numberOf("steps", 1, 1e15))))];
-const machineLimits = (most) => [...steps(most), "--heap", numberOf("heap", 4, 262_144), "--stack", numberOf("stack", 4, 65_536)];
-
 // What comes is shown in parts, with pauses as long as it took to lay the last one out; and of a text without end its last part.
 let waiting = [], waitingLetters = 0, waitingLines = 0, showing, pause = SHOW_DELAY;
 
@@ -117,8 +109,9 @@ function showEnd(came) {
     tell(came.status === undefined ? endWords(came) : `${endWords(came)}, status ${came.status}, ${time}`, came.status !== 0);
     if (PAST_LIMIT[came.status] && at("how").value === "run") at("end").append(PAST_LIMIT[came.status]);
     const fault = came.status === 3 ? placed(at("output").textContent.trimEnd().split("\n").at(-1)) : undefined;
-    const look = element("button", { onclick: lookInMachine }, "Look in the machine");
-    if (fault) at("end").append(element("button", { onclick: () => goTo(fault.file, fault.line) }, `Show line ${fault.line} of ${fault.file}`), " ", look);
+    if (!fault) return;
+    at("end").append(element("button", { onclick: () => goTo(fault.file, fault.line) }, `Show line ${fault.line} of ${fault.file}`), " ");
+    happened("failed");
 }
 
 // Gives the run a line, or null for the end of the input.
@@ -130,6 +123,7 @@ function give(line) {
     program.give(line === null ? null : encode(line));
 }
 
+whenever("opened", () => (program.stop(), clearConsole()));
 at("run").onclick = run;
 at("stop").onclick = () => program.stop();
 at("ask").onsubmit = (event) => {

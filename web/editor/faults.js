@@ -1,8 +1,7 @@
-// The faults of the program, found as one types, and their list below the editor.
+// The faults of the program, found as one types.
 "use strict";
 
 const checker = new Runner(), session = new Session();
-let faults = [];
 // What the list shows: where that is so already, nothing is laid out anew.
 let shownFaults;
 let checking = false, checkIsDue = false;
@@ -53,26 +52,10 @@ function showFaults({ found, end }) {
         showHelp();
     }
     if (found.length > 0 || end === undefined) explainSoon();
-    if (program.runs) return;
+    // While the program runs the page tells of that.
+    if (!at("stop").disabled) return;
     if (faults.length > 0) tell(faults.length === 1 ? "1 fault" : `${faults.length} faults`, true);
     else tell(end ?? "no faults", end !== undefined);
 }
 
-// Shows the faults with what is known of each, and the notices, in the list and in the text.
-function showExplained() {
-    const rows = faults.map((it, i) => [placeWords(it), it.words, it.file, it.line, i, shownOf(explainedOf(i))]);
-    const notices = (explanation?.notices ?? []).map(({ from, words }) => [placeWords(from), words, from.file, from.line]);
-    showRows(at("faults"), [...rows, ...notices], (...row) => (row.length > 4 ? faultItem(...row) : noticeItem(...row)));
-    if (explanation) at("faults").querySelectorAll(".fix").forEach((it) => (it.disabled = false));
-    showMarks();
-    paint();
-}
-
-// What a row shows of what is known, as text, for a row is compared by its text.
-const shownOf = (known) => JSON.stringify([known ?? "", known?.mend ? mendedLines(known.mend) : ""]);
-
-function faultItem(place, words, file, line, i) {
-    const known = explainedOf(i);
-    const button = element("button", { className: "fault", onclick: () => goTo(file, line) }, `${place}: ${words}`);
-    return element("li", {}, button, ...(known ? detailsOf(known, i) : []));
-}
+whenever("changed", () => void (compiledModule && check()));

@@ -4,11 +4,20 @@
 // Each has a name, a text, breaks (line numbers), and from, to and top: what was selected, and how far it was scrolled.
 const files = [];
 let shownFile;
+// Those of the program as it was checked last: { file, line, words }.
+let faults = [];
 
 const newFile = (name, value) => ({ name, text: value, breaks: new Set(), from: 0, to: 0, top: 0 });
 const fileNamed = (name) => files.find((it) => it.name === name);
 const fileNames = () => files.map((it) => it.name);
+const lineIn = (file, place) => (place?.file === file.name ? place.line : undefined);
 const sources = () => new Map(files.map((it) => [it.name, encode(it.text)]));
+
+// A file was changed, added, renamed or removed, or the input: by the user, unless it is said otherwise.
+function changedFiles(isEdited = true) {
+    showTabs();
+    happened("changed", isEdited);
+}
 
 // Why a name cannot be taken for the file, or undefined.
 function nameFault(name, file) {
@@ -105,14 +114,9 @@ function renameFile() {
 
 // What is marked in the file that is shown.
 function showMarks() {
-    marks.ranges = rangesIn(shownFile.name);
     marks.faults = new Map(faults.filter((it) => it.file === shownFile.name).map((it) => [it.line, it.words]));
     marks.breaks = shownFile.breaks;
-    const lineHere = (place) => (place?.file === shownFile.name ? place.line : undefined);
-    marks.here = lineHere(here);
-    marks.lit = lineHere(light);
-    marks.stops = stopsOfBreaks(shownFile);
-    marks.tints = isMachineShown() && tints.file === shownFile.name ? tints.lines : new Map();
+    happened("marked", shownFile);
 }
 
 // Shows a line of a file.
@@ -123,15 +127,21 @@ function goTo(name, line) {
     selectLine(line);
 }
 
+// A break stays at its line where lines are added or taken away before it.
+function moveBreaks(file, before, after) {
+    if (file.breaks.size === 0) return;
+    const old = before.split("\n"), now = after.split("\n");
+    let same = 0;
+    while (same < now.length && now[same] === old[same]) same += 1;
+    const by = now.length - old.length;
+    file.breaks = new Set([...file.breaks].map((line) => (line > same + 1 || (line === same + 1 && by > 0) ? Math.max(same + 1, line + by) : line)));
+}
+
 text.addEventListener("input", () => {
     moveBreaks(shownFile, shownFile.text, text.value);
     shownFile.text = text.value;
     changedFiles();
     repaint();
-});
-at("gutter-room").addEventListener("click", (event) => {
-    const line = Number(event.target.closest(".number")?.textContent);
-    if (line > 0) toggleBreak(line);
 });
 at("names").ondblclick = renameFile;
 arrowsIn(at("names"), (i) => showFile(files[i]));

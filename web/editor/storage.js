@@ -54,12 +54,11 @@ function programFrom(json) {
 // Takes up another program. The user's own that was there can be chosen among the examples.
 function openProgram({ files: all, input = "" }, isEdited = false) {
     if (edited) keep(BEFORE, programText());
-    program.stop();
-    clearConsole();
-    machine.labels.clear();
+    happened("opened");
     setFiles(all);
     at("input").value = input;
     changedFiles(isEdited);
 }
 
+whenever("changed", (isEdited) => ((edited = isEdited), keepProgramSoon()));
 addEventListener("pagehide", keepProgram);

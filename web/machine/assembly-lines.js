@@ -51,15 +51,12 @@ function lineAtAssembly(event) {
     return shownCode.rows.find((it) => it.number === number)?.place;
 }
 
+function scrollAssembly(line) {
+    at("lines").scrollTop = line * parseFloat(getComputedStyle(at("lines")).lineHeight);
+}
+
 // Scrolls to the code of a line.
 function showAssemblyOfLine(place) {
     const [first] = shownCode.ranges.get(nameOfLine(place)) ?? [];
     if (first) scrollAssembly(shownCode.starts.indexOf(first.startOffset) - 3);
 }
-
-at("lines").addEventListener("pointermove", (event) => isAssemblyShown() && lightUp(lineAtAssembly(event)));
-at("lines").addEventListener("pointerleave", () => lightUp(undefined));
-at("lines").addEventListener("click", (event) => {
-    const place = isAssemblyShown() && getSelection().isCollapsed ? lineAtAssembly(event) : undefined;
-    if (place) goTo(place.file, place.line);
-});

@@ -1,22 +1,7 @@
-// The assembly of the program, by `asm`. It is made when it is asked for, and forgotten when a file changes.
+// The view "Assembly".
 "use strict";
 
 const MOST_ASSEMBLY_SHOWN = 2_000_000;
-
-const compiler = new Runner();
-let assembled;
-
-// A promise of { text }, or of { fault }: why there is none.
-function assembly() {
-    const made = async () => {
-        const parts = [];
-        const came = await compiler.run(["asm", "--", ...fileNames()], sources(), { pieces: (all) => parts.push(...all.map((it) => it.bytes)) });
-        if (came.status === 0) return { text: await new Blob(parts).text() };
-        return { fault: came.status === 1 ? "The program has faults." : endWords(came) };
-    };
-    assembled ??= made();
-    return assembled;
-}
 
 // Shows it from the method on in which the cursor is.
 async function showAssembly() {
@@ -31,10 +16,6 @@ async function showAssembly() {
     prepare().then(() => colourAssembly(all), () => {});
 }
 
-function scrollAssembly(line) {
-    at("lines").scrollTop = line * parseFloat(getComputedStyle(at("lines")).lineHeight);
-}
-
 // Selects the label, and so scrolls to it.
 function goToLabel(index) {
     const lines = at("lines");
@@ -44,3 +25,5 @@ function goToLabel(index) {
 }
 
 at("labels").onchange = (event) => event.target.value !== "" && goToLabel(Number(event.target.value));
+whenever("changed", () => void (at("assembly").hidden || showAssembly()));
+whenever("chosen", (view) => void (view === "assembly" && showAssembly()));

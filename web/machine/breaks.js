@@ -1,14 +1,13 @@
 // Breaks, at lines of the files and at labels of the assembly.
 "use strict";
 
-// A break stays at its line where lines are added or taken away before it.
-function moveBreaks(file, before, after) {
-    if (file.breaks.size === 0) return;
-    const old = before.split("\n"), now = after.split("\n");
-    let same = 0;
-    while (same < now.length && now[same] === old[same]) same += 1;
-    const by = now.length - old.length;
-    file.breaks = new Set([...file.breaks].map((line) => (line > same + 1 || (line === same + 1 && by > 0) ? Math.max(same + 1, line + by) : line)));
+// Where each break of a line of a file stops: { line, places }, or undefined.
+const stopOfBreak = (file, line) => breakOfLine(file.name, line, machine);
+
+function breaksSet() {
+    const found = files.flatMap((file) => [...file.breaks].map((line) => stopOfBreak(file, line)).filter(Boolean));
+    const addresses = [...machine.labels].map((it) => machine.listing.labels.get(it)).filter((it) => it < DATA_START);
+    return { places: found.flatMap((it) => it.places), addresses };
 }
 
 function toggleBreak(line) {
@@ -57,3 +56,10 @@ function addBreak() {
 
 at("add-break").onclick = addBreak;
 at("label").onkeydown = (event) => void (event.key === "Enter" && addBreak());
+at("gutter-room").addEventListener("click", (event) => {
+    const line = Number(event.target.closest(".number")?.textContent);
+    if (line > 0) toggleBreak(line);
+});
+whenever("opened", () => machine.labels.clear());
+whenever("marked", (file) => (marks.stops = stopsOfBreaks(file)));
+whenever("chosen", (view) => void (view === "machine" && showBreaks()));

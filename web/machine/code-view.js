@@ -6,12 +6,6 @@ const MOST_CODE_ROWS = 300, TINTS = 6;
 // The line whose code is marked, { file, line }, and those that have code here, with their colours.
 let light, tints = { file: undefined, lines: new Map() };
 
-// The line that an instruction is of: that of its expression, or in front of the expressions and behind them that of the method.
-function lineOfCode(address, { table, listing, outline }) {
-    const span = table.stopAt.get(address) ?? spansAt(table, address).at(-1);
-    return span ?? outline.get(unitAt(listing, address)?.name);
-}
-
 // The unit of an address, or of pc.
 function showCode(view, address = view.state.registers.pc) {
     const { listing, state } = view, { pc } = state.registers;
@@ -25,7 +19,9 @@ function showCode(view, address = view.state.registers.pc) {
     code.replaceChildren(...shown.flatMap((row, i) => codeRows(row, lines[i], lines[i - 1], first + i === now)));
     const current = code.querySelectorAll(".row")[middle - first];
     code.scrollTop = current.offsetTop - code.offsetTop - code.clientHeight / 3;
-    showLight(light);
+    lightCode();
+    showMarks();
+    paint();
 }
 
 // An instruction, behind its labels. The line is named where it is another one than that of the instruction before.
@@ -38,45 +34,16 @@ function codeRows({ address, text: words, labels }, place, before, isHere) {
     return [...made, row, "\n"];
 }
 
-// Marks a line and its code, or none.
-function showLight(place) {
-    light = place;
+// Marks the code of the line that is marked.
+function lightCode() {
     for (const it of at("code").querySelectorAll(".row")) {
-        it.classList.toggle("lit", place !== undefined && it.dataset.file === place.file && Number(it.dataset.line) === place.line);
+        it.classList.toggle("lit", light !== undefined && it.dataset.file === light.file && Number(it.dataset.line) === light.line);
     }
-    lightAssembly(place);
-    showMarks();
-    paint();
 }
 
-const isMachineShown = () => !at("machine").hidden && machine.state !== undefined;
 const placeOfRow = (row) => (row?.dataset.line ? { file: row.dataset.file, line: Number(row.dataset.line) } : undefined);
 
-function lightUp(place) {
-    if ((isAssemblyShown() || (isMachineShown() && !machine.moves)) && !isOneLine(place, light)) showLight(place);
-}
-
-// The line of the text at which a pointer is.
-function lineAt(event) {
-    const below = event.offsetY + text.scrollTop - parseFloat(getComputedStyle(text).paddingTop);
-    return { file: shownFile.name, line: Math.floor(below / lineHeight()) + 1 };
-}
-
-// A click at a line of another method shows the code of that one.
-function showCodeOfLine({ file, line }) {
-    const stop = machine.table.stops.find((it) => it.file === file && it.line === line);
-    if (stop) showCode(viewOf(machine.state), stop.address);
-}
-
-at("code").addEventListener("pointerover", (event) => lightUp(placeOfRow(event.target.closest(".row"))));
-at("code").addEventListener("click", (event) => {
-    const place = placeOfRow(event.target.closest(".row"));
-    if (place) goTo(place.file, place.line);
+whenever("marked", (file) => {
+    marks.lit = lineIn(file, light);
+    marks.tints = isMachineShown() && tints.file === file.name ? tints.lines : new Map();
 });
-text.addEventListener("pointermove", (event) => lightUp(lineAt(event)));
-text.addEventListener("click", (event) => {
-    lightUp(lineAt(event));
-    if (isAssemblyShown()) showAssemblyOfLine(lineAt(event));
-    else if (isMachineShown() && !machine.moves) showCodeOfLine(lineAt(event));
-});
-for (const it of [text, at("code")]) it.addEventListener("pointerleave", () => lightUp(undefined));

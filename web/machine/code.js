@@ -1,10 +1,26 @@
-// The table of code of the program, by `cool_editor --code` in a worker of its own. It is made when it is asked for, and forgotten when a file changes.
+// The code of the program: its assembly by `asm`, and the table of code by `cool_editor --code`, each in a worker of its own. They are made when they are asked
+// for, and forgotten when a file changes.
 "use strict";
+
+const compiler = new Runner();
+let assembled;
+
+// The assembly: a promise of { text }, or of { fault }, why there is none.
+function assembly() {
+    const made = async () => {
+        const parts = [];
+        const came = await compiler.run(["asm", "--", ...fileNames()], sources(), { pieces: (all) => parts.push(...all.map((it) => it.bytes)) });
+        if (came.status === 0) return { text: await new Blob(parts).text() };
+        return { fault: came.status === 1 ? "The program has faults." : endWords(came) };
+    };
+    assembled ??= made();
+    return assembled;
+}
 
 let editorModule, coded;
 const coder = new Runner(() => editorModule);
 
-// A promise of { rows }, or of { fault }: why there are none.
+// The table of code: a promise of { rows }, or of { fault }, why there are none.
 function codeTable() {
     const made = async () => {
         if (typeof COOL_EDITOR_MODULE === "undefined") return { fault: "editor-module.js is missing beside this page: copy all scripts of web/" };
@@ -17,3 +33,5 @@ function codeTable() {
     coded ??= made();
     return coded;
 }
+
+whenever("changed", () => ([assembled, coded] = []));

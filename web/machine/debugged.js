@@ -4,7 +4,7 @@
 const debugged = new Runner();
 
 // As moves.js tells. The worker ends a run after its last note; until then none of its notes comes.
-async function debug(lines, wanted, { seen = () => false, budget = Infinity } = {}) {
+debug = async (lines, wanted, { seen = () => false, budget = Infinity } = {}) => {
     const all = sources();
     let script = "script";
     while (all.has(script)) script += "'";
@@ -17,4 +17,4 @@ async function debug(lines, wanted, { seen = () => false, budget = Infinity } = 
     if (notes.length < wanted) throw new MoveFailed(came.status === 1 ? "The program has faults." : endWords(came) ?? "the run ended before");
     notes.some(seen);
     return { notes, output: came.output };
-}
+};

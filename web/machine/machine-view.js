@@ -51,7 +51,7 @@ function entryItem(it, before) {
     if (!it.opens) return item;
     const isOpen = it.entries !== undefined;
     const label = { "aria-expanded": String(isOpen), "aria-label": `attributes of ${it.name}` };
-    const properties = { ...label, "data-path": it.path, onclick: () => openPath(it.path) };
+    const properties = { ...label, "data-path": it.path };
     item.prepend(element("button", properties, isOpen ? "▾" : "▸"));
     if (isOpen) item.append(element("ul", {}, ...it.entries.map((one) => entryItem(one, before))));
     return item;

@@ -1,17 +1,11 @@
 // The debugger: what it shows, and how it goes from one state to another.
 "use strict";
 
-const CHANGED = "The program changed: the next move begins anew.";
-
 let here;
-// Of the program as it is: listing, table, outline, textOf, numbers (of objects), reads and typed (lines), state, and what is shown of it; of the user: open
-// (paths of objects), labels (breaks) and earlier (steps).
-const machine = { open: new Set(["0.self"]), labels: new Set(), earlier: [] };
 
 // Forgotten is what was made of other files.
 function forgetMachine() {
     debugged.stop();
-    coded = undefined;
     Object.assign(machine, { prepared: undefined, listing: undefined, state: undefined, frames: undefined, entries: undefined, earlier: [] });
     at("where").textContent = CHANGED;
     at("source-here").replaceChildren();
@@ -20,10 +14,6 @@ function forgetMachine() {
     forgetReads();
     forgetLength();
     if (shownFile) showLight(undefined), markHere(undefined);
-}
-
-function leaveMachine() {
-    markHere(undefined);
 }
 
 // Marks the line at which the machine stands.
@@ -39,31 +29,6 @@ function showHere(place) {
     if (file && file !== shownFile) showFile(file);
     markHere(place);
     if (file) scrollToLine(place.line);
-}
-
-function showMachine() {
-    showBreaks();
-    if (machine.state === undefined) machine.opened = restart();
-    else markHere(placeShown());
-}
-
-// Has the listing, the table and what else is made of the files at hand; a promise.
-function prepare() {
-    const prepared = (machine.prepared ??= prepareNow());
-    prepared.catch(() => machine.prepared === prepared && (machine.prepared = undefined));
-    return prepared;
-}
-
-async function prepareNow() {
-    const made = assembly(), told = codeTable();
-    const { text: all, fault = (await told).fault } = await made, { rows } = await told;
-    if (made !== assembled || told !== coded) throw new MoveFailed(CHANGED);
-    if (fault) throw new MoveFailed(fault);
-    const listing = listingOf(all), table = tableOf(rows, files, listing);
-    Object.assign(machine, { listing, table, outline: outlineOf(files), textOf: textsOf(files), numbers: new Map() });
-    at("break-labels").replaceChildren(...listing.units.map((it) => element("option", { value: it.name })));
-    showMarks();
-    paint();
 }
 
 // Goes to what `find` answers: a number of instructions; { steps, and why the run stopped there, or returns for an earlier state }; or "again".
@@ -87,13 +52,8 @@ async function move(find) {
     } finally {
         machine.moves = false;
         at("halt").disabled = true;
-        setTimeout(slide);
+        setTimeout(() => happened("moved"));
     }
-}
-
-function viewOf(state) {
-    const { listing, table, outline, textOf, numbers, open } = machine;
-    return { state, listing, table, outline, textOf, numbers, open };
 }
 
 async function showAfter(steps, why = {}) {
@@ -131,8 +91,6 @@ function showAgain() {
     if (machine.state) move(() => "again");
 }
 
-const placeShown = () => placeOf(machine);
-
 function whereWords(state, { error, limit, reads }) {
     const count = `after ${state.steps.toLocaleString("en")} instructions`;
     if (state.ended) return `The run has ended ${count}.`;
@@ -144,33 +102,14 @@ function whereWords(state, { error, limit, reads }) {
     return `At ${line}, in ${machine.frames[0]?.title ?? "the start"}, ${count}.`;
 }
 
-const stepCount = () => Number(numberOf("count", 1, 1_000_000_000));
-
 function openPath(path) {
     if (!machine.open.delete(path)) machine.open.add(path);
     showAgain();
 }
 
-// From the first line on; what was typed is asked for again.
-function restart() {
-    if (machine.moves) return machine.opened;
-    forgetReads();
-    Object.assign(machine, { frames: undefined, earlier: [] });
-    return move(async () => {
-        const state = await State.after(0);
-        return pastReads(toFirstLine, { ...viewOf(state), frames: [] }, NO_BREAKS).then(findLength);
-    });
-}
-
-// Moves to so many instructions, or to a read before.
-function moveTo(steps, why = {}) {
-    return move(async (state) => ({ steps: steps > state.steps ? await stepsOrRead(state.steps, steps) : Math.max(0, steps), ...why }));
-}
-
-at("restart").onclick = () => void restart();
-at("previous").onclick = () => move(() => ({ steps: machine.earlier.pop() ?? 0, returns: true }));
-at("step").onclick = () => machine.state && moveTo(machine.state.steps + stepCount());
-at("back").onclick = () => machine.state && moveTo(machine.state.steps - stepCount());
-at("halt").onclick = () => debugged.stop();
+whenever("marked", (file) => (marks.here = lineIn(file, here)));
+whenever("changed", forgetMachine);
+whenever("chosen", (view) => void (view === "machine" || markHere(undefined)));
+at("frames").addEventListener("click", ({ target }) => target.dataset.path !== undefined && openPath(target.dataset.path));
 at("address").onchange = showAgain;
 for (const it of ["heap", "stack"]) at(it).onchange = forgetMachine;

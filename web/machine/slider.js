@@ -27,16 +27,3 @@ function showSteps({ steps: shown, ended }) {
     slider.setAttribute("aria-valuetext", `${shown} instructions`);
     at("of-steps").textContent = `${shown.toLocaleString("en")} of ${runLength.toLocaleString("en")}${isWhole ? "" : " or more"}`;
 }
-
-// While a state is looked up the slider may have gone on: each move calls this at its end.
-async function slide() {
-    if (machine.moves || slidTo === undefined) return;
-    const wanted = slidTo;
-    await moveTo(wanted, { returns: true });
-    if (slidTo === wanted) slidTo = undefined;
-}
-
-at("slider").oninput = () => {
-    slidTo = Number(at("slider").value);
-    slide();
-};

@@ -44,17 +44,3 @@ function showRead() {
     at("read").hidden = !wants;
     if (wants) at("read-line").focus();
 }
-
-// Takes a line, or null for the end of the input, and goes on with the move that came to the read.
-function typeLine(line) {
-    const { interrupted = () => machine.state.steps } = machine;
-    if (line === null) machine.inputEnds = true;
-    else machine.typed += `${line}\n`;
-    at("read-line").value = "";
-    at("read").hidden = true;
-    forgetLength();
-    move(async () => findLength(await interrupted()));
-}
-
-at("read").onsubmit = (event) => (event.preventDefault(), typeLine(at("read-line").value));
-at("read-end").onclick = () => typeLine(null);
