@@ -93,21 +93,20 @@ async function run() {
     const pieces = (all) => all.forEach(({ to, bytes }) => append(decoders[to].decode(bytes, { stream: true }), to === 2 ? "note" : "said"));
     const wantsInput = () => (showWaiting(), wantsLine(true), tell("waiting for input"));
     const how = at("how").value;
-    const options = how === "eval" ? steps() : [...machineLimits(), ...(at("fold").checked ? ["--fold"] : [])];
-    const came = await program.run([how, ...options, "--", ...fileNames()], sources(), { pieces, wantsInput, asks: true, input: encode(at("input").value) });
+    const words = [how, ...optionWords(how), "--", ...fileNames()];
+    const came = await program.run(words, sources(), { pieces, wantsInput, asks: true, input: encode(at("input").value) });
     showWaiting();
     wantsLine(false);
     busy(false);
     showEnd(came);
 }
 
-const PAST_LIMIT = { 4: "It may have more heap: see Options.", 5: "It may have more stack: see Options.", 6: "It may take more steps: see Options." };
-
 function showEnd(came) {
     if (came.killed) return tell("stopped");
     const time = `${(came.time / 1000).toFixed(2)} s`;
     tell(came.status === undefined ? endWords(came) : `${endWords(came)}, status ${came.status}, ${time}`, came.status !== 0);
-    if (PAST_LIMIT[came.status] && at("how").value === "run") at("end").append(PAST_LIMIT[came.status]);
+    const lacked = OPTIONS.find((it) => it.status !== undefined && it.status === came.status);
+    if (lacked && at("how").value === "run") at("end").append(`It may ${lacked.more}: see Options.`);
     const fault = came.status === 3 ? placed(at("output").textContent.trimEnd().split("\n").at(-1)) : undefined;
     if (!fault) return;
     at("end").append(element("button", { onclick: () => goTo(fault.file, fault.line) }, `Show line ${fault.line} of ${fault.file}`), " ");

@@ -17,7 +17,7 @@ function moveTo(steps, why = {}) {
     return move(async (state) => ({ steps: steps > state.steps ? await stepsOrRead(state.steps, steps) : Math.max(0, steps), ...why }));
 }
 
-const stepCount = () => Number(numberOf("count", 1, 1_000_000_000));
+const stepCount = () => numberOf("count", 1, 1_000_000_000);
 
 // While a state is looked up the slider may have gone on: each move calls this at its end.
 async function slide() {

@@ -9,7 +9,7 @@ debug = async (lines, wanted, { seen = () => false, budget = Infinity } = {}) =>
     let script = "script";
     while (all.has(script)) script += "'";
     all.set(script, encode(lines.join("\n")));
-    const words = ["debug", ...machineLimits(budget), "--", script, ...fileNames()];
+    const words = ["debug", ...optionWords("debug", { steps: budget }), "--", script, ...fileNames()];
     const came = await debugged.run(words, all, { notes: wanted, input: encode(inputGiven()) });
     if (came.killed) throw new MoveFailed("stopped");
     if (came.broken !== undefined) throw new MoveFailed(came.broken);

@@ -112,4 +112,4 @@ whenever("changed", forgetMachine);
 whenever("chosen", (view) => void (view === "machine" || markHere(undefined)));
 at("frames").addEventListener("click", ({ target }) => target.dataset.path !== undefined && openPath(target.dataset.path));
 at("address").onchange = showAgain;
-for (const it of ["heap", "stack"]) at(it).onchange = forgetMachine;
+for (const it of OPTIONS) if (it.isOfMachine) at(it.id).onchange = forgetMachine;
