@@ -1,6 +1,8 @@
 // The program is kept in the browser's own storage. Where that is refused, as in a private window, nothing is kept, and all else goes on.
 "use strict";
 
+// As many as a command takes.
+const MOST_FILES = 64;
 const KEPT = "cool-program", BEFORE = "cool-program-before", THEME = "cool-theme", KEEP_DELAY = 400;
 
 function kept(key) {
@@ -46,7 +48,7 @@ function programFrom(json) {
         return undefined;
     }
     const isFile = (one) => typeof one?.name === "string" && typeof one.text === "string" && one.name !== "" && !/[\0-\x1f]/.test(one.name);
-    if (!Array.isArray(it?.files) || it.files.length === 0 || it.files.length > 64 || !it.files.every(isFile)) return undefined;
+    if (!Array.isArray(it?.files) || it.files.length === 0 || it.files.length > MOST_FILES || !it.files.every(isFile)) return undefined;
     if (new Set(it.files.map((one) => one.name)).size < it.files.length) return undefined;
     return { files: it.files, input: typeof it.input === "string" ? it.input : "", edited: it.edited === true };
 }

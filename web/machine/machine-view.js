@@ -1,11 +1,8 @@
 // Shows a state of the machine: frames, registers, memory and output. What changed since the state shown before is marked.
 "use strict";
 
-const ROLES = {
-    pc: "the next instruction", a0: "the value of the expression that just ended; the receiver at the entry of a method", s0: "self", fp: "the frame",
-    sp: "the last word that was pushed", gp: "where the next object begins", s7: "the end of the heap", s6: "the lowest address of the stack",
-    t8: "the name of the file of the next error", t9: "its line", ra: "the return address",
-};
+// What each register holds, where something lasts there.
+const ROLES = { pc: "the next instruction", ...(typeof COOL_REGISTERS === "undefined" ? {} : COOL_REGISTERS) };
 const MEMORY_WORDS = 32;
 
 // The address that the field asks for: a number, a label, or a register with or without an offset; or undefined.
