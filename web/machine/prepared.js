@@ -1,4 +1,4 @@
-// What the machine knows: of the program as it is, which is made ready by its code, and of the user.
+// What the machine has at hand: what is made ready of the program as it is, and what the user set.
 "use strict";
 
 const CHANGED = "The program changed: the next move begins anew.";
