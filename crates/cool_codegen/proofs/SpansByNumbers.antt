@@ -9,7 +9,7 @@ use Rattle.cool_syntax.specs.declared.node.NodeBranch.{NodeBranch}
 use Rattle.cool_syntax.specs.declared.node.NodeId.{NodeId}
 use Rattle.cool_syntax.specs.Tree.{Tree, Trees, MaybeTree, Cases, Last, More, Without, With, NoCase, CaseOf, tree_size, maybe_size}
 use Rattle.cool_syntax.specs.Tree as trees
-use Rattle.cool_syntax.specs.Falls.{one_le_size}
+use Rattle.cool_syntax.proofs.TreesHaveNodes.{one_le_size}
 use Rattle.cool_syntax.specs.NodeLists.{root, root_of_maybe, roots, branch_roots, nodes, nodes_of_all, nodes_of_maybe, nodes_of_cases, all_trees, made, tree_at}
 use Rattle.mips_isa.specs.Lines.{Line, Name}
 use Rattle.cool_classes.specs.declared.class_id.Ty.{Ty}

@@ -1,6 +1,6 @@
 -- The number is that of a part, so all stands by the node there.
 use Rattle.std.proofs.Common.{length, subst, rules}
-use Rattle.cool_syntax.specs.Falls.{one_le_size}
+use Rattle.cool_syntax.proofs.TreesHaveNodes.{one_le_size}
 use Rattle.cool_syntax.specs.NodeLists.{tree_at}
 use Rattle.cool_syntax.specs.TreesWithinLimits.{IsTreeWithin}
 use Rattle.cool_codegen.specs.Numbered.{size_at}
