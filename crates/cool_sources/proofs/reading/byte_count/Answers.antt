@@ -1,6 +1,6 @@
 use Rattle.std.proofs.Common.{arith}
-use Rattle.cool_driver.proofs.ReadingNames.{all_bytes}
-use Rattle.cool_driver.proofs.reading.byte_count.Goals as goal
+use Rattle.cool_sources.proofs.FilesRead.{all_bytes}
+use Rattle.cool_sources.proofs.reading.byte_count.Goals as goal
 
 -- each item has 8 bits
 pub returns-clause-bytes : goal.returns-clause-bytes
