@@ -1,4 +1,4 @@
-"""Mistakes of one token, for bench/mutations.py: what comes in the place of a token and of the one behind it, or None where there is no such mistake."""
+"""Mistakes of one token, for mistakes/mutations.py: what comes in the place of a token and of the one behind it, or None where there is no such mistake."""
 
 # What other languages have in the place of a token.
 OF_OTHERS = {

@@ -1,5 +1,5 @@
-"""Makes of an image a text of its own words for GNU as and ld, which runs on Linux for the MIPS: for `bench/qemu-compare --images`. docs/mips-linux.md says how
-an image without delay slots runs on a processor that has them.
+"""Makes of an image a text of its own words for GNU as and ld, which runs on Linux for the MIPS: for `compare/qemu-compare --images`. docs/mips-linux.md
+says how an image without delay slots runs on a processor that has them.
 """
 import struct
 

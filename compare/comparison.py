@@ -1,4 +1,4 @@
-"""Runs cases on this machine and on another one, and compares what they write and how they end: for bench/spim-compare and bench/qemu-compare."""
+"""Runs cases on this machine and on another one, and compares what they write and how they end: for compare/spim-compare and compare/qemu-compare."""
 import argparse
 import collections
 import concurrent.futures
@@ -17,7 +17,7 @@ STATUSES = (0, 3, 4, 5)
 
 
 class Other:
-    """Another machine: its name, the commands that it takes with their packages, and the file of bench/ with the cases that differ, and why. It has
+    """Another machine: its name, the commands that it takes with their packages, and the file of compare/ with the cases that differ, and why. It has
     `text(text, heap, stack)`, which makes its text of what `compiles` gives or raises `Unlike`, and `run(path, stdin, most)`, which gives the status, the
     output and the notes of that text within so many seconds and blocks of 512 bytes."""
 
@@ -29,7 +29,7 @@ class Other:
     def __init__(self, name, commands, listed, unlike):
         self.name, self.commands, self.unlike = name, commands, unlike
         self.list = listed
-        self.listed = dict(line.split(" ", 1) for line in read(ROOT, "bench", listed).decode().splitlines())
+        self.listed = dict(line.split(" ", 1) for line in read(ROOT, "compare", listed).decode().splitlines())
 
     def leaves_out(self, case):
         """What cases such as this one are, where none of them is run, or nothing."""
@@ -101,7 +101,7 @@ def judge(other, program, case, folder):
     why = compared(other, program, case, wanted, folder, other.most_of_listed if listed else other.most)
     if not listed:
         return not why, why
-    return bool(why), "alike, but bench/%s lists it: %s" % (other.list, listed)
+    return bool(why), "alike, but compare/%s lists it: %s" % (other.list, listed)
 
 
 def own_program(*name):
@@ -146,7 +146,7 @@ def all_compared(command, other, given):
     if not (given.names or given.programs or given.texts):
         for name in sorted(set(other.listed) - {case.name for case in cases}):
             counts[False] += 1
-            print("FAIL %s: bench/%s lists it, and there is no such case" % (name, other.list))
+            print("FAIL %s: compare/%s lists it, and there is no such case" % (name, other.list))
     for why, count in sorted(left_out.items()):
         print("left out: %d %s" % (count, why))
     print("%d passed, %d failed" % (counts[True], counts[False]))

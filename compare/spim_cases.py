@@ -1,4 +1,4 @@
-"""The cases that bench/spim-compare and bench/qemu-compare run: those of folders, the calls of examples/README.md, and those that bench/random-cases makes."""
+"""The cases that spim-compare and qemu-compare run: those of folders, the calls of examples/README.md, and those that compare/random-cases makes."""
 import os
 import re
 import subprocess
@@ -68,7 +68,7 @@ def examples():
 def made(kind, count, seed, work):
     """So many cases made by chance."""
     folder = os.path.join(work, kind)
-    subprocess.run([os.path.join(ROOT, "bench", "random-cases"), "--seed", str(seed), kind, str(count), folder], check=True)
+    subprocess.run([os.path.join(ROOT, "compare", "random-cases"), "--seed", str(seed), kind, str(count), folder], check=True)
     return cases_of(folder, sorted(os.listdir(folder)))
 
 

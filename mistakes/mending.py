@@ -1,4 +1,4 @@
-"""Applies the mends that `cool_explain` tells to a program, one after the other, for bench/mends."""
+"""Applies the mends that `cool_explain` tells to a program, one after the other, for mistakes/mends."""
 import os
 import re
 import resource
@@ -48,7 +48,8 @@ class Tools:
         """The lines that tell of the first fault of a program."""
         run = self.run([self.explain, "--lines"], text)
         if run.returncode not in (0, 1):
-            sys.exit("bench/mends: %s ended with %d over this, and wrote %r:\n%s" % (self.explain, run.returncode, run.stderr, text.decode(errors="replace")))
+            sys.exit("mistakes/mends: %s ended with %d over this, and wrote %r:\n%s"
+                     % (self.explain, run.returncode, run.stderr, text.decode(errors="replace")))
         lines = run.stdout.split(b"\n")[:-1]
         faults = [at for at, line in enumerate(lines) if line.startswith(b"fault ")]
         return lines[: faults[1] if faults[1:] else None]
