@@ -12,7 +12,7 @@ use Rattle.cool_consts.specs.Constants.{Constants}
 use Rattle.cool_codegen.specs.declared.feature.FeatureCode.{FeatureCode}
 use Rattle.cool_syntax.specs.declared.file_tree.Feature.TheVariants.{Method, Attribute}
 use Rattle.cool_codegen.specs.AddedCode.{MakesFeature}
-use Rattle.cool_codegen.specs.Shown.{shown, shown_of}
+use Rattle.cool_codegen.specs.Shown.{noted, shown, shown_of}
 use Rattle.cool_codegen.specs.Spans.{initial_value_spans, method_spans}
 use Rattle.cool_codegen.specs.Asked.{with_integers, with_strings, Extends}
 use Rattle.cool_codegen.specs.Code.{Context}
@@ -22,7 +22,7 @@ use Rattle.cool_codegen.proofs.AttributesOfClasses.{attribute_there}
 use Rattle.cool_codegen.proofs.ConstantsKept.{extended_kept, kept_same}
 use Rattle.cool_codegen.proofs.FeaturesThere.{one_there, small_value, stands}
 use Rattle.cool_codegen.proofs.ScopesOfFeatures.{method_types, value_types}
-use Rattle.cool_codegen.proofs.feature.feature_code.Goals as goal
+use Rattle.cool_codegen.proofs.feature.wanted_code.Goals as goal
 
 pub initial_value_code-requires-clause-there : goal.initial_value_code-requires-clause-there
 initial_value_code-requires-clause-there c =
@@ -84,16 +84,16 @@ returns-in-Method-clause-made c x is =
     let r = c.method_code.result in
     let made = c.method_code.ensures.made in
     let formals = c.as_slice.ensures in
-    let parts : MakesFeature s (Method m) t u r = record {
+    let parts : MakesFeature c.args.wanted s (Method m) t u r = record {
       lines = subst (λ (fs : List Formal). IfOk r (λ (code : FeatureCode). (g : Constants) → Extends u g → lines_of code.lines.items ≡ method_code s g fs m.body)) formals made.lines;
-      spans = subst (λ (fs : List Formal). IfOk r (λ (code : FeatureCode). (g : Constants) → map shown_of code.spans.items ≡ map (shown s g) (method_spans length s g fs 0 m.body))) formals made.spans;
+      spans = subst (λ (fs : List Formal). IfOk r (λ (code : FeatureCode). (g : Constants) → map shown_of code.spans.items ≡ noted c.args.wanted (map (shown s g) (method_spans length s g fs 0 m.body)))) formals made.spans;
       names = subst (λ (fs : List Formal). IfOk r (λ (code : FeatureCode). code.names ≡ with_formals s.table fs (attributes_in s.table s.class))) formals made.names;
       integers = made.integers;
       strings = made.strings;
     } in
-    subst (λ (y : Feature). MakesFeature (record { table = p; class = k; feature = c.args.feature; files = files }) y t u r) (sym (one_there (features_of p k) c.args.feature found x here is))
-    (subst (λ (q : List Class). MakesFeature (record { table = q; class = k; feature = c.args.feature; files = files }) found t u r) c.table-table.ensures.table
-    (subst (λ (y : Feature). MakesFeature s y t u r) (sym c.in-Method.is) parts))
+    subst (λ (y : Feature). MakesFeature c.args.wanted (record { table = p; class = k; feature = c.args.feature; files = files }) y t u r) (sym (one_there (features_of p k) c.args.feature found x here is))
+    (subst (λ (q : List Class). MakesFeature c.args.wanted (record { table = q; class = k; feature = c.args.feature; files = files }) found t u r) c.table-table.ensures.table
+    (subst (λ (y : Feature). MakesFeature c.args.wanted s y t u r) (sym c.in-Method.is) parts))
 
 pub returns-in-Some-clause-made : goal.returns-in-Some-clause-made
 returns-in-Some-clause-made c x is =
@@ -109,16 +109,16 @@ returns-in-Some-clause-made c x is =
     let r = c.initial_value_code.result in
     let made = c.initial_value_code.ensures.made in
     let init = sym c.in-Some.is in
-    let parts : MakesFeature s (Attribute c.in-Attribute.attribute) t u r = record {
+    let parts : MakesFeature c.args.wanted s (Attribute c.in-Attribute.attribute) t u r = record {
       lines = subst (λ (o : Option Tree). IfOk r (λ (code : FeatureCode). (g : Constants) → Extends u g → lines_of code.lines.items ≡ initial_value_code s g o)) init made.lines;
-      spans = subst (λ (o : Option Tree). IfOk r (λ (code : FeatureCode). (g : Constants) → map shown_of code.spans.items ≡ map (shown s g) (initial_value_spans length s g 0 o))) init made.spans;
+      spans = subst (λ (o : Option Tree). IfOk r (λ (code : FeatureCode). (g : Constants) → map shown_of code.spans.items ≡ noted c.args.wanted (map (shown s g) (initial_value_spans length s g 0 o)))) init made.spans;
       names = made.names;
       integers = subst (λ (o : Option Tree). OnOk r (u.integers ≡ with_integers t.integers (initial_integers o))) init made.integers;
       strings = subst (λ (o : Option Tree). OnOk r (u.strings ≡ with_strings t.strings (initial_strings files o))) init made.strings;
     } in
-    subst (λ (y : Feature). MakesFeature (record { table = p; class = k; feature = c.args.feature; files = files }) y t u r) (sym (one_there (features_of p k) c.args.feature found x here is))
-    (subst (λ (q : List Class). MakesFeature (record { table = q; class = k; feature = c.args.feature; files = files }) found t u r) c.table-table.ensures.table
-    (subst (λ (y : Feature). MakesFeature s y t u r) (sym c.in-Attribute.is) parts))
+    subst (λ (y : Feature). MakesFeature c.args.wanted (record { table = p; class = k; feature = c.args.feature; files = files }) y t u r) (sym (one_there (features_of p k) c.args.feature found x here is))
+    (subst (λ (q : List Class). MakesFeature c.args.wanted (record { table = q; class = k; feature = c.args.feature; files = files }) found t u r) c.table-table.ensures.table
+    (subst (λ (y : Feature). MakesFeature c.args.wanted s y t u r) (sym c.in-Attribute.is) parts))
 
 pub returns-in-Method-clause-kept : goal.returns-in-Method-clause-kept
 returns-in-Method-clause-kept c = extended_kept _ _ c.method_code.ensures.made.kept
