@@ -62,6 +62,7 @@ pub(crate) fn begin<'a>(
 }
 
 /// Begins a part, for whose value a frame waits.
+#[inline(always)]
 pub(crate) fn begin_under<'a>(
     machine: &mut Machine<'a>,
     scene: Rc<Scene<'a>>,
