@@ -38,7 +38,7 @@ async function ran(run, module, folder) {
 
 // In a thread: answers each name of a case with what was wrong with it, nothing where it passed.
 async function serve() {
-    const { run, warm, why } = require("./program.js");
+    const { run, warm, why } = require("./program/program.js");
     await warm(workerData);
     parentPort.on("message", async (name) => {
         const folder = path.join(root, name);

@@ -89,3 +89,15 @@ const COOL_HELP = [
   [["", "cool: heap limit", ", ", "stack limit", ", ", "step limit", ""], ["the program may have more by ", "--heap KIB", ", ", "--stack KIB", ", ", "--steps N", "; or it does not end"]],
   [["", "cool: NAME: read failed", ""], ["most often NAME is a folder"]],
   [["", "cool: -: missing", ""], ["", "-", " is a name like others: ", "/dev/stdin", " is standard input"]]]]}];
+const COOL_REGISTERS = {
+ "a0": "the value of the expression that just ended; the receiver at the entry of a method; the object at the entry and the end of X_init",
+ "s0": "self",
+ "fp": "the frame",
+ "sp": "the last word that was pushed",
+ "gp": "where the next object begins, with its word -1",
+ "s7": "the end of the heap",
+ "s6": "the lowest address of the stack",
+ "t8": "the String of the name of the file where the next error would be",
+ "t9": "the line where it would be",
+ "ra": "the return address; the frame keeps it"
+};

@@ -3,6 +3,6 @@
 const fs = require("fs");
 const path = require("path");
 const vm = require("vm");
-const { load } = require("./program.js");
+const { load } = require("./program/program.js");
 
 module.exports = () => load(vm.runInNewContext(`${fs.readFileSync(path.join(__dirname, "module.js"))}; COOL_MODULE`));

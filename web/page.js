@@ -1,32 +1,8 @@
-// The page as a whole: its views, keys, examples and colours, and how it begins.
+// The page as a whole: its keys, examples and colours, and how it begins.
 "use strict";
 
-const VIEWS = ["console", "machine", "assembly", "help"];
 const EXAMPLES = typeof COOL_EXAMPLES === "undefined" ? [] : COOL_EXAMPLES;
 const EMPTY = { files: [{ name: "program.cl", text: "" }] };
-
-function choose(name) {
-    for (const it of VIEWS) {
-        at(it).hidden = it !== name;
-        at(`tab-${it}`).setAttribute("aria-selected", String(it === name));
-        at(`tab-${it}`).tabIndex = it === name ? 0 : -1;
-    }
-    if (name === "assembly") showAssembly();
-    if (name === "machine") showMachine();
-    else leaveMachine();
-}
-
-// A file was changed, added, renamed or removed, or the input: by the user, unless it is said otherwise.
-function changedFiles(isEdited = true) {
-    edited = isEdited;
-    dropExplanation();
-    if (compiledModule) check();
-    showTabs();
-    keepProgramSoon();
-    assembled = undefined;
-    if (!at("assembly").hidden) showAssembly();
-    forgetMachine();
-}
 
 function pressed(event) {
     const control = event.ctrlKey || event.metaKey;
@@ -83,8 +59,6 @@ async function begin() {
 
 document.addEventListener("keydown", pressed);
 document.addEventListener("click", (event) => at("options").contains(event.target) || (at("options").open = false));
-for (const it of VIEWS) at(`tab-${it}`).onclick = () => choose(it);
-arrowsIn(at("views"), (i) => choose(VIEWS[i]));
 at("examples").onchange = (event) => openExample(event.target.value);
 at("theme").onchange = (event) => setTheme(event.target.value);
 at("input").onchange = () => changedFiles();

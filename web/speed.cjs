@@ -7,7 +7,7 @@
 const fs = require("fs");
 const path = require("path");
 const { execFileSync } = require("child_process");
-const { run, warm } = require("./program.js");
+const { run, warm } = require("./program/program.js");
 
 const TIMES = 5;
 const LOOPS = { hot: "a hot loop of 100 million instructions", calls: "a loop of 10 million calls" };

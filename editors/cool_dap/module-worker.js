@@ -3,7 +3,7 @@
 const fs = require("fs");
 const path = require("path");
 const { parentPort, receiveMessageOnPort, workerData } = require("worker_threads");
-const { run, why, Stopped } = require(path.join(__dirname, "..", "..", "web", "program.js"));
+const { run, why, Stopped } = require(path.join(__dirname, "..", "..", "web", "program", "program.js"));
 
 function fileIn(cwd, name) {
     try {

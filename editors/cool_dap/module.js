@@ -17,7 +17,7 @@ const STACK = 64, MOST_MILLISECONDS = 30;
 const compiled = new Map(), workers = new Map();
 
 function compile(name) {
-    const { load } = require(path.join(WEB, "program.js")), [script, constant] = SCRIPTS[name];
+    const { load } = require(path.join(WEB, "program", "program.js")), [script, constant] = SCRIPTS[name];
     if (!compiled.has(name)) compiled.set(name, load(vm.runInNewContext(`${fs.readFileSync(script)}; ${constant}`)));
     return compiled.get(name);
 }

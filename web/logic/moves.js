@@ -1,10 +1,12 @@
 // Moves of the debugger. A run is the same each time, so a state of the machine is a number: how many instructions were executed since the start.
 // Each look, and each move, runs the program anew by `debug` up to there, with a script of its own; so it can go back, too.
 //
-// What uses this file has a function debug(lines, wanted, { seen, budget }): it runs a script of these lines, and answers { notes, output }, the notes that
-// they ask for and the output up to the last. `seen` is called with each of the notes, and where it answers true the rest is not needed. No more than
+// What uses this file gives it a function debug(lines, wanted, { seen, budget }): it runs a script of these lines, and answers { notes, output }, the notes
+// that they ask for and the output up to the last. `seen` is called with each of the notes, and where it answers true the rest is not needed. No more than
 // `budget` instructions are executed.
 "use strict";
+
+let debug;
 
 const MOST_SCRIPT_BYTES = 65_000, MOST_STEP = 1_000_000_000, USUAL_STOPS = 40;
 // Memory is read in blocks, each by a line of a script.

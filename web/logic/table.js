@@ -105,6 +105,12 @@ function placeAt(table, address, listing) {
     return table.features.find((it) => it.name === unit?.name && it.from > address)?.stops[0];
 }
 
+// The line that an instruction is of: that of its expression, or in front of the expressions and behind them that of the method.
+function lineOfCode(address, { table, listing, outline }) {
+    const span = table.stopAt.get(address) ?? spansAt(table, address).at(-1);
+    return span ?? outline.get(unitAt(listing, address)?.name);
+}
+
 // The variables of `let` and `case` in scope at an address, the latest last.
 const variablesAt = (spans) => spans.filter((it) => it.entered).map((it) => it.latest);
 

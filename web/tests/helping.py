@@ -5,6 +5,7 @@ from page import ROOT, example, same, test
 
 FAULTS = "faults", "Faults of source files"
 SECTIONS = ("quickstart", "The language on a page"), FAULTS, ("faults", "Errors of a running program"), ("quickstart", "What surprises")
+REGISTERS = "runtime", "Registers"
 ROWS = "[...at('%s').querySelectorAll('tr')].map((it) => [...it.cells].map((cell) => cell.textContent).join('|'))"
 
 
@@ -23,6 +24,13 @@ def helps(page):
     same(page.run("return [...at('help-contents').children].map((it) => it.textContent);"), [heading for _, heading in SECTIONS])
     page.run("at('help-contents').lastChild.click();")
     page.wait("at('help').scrollTop > 1000")
+
+
+@test("tells of a register what the documents do")
+def registers(page):
+    page.open()
+    told = dict(row.split("|") for row in rows(*REGISTERS))
+    same(page.run("return ['a0', 's7', 't9', 't0'].map((it) => ROLES[it] ?? '');"), [told["$a0"], told["$s7"], told["$t9"], ""])
 
 
 @test("has the rows of the program's faults above, each once, as they come and go")

@@ -45,7 +45,8 @@ class Page:
         if first or not self.fresh:
             self.open(first)
         made = json.dumps({"files": [{"name": name, "text": text} for name, text in files], "input": input})
-        self.run("program.stop(); choose('console'); at('how').value = 'run'; for (const it of ['steps', 'heap', 'stack']) at(it).value = at(it).defaultValue;")
+        self.run("program.stop(); choose('console'); at('how').value = 'run';")
+        self.run("for (const { id } of OPTIONS) at(id).value = at(id).defaultValue, at(id).checked = false;")
         self.run(f"openProgram({made})")
         self.checked()
 

@@ -121,6 +121,29 @@ def limits(page):
     same(page.ended(), "cool: heap limit\n")
 
 
+@test("has an option within its bounds for each command that takes it, and the program takes it there")
+def options(page):
+    page.start(main("1"))
+    statuses = page.run("""
+        const found = [];
+        for (const { id, most } of OPTIONS) {
+            at(id).checked = true;
+            for (const value of most === undefined ? [at(id).value] : ["", -1, 1e99]) {
+                at(id).value = value;
+                for (const command of ["run", "eval"]) {
+                    const words = optionWords(command);
+                    found.push([id, command, words, (await program.run([command, ...words, "--", ...fileNames()], sources())).status]);
+                }
+            }
+            at(id).value = at(id).defaultValue;
+        }
+        return found;
+    """)
+    same([it for it in statuses if it[3] not in (0, 4, 5, 6)], [])
+    same([words for id, command, words, _ in statuses if command == "run" and id == "fold"],
+         [["--steps", "1000000000", "--heap", "32768", "--stack", "8192", "--fold"]])
+
+
 @test("runs by the rules of Cool as by compiled code")
 def rules(page):
     for how in "run", "eval":

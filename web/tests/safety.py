@@ -78,9 +78,9 @@ def keyboard(page):
     for _ in range(50):
         page.press("Tab", 9)
         reached.add(page.run("tabLeaves = true; return document.activeElement.id;"))
-    wanted = """run examples open save link how steps heap stack fold theme add-file rename-file text tab-machine restart go-on over into out
-        back step count label add-break address"""
-    same([it for it in wanted.split() if it not in reached], [])
+    wanted = """run examples open save link how theme add-file rename-file text tab-machine restart go-on over into out back step count label add-break
+        address""".split() + page.run("return OPTIONS.map((it) => it.id);")
+    same([it for it in wanted if it not in reached], [])
     page.run("at('tab-machine').focus();")
     page.press("ArrowRight", 39)
     same(page.run("return [at('assembly').hidden, document.activeElement.id];"), [False, "tab-assembly"])

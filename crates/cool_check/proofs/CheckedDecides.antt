@@ -20,7 +20,7 @@ use Rattle.cool_classes.proofs.Climbs.{chain_unique}
 use Rattle.cool_classes.proofs.Methods.{found_has}
 use Rattle.cool_rules.specs.Conformance.{IsType, Conforms, IsJoinOfTypes, class_of}
 use Rattle.cool_classes.specs.ClimbedChains.{chain as chain_of}
-use Rattle.cool_rules.specs.Scopes.{Binding, found}
+use Rattle.cool_rules.specs.Scopes.{AreTypes, Binding, found}
 use Rattle.cool_rules.specs.Typing.{int_type, bool_type, has_values, type_in_scope, with_name, result_on, IsNotSelf, AreArguments, IsCall, IsImplementation, AreComparable, IsJoinOfAll, IsJoinOfBranches, branch_types, HasType, HaveTypes, HaveItems, HasInit, HaveBranches, object_type, string_type}
 use Rattle.cool_rules.proofs.ChainsOfTables.{chain_within, below_trans, below_itself}
 use Rattle.cool_classes.proofs.ChainsOfTables.{chain_is}
@@ -81,11 +81,8 @@ one_by P (Err fault) h a b ha hb = absurd (h a ha)
 pub one_of : {A : Type 0} {r : Checked A} {P : A → Type 0} → IsDecided r P → (a b : A) → P a → P b → a ≡ b
 one_of {r = r} {P = P} h a b ha hb = one_by P r h.decided a b ha hb
 
-module _ (s : Context) (whole : IsWholeTable s.table) (within : s.class.0 < length s.table) (typed : AllByRecursion (λ (b : Binding). IsType s.table b.type) s.attributes) where
-  abbrev AreTypes : List Binding → Type 0
-  AreTypes o = AllByRecursion (λ (b : Binding). IsType s.table b.type) o
-
-  pub both_types : (o : List Binding) → AreTypes o → AreTypes (o ++ s.attributes)
+module _ (s : Context) (whole : IsWholeTable s.table) (within : s.class.0 < length s.table) (typed : AreTypes s.table s.attributes) where
+  pub both_types : (o : List Binding) → AreTypes s.table o → AreTypes s.table (o ++ s.attributes)
   both_types [] h = typed
   both_types (b ∷ o) h = (h.0, both_types o h.1)
 
@@ -279,7 +276,7 @@ module _ (s : Context) (whole : IsWholeTable s.table) (within : s.class.0 < leng
   InitHas scope (With e) None = ⊥
   InitHas scope (With e) (Some t) = HasType s.table s.class scope e t
 
-  init_by : (at : Place) (scope : List Binding) (init : MaybeTree) (o : Option Ty) (bound : Ty) → AreTypes scope → InitHas scope init o → ((a b : Option Ty) → InitHas scope init a → InitHas scope init b → a ≡ b)
+  init_by : (at : Place) (scope : List Binding) (init : MaybeTree) (o : Option Ty) (bound : Ty) → AreTypes s.table scope → InitHas scope init o → ((a b : Option Ty) → InitHas scope init a → InitHas scope init b → a ≡ b)
       → IsDecided (initialized s at bound o) (λ t. HasInit s.table s.class scope bound init × (t ≡ bound))
   unfolding InitHas
   init_by at scope Without None bound types h one = decided_as (λ t w. (tt, w)) (λ t w. w.1) (ok_decided bound)
@@ -318,7 +315,7 @@ module _ (s : Context) (whole : IsWholeTable s.table) (within : s.class.0 < leng
   unfolding InitHas
   no_init scope = ok_decided None
 
-  bound_decided : (at : Place) (scope : List Binding) (name : List ℕ) (declared : TypeRef) (init : MaybeTree) (o : Option Ty) → AreTypes scope → InitHas scope init o → ((a b : Option Ty) → InitHas scope init a → InitHas scope init b → a ≡ b)
+  bound_decided : (at : Place) (scope : List Binding) (name : List ℕ) (declared : TypeRef) (init : MaybeTree) (o : Option Ty) → AreTypes s.table scope → InitHas scope init o → ((a b : Option Ty) → InitHas scope init a → InitHas scope init b → a ≡ b)
       → IsDecided (bound_type s at name declared o) (λ bound. IsNotSelf name × (Denotes s.table declared.name bound × HasInit s.table s.class scope bound init))
   bound_decided at scope name declared init o types h one = decided_as
       (λ b w. let (other, (t, denotes, (fits, is))) = w in (other, (subst (λ (x : Ty). Denotes s.table declared.name x) (sym is) denotes, subst (λ (x : Ty). HasInit s.table s.class scope x init) (sym is) fits)))
@@ -331,7 +328,7 @@ module _ (s : Context) (whole : IsWholeTable s.table) (within : s.class.0 < leng
   receiver_class SelfType h = within
   receiver_class (IsClass a) h = h
 
-  all_types : (es : Trees) (scope : List Binding) (ts : List Ty) → AreTypes scope → HaveTypes s.table s.class scope es ts → AllByRecursion (IsType s.table) ts
+  all_types : (es : Trees) (scope : List Binding) (ts : List Ty) → AreTypes s.table scope → HaveTypes s.table s.class scope es ts → AllByRecursion (IsType s.table) ts
   all_types Last scope [] types h = tt
   all_types Last scope (t ∷ ts) types h = absurd h
   all_types (More e es) scope [] types h = absurd h
@@ -468,7 +465,7 @@ module _ (s : Context) (whole : IsWholeTable s.table) (within : s.class.0 < leng
   branches_more scope earlier join at name declared e cs j (u ∷ us, ((d, other, denotes, has), have), different, new, is) =
       (d, (other, (denotes, new.0 d denotes)), (u, has, (us, have, different.1, after_new earlier d declared.name (branch_types cs) denotes different.0 new.1, is)))
 
-  all_branch_types : (cs : Cases) (scope : List Binding) (ts : List Ty) → AreTypes scope → HaveBranches s.table s.class scope cs ts → AllByRecursion (IsType s.table) ts
+  all_branch_types : (cs : Cases) (scope : List Binding) (ts : List Ty) → AreTypes s.table scope → HaveBranches s.table s.class scope cs ts → AllByRecursion (IsType s.table) ts
   all_branch_types NoCase scope [] types h = tt
   all_branch_types NoCase scope (t ∷ ts) types h = absurd h
   all_branch_types (CaseOf at name declared e cs) scope [] types h = absurd h
@@ -511,12 +508,12 @@ module _ (s : Context) (whole : IsWholeTable s.table) (within : s.class.0 < leng
       one_type s.table whole s.class j (joined_from (Some t) ts) (conforming_type s.table whole s.class t j within h.0 is.all.0) (conforming_type s.table whole s.class t (joined_from (Some t) ts) within h.0 other.all.0)
       (is.least (joined_from (Some t) ts) other.all) (other.least j is.all)
 
-  case_type : (scope : List Binding) (at : Place) (e : Tree) (cs : Cases) (j : Ty) → AreTypes scope → (t : Ty) × HasType s.table s.class scope e t × BranchesJoin scope [] None cs j → HasType s.table s.class scope (trees.Case at e cs) j
+  case_type : (scope : List Binding) (at : Place) (e : Tree) (cs : Cases) (j : Ty) → AreTypes s.table scope → (t : Ty) × HasType s.table s.class scope e t × BranchesJoin scope [] None cs j → HasType s.table s.class scope (trees.Case at e cs) j
   unfolding BranchesJoin
   case_type scope at e cs j types (t, has, (us, have, different, new, is)) =
       (t, us, has, have, different, subst (λ (x : Ty). IsJoinOfBranches s.table s.class us x) (sym is) (branches_joined us (all_branch_types cs scope us types have)))
 
-  type_case : (scope : List Binding) (at : Place) (e : Tree) (cs : Cases) (j : Ty) → AreTypes scope → HasType s.table s.class scope (trees.Case at e cs) j → (t : Ty) × HasType s.table s.class scope e t × BranchesJoin scope [] None cs j
+  type_case : (scope : List Binding) (at : Place) (e : Tree) (cs : Cases) (j : Ty) → AreTypes s.table scope → HasType s.table s.class scope (trees.Case at e cs) j → (t : Ty) × HasType s.table s.class scope e t × BranchesJoin scope [] None cs j
   unfolding BranchesJoin
   type_case scope at e cs j types (t, us, has, have, different, join) = (t, has, (us, have, different, new_to_none (branch_types cs), one_joined us j (all_branch_types cs scope us types have) join))
 
@@ -527,7 +524,7 @@ module _ (s : Context) (whole : IsWholeTable s.table) (within : s.class.0 < leng
   -- Expressions
 
   mutual
-    checks : (e : Tree) (o : List Binding) → AreTypes o → IsDecided (checked s o e) (λ t. HasType s.table s.class (o ++ s.attributes) e t)
+    checks : (e : Tree) (o : List Binding) → AreTypes s.table o → IsDecided (checked s o e) (λ t. HasType s.table s.class (o ++ s.attributes) e t)
     checks (trees.Id at name) o types = name_decided o at name
     checks (trees.Int at n) o types = ok_decided int_type
     checks (trees.Str at bytes) o types = ok_decided string_type
@@ -594,7 +591,7 @@ module _ (s : Context) (whole : IsWholeTable s.table) (within : s.class.0 < leng
         (bind_decided (checks a o types) (λ t has. bind_decided (checks b o types) (λ u has1. compared_decided op at t u)))
 
     -- with the types before
-    checks_more : (es : Trees) (o : List Binding) (before : List Ty) → AreTypes o → IsDecided (all_checked s o before es) (λ all. (ts : List Ty) × HaveTypes s.table s.class (o ++ s.attributes) es ts × (all ≡ before ++ ts))
+    checks_more : (es : Trees) (o : List Binding) (before : List Ty) → AreTypes s.table o → IsDecided (all_checked s o before es) (λ all. (ts : List Ty) × HaveTypes s.table s.class (o ++ s.attributes) es ts × (all ≡ before ++ ts))
     checks_more Last o before types = decided_as (λ all is. ([], tt, is ∙ sym (append-nil before))) (λ all w. none all w.0 w.1 w.2) (ok_decided before)
       where
         none : (all : List Ty) (ts : List Ty) → HaveTypes s.table s.class (o ++ s.attributes) Last ts → all ≡ before ++ ts → all ≡ before
@@ -610,15 +607,15 @@ module _ (s : Context) (whole : IsWholeTable s.table) (within : s.class.0 < leng
         some all [] h is = absurd h
         some all (t ∷ ts) h is = (t, h.0, (ts, h.1, is ∙ sym (append_assoc before (t ∷ []) ts)))
 
-    checks_items : (es : Trees) (o : List Binding) (before : Ty) → AreTypes o → IsDecided (last_checked s o before es) (λ t. HaveItems s.table s.class (o ++ s.attributes) before es t)
+    checks_items : (es : Trees) (o : List Binding) (before : Ty) → AreTypes s.table o → IsDecided (last_checked s o before es) (λ t. HaveItems s.table s.class (o ++ s.attributes) before es t)
     checks_items Last o before types = ok_decided before
     checks_items (More e es) o before types = bind_decided (checks e o types) (λ t has. checks_items es o t types)
 
-    checks_init : (init : MaybeTree) (o : List Binding) → AreTypes o → IsDecided (maybe_checked s o init) (InitHas (o ++ s.attributes) init)
+    checks_init : (init : MaybeTree) (o : List Binding) → AreTypes s.table o → IsDecided (maybe_checked s o init) (InitHas (o ++ s.attributes) init)
     checks_init Without o types = no_init (o ++ s.attributes)
     checks_init (With e) o types = decided_as (λ x w. init_of (o ++ s.attributes) e x w) (λ x h. of_init (o ++ s.attributes) e x h) (bind_decided (checks e o types) (λ t has. ok_decided (Some t)))
 
-    checks_cases : (cs : Cases) (o : List Binding) (earlier : List ClassId) (join : Option Ty) → AreTypes o → IsDecided (cases_checked s o earlier join cs) (BranchesJoin (o ++ s.attributes) earlier join cs)
+    checks_cases : (cs : Cases) (o : List Binding) (earlier : List ClassId) (join : Option Ty) → AreTypes s.table o → IsDecided (cases_checked s o earlier join cs) (BranchesJoin (o ++ s.attributes) earlier join cs)
     checks_cases NoCase o earlier join types = no_branches (o ++ s.attributes) earlier join
     checks_cases (CaseOf at name declared e cs) o earlier join types = decided_as
         (λ j w. more_branches (o ++ s.attributes) earlier join at name declared e cs j w)
@@ -627,5 +624,5 @@ module _ (s : Context) (whole : IsWholeTable s.table) (within : s.class.0 < leng
         bind_decided (checks e (bind name (IsClass d) o) (w.1.0.0, types)) (λ u has. checks_cases cs o (earlier ++ d ∷ []) (Some (joined s join u)) types)))
 
   -- an expression has a type by the rules exactly where checking it finds no fault, and it is the one that checking gives
-  pub checked_decides : (e : Tree) (o : List Binding) → AreTypes o → IsDecided (checked s o e) (λ t. HasType s.table s.class (o ++ s.attributes) e t)
+  pub checked_decides : (e : Tree) (o : List Binding) → AreTypes s.table o → IsDecided (checked s o e) (λ t. HasType s.table s.class (o ++ s.attributes) e t)
   checked_decides e o types = checks e o types

@@ -19,7 +19,7 @@ use Rattle.cool_classes.proofs.ChainsOfTables.{chain_is}
 use Rattle.cool_rules.specs.Conformance.{IsType, Conforms}
 use Rattle.cool_rules.specs.NodeTypes.{own_scope}
 use Rattle.cool_rules.specs.Rules.{formal_binding, type_meant}
-use Rattle.cool_rules.specs.Scopes.{Binding, entered}
+use Rattle.cool_rules.specs.Scopes.{AreTypes, Binding, entered}
 use Rattle.cool_rules.specs.Typing.{HasType, attributes_in_scope, FitsDeclared, IsTypedInit, IsTypedFeature}
 use Rattle.cool_rules.proofs.EnteredScopes.{NamesDiffer, entered_types, entered_beside, formals_differ}
 use Rattle.cool_rules.proofs.RulesOfTables.{type_meant_is}
@@ -34,21 +34,18 @@ use Rattle.cool_check.specs.TypingFaults.{class_context, initial_checked, featur
 use Rattle.cool_check.proofs.CheckedDecides.{IsDecided, decided_as, bind_decided, ok_decided, conform_decided, checked_decides}
 
 module _ (p : List Class) (whole : IsWholeTable p) (c : ClassId) (within : c.0 < length p) where
-  abbrev AreTypes : List Binding → Type 0
-  AreTypes o = AllByRecursion (λ (b : Binding). IsType p b.type) o
-
   -- what a name of the table means is what it denotes
   meant_denotes : (name : List ℕ) → IsTypeName p name → Denotes p name (type_meant p name)
   meant_denotes name (t, denotes) = subst (λ (x : Ty). Denotes p name x) (type_meant_is p name t whole.table denotes) denotes
 
-  own_types : AreTypes (attribute_bindings p c)
+  own_types : AreTypes p (attribute_bindings p c)
   own_types = entered_types (IsType p) (own_scope p c) [] (attributes_are_types p whole (attributes_of p (climbed.chain p c))) tt
 
   back : (s t : List Binding) → AreSame s t → AreSame t s
   back s t h = λ name. sym (h name)
 
   -- an expression conforms to what a feature declares
-  declared_decided : (bs : List Binding) (kind : TypeKind) (at : Place) (e : Tree) (name : List ℕ) → NamesDiffer (own_scope p c) → NamesDiffer bs → AreTypes bs → IsTypeName p name
+  declared_decided : (bs : List Binding) (kind : TypeKind) (at : Place) (e : Tree) (name : List ℕ) → NamesDiffer (own_scope p c) → NamesDiffer bs → AreTypes p bs → IsTypeName p name
       → IsDecided {A = Unit {0}} (and_then (checked (class_context p c) (entered bs []) e) (λ t. fits (class_context p c) t (type_meant p name) kind at (Ok tt))) (λ u. FitsDeclared p c bs e name)
   declared_decided bs kind at e name differ different types named = decided_as
       (λ u w. let (t, has, (conforms, unit)) = w in record {
@@ -72,7 +69,7 @@ module _ (p : List Class) (whole : IsWholeTable p) (c : ClassId) (within : c.0 <
       conform_decided (class_context p c) whole within own_types kind at t (type_meant p name)
       (expression_type p whole c within e (entered bs [] ++ attribute_bindings p c) t (both (entered bs []) (entered_types (IsType p) bs [] types tt)) has) (λ k. ok_decided (tt {0}))))
     where
-      both : (o : List Binding) → AreTypes o → AreTypes (o ++ attribute_bindings p c)
+      both : (o : List Binding) → AreTypes p o → AreTypes p (o ++ attribute_bindings p c)
       both [] h = own_types
       both (b ∷ o) h = (h.0, both o h.1)
 

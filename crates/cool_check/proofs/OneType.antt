@@ -7,10 +7,10 @@ use Rattle.cool_classes.specs.declared.class_id.Ty.{Ty}
 use Rattle.cool_classes.specs.Chains.{Class}
 use Rattle.cool_classes.specs.Tables.{IsWholeTable}
 use Rattle.cool_rules.specs.Conformance.{IsType}
-use Rattle.cool_rules.specs.Scopes.{Binding}
+use Rattle.cool_rules.specs.Scopes.{AreTypes, Binding}
 use Rattle.cool_rules.specs.Typing.{HasType}
 use Rattle.cool_check.proofs.CheckedDecides.{checked_decides, one_of}
 
-pub one_type : (p : List Class) → IsWholeTable p → (c : ClassId) (scope : List Binding) (e : Tree) (t u : Ty) → c.0 < length p → AllByRecursion (λ (b : Binding). IsType p b.type) scope
+pub one_type : (p : List Class) → IsWholeTable p → (c : ClassId) (scope : List Binding) (e : Tree) (t u : Ty) → c.0 < length p → AreTypes p scope
     → HasType p c scope e t → HasType p c scope e u → t ≡ u
 one_type p whole c scope e t u within types has also = one_of (checked_decides (record { table = p; class = c; attributes = scope }) whole within types e [] tt) t u has also

@@ -10,14 +10,13 @@ use Rattle.cool_classes.specs.declared.class_id.Ty.TheVariants.{Class as IsClass
 use Rattle.cool_classes.specs.Chains.{Class, class_number}
 use Rattle.cool_classes.specs.Tables.{IsWholeTable}
 use Rattle.cool_rules.specs.Rules.{is_among, type_meant, type_of_name}
-use Rattle.cool_rules.specs.Scopes.{Binding}
+use Rattle.cool_rules.specs.Scopes.{AreTypes, Binding}
 use Rattle.cool_rules.specs.StaticTypes.{type_of}
 use Rattle.cool_rules.specs.Typing.{HasType}
 use Rattle.cool_rules.proofs.StaticTypesAreGiven.{type_is}
 use Rattle.cool_check.specs.Contexts.{Context}
 use Rattle.cool_check.specs.FirstFaults.{Checked, refuse, refuse_type, and_then, or_no_type, initialized, bound_type, branch_among, branch_class, conform, is_self, checked}
 use Rattle.cool_check.specs.declared.fault.TypeKind.TheVariants.{E10, E13, E17}
-use Rattle.cool_check.specs.Settings.{HaveTypes}
 use Rattle.cool_check.proofs.CheckedDecides.{Decides, both_types, checked_decides}
 
 -- what is decided and given holds
@@ -26,7 +25,7 @@ given_holds P (Ok b) a e d = let same : b ≡ a = cc in subst P same d.0
 given_holds P (Err fault) a e d = absurd (cc)
 
 -- the type that checking gives an expression is its static type
-pub static_type_given : (s : Context) → IsWholeTable s.table → s.class.0 < length s.table → HaveTypes s.table s.attributes → (o : List Binding) → HaveTypes s.table o → (e : Tree) (t : Ty)
+pub static_type_given : (s : Context) → IsWholeTable s.table → s.class.0 < length s.table → AreTypes s.table s.attributes → (o : List Binding) → AreTypes s.table o → (e : Tree) (t : Ty)
     → checked s o e ≡ Ok t → type_of s.table s.class (o ++ s.attributes) e ≡ t
 static_type_given s whole within typed o types e t is =
     type_is s.table whole s.class within e (o ++ s.attributes) t (both_types s whole within typed o types)

@@ -5,11 +5,10 @@ use Rattle.std.specs.Option.{option_or}
 use Rattle.cool_classes.specs.declared.class_id.Ty.{Ty}
 use Rattle.cool_classes.specs.Chains.{Class}
 use Rattle.cool_rules.specs.Conformance.{IsType}
-use Rattle.cool_rules.specs.Scopes.{Binding, found}
-use Rattle.cool_check.specs.Settings.{HaveTypes}
+use Rattle.cool_rules.specs.Scopes.{AreTypes, Binding, found}
 
 -- the type that the latest binding of a name gives is a type
-pub found_type : (p : List Class) (bs : List Binding) (name : List ℕ) → HaveTypes p bs → IfSome (found bs name) (IsType p)
+pub found_type : (p : List Class) (bs : List Binding) (name : List ℕ) → AreTypes p bs → IfSome (found bs name) (IsType p)
 found_type p [] name h = tt
 found_type p (b ∷ bs) name h = by (bytes_eq b.name name) (found_type p bs name h.1)
   where
@@ -23,6 +22,6 @@ either_type p (Some x) b h k = h
 either_type p None b h k = k
 
 -- the type of a name in one scope or else in another
-pub found_in_either : (p : List Class) (locals attributes : List Binding) (name : List ℕ) → HaveTypes p locals → HaveTypes p attributes
+pub found_in_either : (p : List Class) (locals attributes : List Binding) (name : List ℕ) → AreTypes p locals → AreTypes p attributes
     → IfSome (option_or (found locals name) (found attributes name)) (IsType p)
 found_in_either p locals attributes name h k = either_type p (found locals name) (found attributes name) (found_type p locals name h) (found_type p attributes name k)

@@ -15,27 +15,14 @@ use Rattle.cool_classes.specs.declared.class_id.Ty.{Ty}
 use Rattle.cool_classes.specs.Chains.{Class}
 use Rattle.cool_rules.specs.Conformance.{IsType}
 use Rattle.cool_rules.specs.NodeTypes.{node_types, part_types, types_of_all, types_of_maybe, types_of_cases, feature_types}
-use Rattle.cool_rules.specs.Scopes.{Binding}
+use Rattle.cool_rules.specs.Scopes.{AreTypes, Binding}
 use Rattle.cool_check.specs.declared.fault.CheckError.{CheckError}
 use Rattle.cool_check.specs.declared.setting.Setting.{Setting}
 use Rattle.cool_check.specs.Contexts.{context}
 use Rattle.cool_check.specs.Faults.{IsPlacedError}
 use Rattle.cool_check.specs.FirstFaults.{Checked, checked, IsFirst}
-use Rattle.cool_check.specs.Settings.{HaveTypes, IsSound}
+use Rattle.cool_check.specs.Settings.{IsSound}
 use Rattle.cool_check.specs.TypingFaults.{feature_checked}
-
--- the trees that parts of the body in a setting stand for
-abbrev pub tree_of_node : Setting → Node → Tree
-tree_of_node s node = made (all_trees s.body.now) node
-
-abbrev pub trees_of : Setting → List NodeId → Trees
-trees_of s ids = of_list (map (at_id (all_trees s.body.now)) ids)
-
-abbrev pub maybe_tree_of : Setting → Option NodeId → MaybeTree
-maybe_tree_of s id = of_option (option_map (at_id (all_trees s.body.now)) id)
-
-abbrev pub cases_of : Setting → List NodeBranch → Cases
-cases_of s branches = of_twigs (map (twig_at (all_trees s.body.now)) branches)
 
 -- the types of the nodes of an expression, or of its parts, with these variables in scope before the attributes
 abbrev pub nodes_typed : Setting → List Binding → Tree → List Ty
@@ -57,7 +44,7 @@ cases_typed s locals cs = types_of_cases s.table.now s.class (locals ++ s.attrib
 -- expressions before this number of the body can be checked with these variables in scope
 pub record IsReady (s : Setting) (scope : List Binding) (number : ℕ) : Type 0 where
   pub sound : IsSound s
-  pub locals : HaveTypes s.table.now scope
+  pub locals : AreTypes s.table.now scope
   pub below : number < tree_size s.body.now
 
 -- arguments are expressions of the body, and each has a type

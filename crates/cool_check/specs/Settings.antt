@@ -5,17 +5,14 @@ use Rattle.cool_classes.specs.declared.class_id.ClassId.{ClassId}
 use Rattle.cool_classes.specs.Chains.{Class}
 use Rattle.cool_classes.specs.Tables.{IsWholeTable}
 use Rattle.cool_rules.specs.Conformance.{IsType}
-use Rattle.cool_rules.specs.Scopes.{Binding}
+use Rattle.cool_rules.specs.Scopes.{AreTypes, Binding}
 use Rattle.cool_check.specs.declared.setting.Setting.{Setting}
-
-abbrev pub HaveTypes : List Class → List Binding → Type 0
-HaveTypes p bindings = AllByRecursion (λ b. IsType p b.type) bindings
 
 -- a class of a whole table, with its attributes in scope
 pub record IsSoundClass (p : List Class) (c : ClassId) (attributes : List Binding) : Type 0 where
   pub whole : IsWholeTable p
   pub class : c.0 < length p
-  pub types : HaveTypes p attributes
+  pub types : AreTypes p attributes
 
 abbrev pub IsSound : Setting → Type 0
 IsSound s = IsSoundClass s.table.now s.class s.attributes.now

@@ -4,11 +4,11 @@ ghost use Rattle.std.specs.Prelude.{◌≡◌, ◌≤◌, ◌+◌, ◌++◌, ◌
 ghost use Rattle.std.specs.List.{AllByRecursion};
 ghost use Rattle.cool_syntax.specs.Tree.{tree_size, maybe_size, cases_size};
 ghost use Rattle.cool_syntax.specs.NodeGroups.{IsBinding};
-ghost use Rattle.cool_syntax.specs.NodeLists.{tree_at, HasPartsBelow};
+ghost use Rattle.cool_syntax.specs.NodeLists.{tree_at, HasPartsBelow, cases_of, maybe_tree_of, tree_of_node};
 ghost use Rattle.cool_syntax.specs.TokenFacts.{IsPlaced};
 ghost use Rattle.cool_syntax.specs.TreesWithinLimits.{AreCasesWithin, IsMaybeWithin};
 ghost use Rattle.cool_rules.specs.Conformance.{IsType};
-ghost use Rattle.cool_check.specs.Checks.{tree_of_node, maybe_tree_of, cases_of, nodes_typed, parts_typed, maybe_typed, cases_typed, IsReady, IsAnswer, IsTypeOf};
+ghost use Rattle.cool_check.specs.Checks.{nodes_typed, parts_typed, maybe_typed, cases_typed, IsReady, IsAnswer, IsTypeOf};
 ghost use Rattle.cool_check.specs.FirstFaults.{maybe_checked, cases_checked, bound_type, branch_class, joined, bind};
 ghost use Rattle.cool_rules.specs.Rules.{is_among};
 ghost use Rattle.cool_check.specs.Contexts.{context};
@@ -34,11 +34,11 @@ pub(crate) fn type_of_binding<'a>(
     requires group { IsBinding node.now }
     requires parts { HasPartsBelow id.0 node.now }
     requires ready { IsReady setting.now locals.old id.0 }
-    requires room { length types.old.held + tree_size (tree_of_node setting.now node.now) ≤ types.old.room }
+    requires room { length types.old.held + tree_size (tree_of_node setting.now.body.now node.now) ≤ types.old.room }
     ensures scope { OnOk result (locals.new ≡ locals.old) }
-    ensures column { OnOk result (types.new.held ≡ types.old.held ++ parts_typed setting.now locals.old (tree_of_node setting.now node.now)) }
-    ensures room { OnOk result (length types.new.held + 1 + types.old.room ≤ length types.old.held + tree_size (tree_of_node setting.now node.now) + types.new.room) }
-    ensures answer { IsTypeOf setting.now locals.old (tree_of_node setting.now node.now) result }
+    ensures column { OnOk result (types.new.held ≡ types.old.held ++ parts_typed setting.now locals.old (tree_of_node setting.now.body.now node.now)) }
+    ensures room { OnOk result (length types.new.held + 1 + types.old.room ≤ length types.old.held + tree_size (tree_of_node setting.now.body.now node.now) + types.new.room) }
+    ensures answer { IsTypeOf setting.now locals.old (tree_of_node setting.now.body.now node.now) result }
 {
     match node {
         Node::Let {
@@ -75,11 +75,11 @@ fn type_of_option<'a>(
 ) -> Result<Option<Ty>, CheckError>
     requires init { IfSome init (λ value. value.0 < end.0) }
     requires ready { IsReady setting.now locals.old end.0 }
-    requires room { length types.old.held + maybe_size (maybe_tree_of setting.now init) ≤ types.old.room }
+    requires room { length types.old.held + maybe_size (maybe_tree_of setting.now.body.now init) ≤ types.old.room }
     ensures scope { OnOk result (locals.new ≡ locals.old) }
-    ensures column { OnOk result (types.new.held ≡ types.old.held ++ maybe_typed setting.now locals.old (maybe_tree_of setting.now init)) }
-    ensures room { OnOk result (length types.new.held + types.old.room ≤ length types.old.held + maybe_size (maybe_tree_of setting.now init) + types.new.room) }
-    ensures answer { IsAnswer (maybe_checked (context setting.now) locals.old (maybe_tree_of setting.now init)) (λ given. IfSome given (IsType setting.now.table.now)) (λ n. IsMaybeWithin n (maybe_tree_of setting.now init)) result }
+    ensures column { OnOk result (types.new.held ≡ types.old.held ++ maybe_typed setting.now locals.old (maybe_tree_of setting.now.body.now init)) }
+    ensures room { OnOk result (length types.new.held + types.old.room ≤ length types.old.held + maybe_size (maybe_tree_of setting.now.body.now init) + types.new.room) }
+    ensures answer { IsAnswer (maybe_checked (context setting.now) locals.old (maybe_tree_of setting.now.body.now init)) (λ given. IfSome given (IsType setting.now.table.now)) (λ n. IsMaybeWithin n (maybe_tree_of setting.now.body.now init)) result }
 {
     match init {
         Some(value) => Ok(Some(type_of(setting, locals, types, value)?)),
@@ -148,11 +148,11 @@ fn type_of_branches<'a>(
 ) -> Result<Ty, CheckError>
     requires branches { AllByRecursion (λ branch. branch.body.0 < end.0) branches.now }
     requires ready { IsReady setting.now locals.old end.0 }
-    requires room { length types.old.held + cases_size (cases_of setting.now branches.now) ≤ types.old.room }
+    requires room { length types.old.held + cases_size (cases_of setting.now.body.now branches.now) ≤ types.old.room }
     ensures scope { OnOk result (locals.new ≡ locals.old) }
-    ensures column { OnOk result (types.new.held ≡ types.old.held ++ cases_typed setting.now locals.old (cases_of setting.now branches.now)) }
-    ensures room { OnOk result (length types.new.held + types.old.room ≤ length types.old.held + cases_size (cases_of setting.now branches.now) + types.new.room) }
-    ensures answer { IsAnswer (cases_checked (context setting.now) locals.old [] None (cases_of setting.now branches.now)) (IsType setting.now.table.now) (λ n. AreCasesWithin n (cases_of setting.now branches.now)) result }
+    ensures column { OnOk result (types.new.held ≡ types.old.held ++ cases_typed setting.now locals.old (cases_of setting.now.body.now branches.now)) }
+    ensures room { OnOk result (length types.new.held + types.old.room ≤ length types.old.held + cases_size (cases_of setting.now.body.now branches.now) + types.new.room) }
+    ensures answer { IsAnswer (cases_checked (context setting.now) locals.old [] None (cases_of setting.now.body.now branches.now)) (IsType setting.now.table.now) (λ n. AreCasesWithin n (cases_of setting.now.body.now branches.now)) result }
 {
     let mut classes = Vec::new(setting.alloc);
     let mut joined = None;

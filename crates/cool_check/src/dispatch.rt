@@ -3,12 +3,12 @@
 ghost use Rattle.std.specs.Prelude.{◌≡◌, ◌≤◌, ◌+◌, ◌++◌, ◌<◌, ℕ, length, IfSome, OnOk};
 ghost use Rattle.cool_syntax.specs.Tree.{tree_size};
 ghost use Rattle.cool_syntax.specs.NodeGroups.{IsCall};
-ghost use Rattle.cool_syntax.specs.NodeLists.{HasPartsBelow};
+ghost use Rattle.cool_syntax.specs.NodeLists.{HasPartsBelow, tree_of_node, trees_of};
 ghost use Rattle.cool_syntax.specs.TokenFacts.{IsPlaced};
 ghost use Rattle.cool_syntax.specs.TreesWithinLimits.{AreTreesWithin};
 ghost use Rattle.cool_classes.specs.Features.{HasMethod, formals_of};
 ghost use Rattle.cool_rules.specs.Conformance.{IsType};
-ghost use Rattle.cool_check.specs.Checks.{tree_of_node, trees_of, parts_typed, IsReady, AreArguments, IsAnswer, IsTypeOf};
+ghost use Rattle.cool_check.specs.Checks.{parts_typed, IsReady, AreArguments, IsAnswer, IsTypeOf};
 ghost use Rattle.cool_check.specs.FirstFaults.{static_class, call_checked, misfit, resulting};
 ghost use Rattle.cool_check.specs.Contexts.{context};
 ghost use Rattle.cool_check.specs.Settings.{IsSound};
@@ -33,11 +33,11 @@ pub(crate) fn type_of_call<'a>(
     requires group { IsCall node.now }
     requires parts { HasPartsBelow id.0 node.now }
     requires ready { IsReady setting.now locals.old id.0 }
-    requires room { length types.old.held + tree_size (tree_of_node setting.now node.now) ≤ types.old.room }
+    requires room { length types.old.held + tree_size (tree_of_node setting.now.body.now node.now) ≤ types.old.room }
     ensures scope { OnOk result (locals.new ≡ locals.old) }
-    ensures column { OnOk result (types.new.held ≡ types.old.held ++ parts_typed setting.now locals.old (tree_of_node setting.now node.now)) }
-    ensures room { OnOk result (length types.new.held + 1 + types.old.room ≤ length types.old.held + tree_size (tree_of_node setting.now node.now) + types.new.room) }
-    ensures answer { IsTypeOf setting.now locals.old (tree_of_node setting.now node.now) result }
+    ensures column { OnOk result (types.new.held ≡ types.old.held ++ parts_typed setting.now locals.old (tree_of_node setting.now.body.now node.now)) }
+    ensures room { OnOk result (length types.new.held + 1 + types.old.room ≤ length types.old.held + tree_size (tree_of_node setting.now.body.now node.now) + types.new.room) }
+    ensures answer { IsTypeOf setting.now locals.old (tree_of_node setting.now.body.now node.now) result }
 {
     match node {
         Node::Dispatch {
@@ -122,7 +122,7 @@ fn type_of_result(
     requires class { called.now.class.0 < length setting.now.table.now }
     requires object { IsType setting.now.table.now called.now.object }
     requires arguments { AreArguments setting.now args.now given.now }
-    ensures { IsAnswer (call_checked (context setting.now) called.now.at called.now.class called.now.object called.now.name.now (trees_of setting.now args.now) given.now) (IsType setting.now.table.now) (λ n. IsPlaced n called.now.at × AreTreesWithin n (trees_of setting.now args.now)) result }
+    ensures { IsAnswer (call_checked (context setting.now) called.now.at called.now.class called.now.object called.now.name.now (trees_of setting.now.body.now args.now) given.now) (IsType setting.now.table.now) (λ n. IsPlaced n called.now.at × AreTreesWithin n (trees_of setting.now.body.now args.now)) result }
 {
     let Some(method) = setting.method(called.class, called.name) else {
         return Err(CheckError::in_class(TypeKind::E4, called.at, called.class));
@@ -147,8 +147,8 @@ fn misfit(
     requires has { HasMethod setting.now.table.now method }
     requires arguments { AreArguments setting.now args.now given.now }
     requires formals { length (formals_of setting.now.table.now method) ≡ length args.now }
-    ensures misfit { result ≡ misfit (context setting.now) (formals_of setting.now.table.now method) given.now (trees_of setting.now args.now) }
-    ensures places { (n : ℕ) → AreTreesWithin n (trees_of setting.now args.now) → IfSome result (λ fault. IsPlaced n fault.at) }
+    ensures misfit { result ≡ misfit (context setting.now) (formals_of setting.now.table.now method) given.now (trees_of setting.now.body.now args.now) }
+    ensures places { (n : ℕ) → AreTreesWithin n (trees_of setting.now.body.now args.now) → IfSome result (λ fault. IsPlaced n fault.at) }
 {
     for index in 0..args.len() {
         let formal = setting.formal(method, index as u32);

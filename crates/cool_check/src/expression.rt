@@ -4,20 +4,21 @@ ghost use Rattle.std.specs.Prelude.{◌≡◌, ◌≤◌, ◌+◌, ◌<◌, ◌+
 ghost use Rattle.std.specs.List.{AllByRecursion};
 ghost use Rattle.cool_syntax.specs.Tree.{place_of, tree_size, trees_size};
 ghost use Rattle.cool_syntax.specs.NodeGroups.{IsControl, IsLeaf};
-ghost use Rattle.cool_syntax.specs.NodeLists.{tree_at, HasPartsBelow};
+ghost use Rattle.cool_syntax.specs.NodeLists.{tree_at, HasPartsBelow, tree_of_node, trees_of};
 ghost use Rattle.cool_syntax.specs.TokenFacts.{IsPlaced};
 ghost use Rattle.cool_syntax.specs.TreesWithinLimits.{AreTreesWithin, IsTreeWithin};
 ghost use Rattle.cool_rules.specs.Conformance.{IsType};
-ghost use Rattle.cool_check.specs.Checks.{tree_of_node, trees_of, nodes_typed, parts_typed, all_typed, IsReady, IsAnswer, IsTypeOf};
+ghost use Rattle.cool_check.specs.Checks.{nodes_typed, parts_typed, all_typed, IsReady, IsAnswer, IsTypeOf};
 ghost use Rattle.cool_check.specs.Faults.{IsPlacedError, StandsAt};
 ghost use Rattle.cool_rules.specs.Rules.{same_type};
 ghost use Rattle.cool_check.specs.FirstFaults.{all_checked, last_checked, name_checked, is_self, unfit, IsFirst};
 ghost use Rattle.cool_check.specs.Contexts.{context};
-ghost use Rattle.cool_check.specs.Settings.{HaveTypes, IsSound};
+ghost use Rattle.cool_check.specs.Settings.{IsSound};
 ghost use Rattle.cool_check.specs.declared.fault.CheckError.TheVariants as error;
 ghost use Rattle.cool_check.specs.declared.fault.TypeKind.TheVariants as kind;
 ghost use Rattle.cool_classes.specs.declared.class_id.Ty.TheVariants.{Class as IsClass};
 ghost use Rattle.cool_rules.specs.Typing.{bool_type, object_type};
+ghost use Rattle.cool_rules.specs.Scopes.{AreTypes};
 
 use crate::binding::type_of_binding;
 use crate::dispatch::type_of_call;
@@ -60,11 +61,11 @@ fn type_of_node<'a>(
 ) -> Result<Ty, CheckError>
     requires parts { HasPartsBelow id.0 node.now }
     requires ready { IsReady setting.now locals.old id.0 }
-    requires room { length types.old.held + tree_size (tree_of_node setting.now node.now) ≤ types.old.room }
+    requires room { length types.old.held + tree_size (tree_of_node setting.now.body.now node.now) ≤ types.old.room }
     ensures scope { OnOk result (locals.new ≡ locals.old) }
-    ensures column { OnOk result (types.new.held ≡ types.old.held ++ parts_typed setting.now locals.old (tree_of_node setting.now node.now)) }
-    ensures room { OnOk result (length types.new.held + 1 + types.old.room ≤ length types.old.held + tree_size (tree_of_node setting.now node.now) + types.new.room) }
-    ensures answer { IsTypeOf setting.now locals.old (tree_of_node setting.now node.now) result }
+    ensures column { OnOk result (types.new.held ≡ types.old.held ++ parts_typed setting.now locals.old (tree_of_node setting.now.body.now node.now)) }
+    ensures room { OnOk result (length types.new.held + 1 + types.old.room ≤ length types.old.held + tree_size (tree_of_node setting.now.body.now node.now) + types.new.room) }
+    ensures answer { IsTypeOf setting.now locals.old (tree_of_node setting.now.body.now node.now) result }
 {
     match node {
         Node::Dispatch { .. } | Node::StaticDispatch { .. } => {
@@ -96,8 +97,8 @@ fn type_of_leaf(
 ) -> Result<Ty, CheckError>
     requires group { IsLeaf node.now }
     requires sound { IsSound setting.now }
-    requires locals { HaveTypes setting.now.table.now locals.now }
-    ensures { IsTypeOf setting.now locals.now (tree_of_node setting.now node.now) result }
+    requires locals { AreTypes setting.now.table.now locals.now }
+    ensures { IsTypeOf setting.now locals.now (tree_of_node setting.now.body.now node.now) result }
 {
     match node {
         Node::Id { at, name } => type_of_name(setting, locals, *at, name),
@@ -120,7 +121,7 @@ pub(crate) fn type_of_name(
     name: &Name,
 ) -> Result<Ty, CheckError>
     requires sound { IsSound setting.now }
-    requires locals { HaveTypes setting.now.table.now locals.now }
+    requires locals { AreTypes setting.now.table.now locals.now }
     ensures answer { IsAnswer (name_checked (context setting.now) locals.now at name.now) (IsType setting.now.table.now) (λ n. IsPlaced n at) result }
     ensures fault { IfErr result (StandsAt at) }
 {
@@ -152,11 +153,11 @@ fn type_of_control<'a>(
     requires group { IsControl node.now }
     requires parts { HasPartsBelow id.0 node.now }
     requires ready { IsReady setting.now locals.old id.0 }
-    requires room { length types.old.held + tree_size (tree_of_node setting.now node.now) ≤ types.old.room }
+    requires room { length types.old.held + tree_size (tree_of_node setting.now.body.now node.now) ≤ types.old.room }
     ensures scope { OnOk result (locals.new ≡ locals.old) }
-    ensures column { OnOk result (types.new.held ≡ types.old.held ++ parts_typed setting.now locals.old (tree_of_node setting.now node.now)) }
-    ensures room { OnOk result (length types.new.held + 1 + types.old.room ≤ length types.old.held + tree_size (tree_of_node setting.now node.now) + types.new.room) }
-    ensures answer { IsTypeOf setting.now locals.old (tree_of_node setting.now node.now) result }
+    ensures column { OnOk result (types.new.held ≡ types.old.held ++ parts_typed setting.now locals.old (tree_of_node setting.now.body.now node.now)) }
+    ensures room { OnOk result (length types.new.held + 1 + types.old.room ≤ length types.old.held + tree_size (tree_of_node setting.now.body.now node.now) + types.new.room) }
+    ensures answer { IsTypeOf setting.now locals.old (tree_of_node setting.now.body.now node.now) result }
 {
     match node {
         Node::If { test, yes, no, .. } => {
@@ -212,11 +213,11 @@ fn type_of_last<'a>(
 ) -> Result<Ty, CheckError>
     requires items { AllByRecursion (λ item. item.0 < end.0) items.now }
     requires ready { IsReady setting.now locals.old end.0 }
-    requires room { length types.old.held + trees_size (trees_of setting.now items.now) ≤ types.old.room }
+    requires room { length types.old.held + trees_size (trees_of setting.now.body.now items.now) ≤ types.old.room }
     ensures scope { OnOk result (locals.new ≡ locals.old) }
-    ensures column { OnOk result (types.new.held ≡ types.old.held ++ all_typed setting.now locals.old (trees_of setting.now items.now)) }
-    ensures room { OnOk result (length types.new.held + types.old.room ≤ length types.old.held + trees_size (trees_of setting.now items.now) + types.new.room) }
-    ensures answer { IsAnswer (last_checked (context setting.now) locals.old object_type (trees_of setting.now items.now)) (IsType setting.now.table.now) (λ n. AreTreesWithin n (trees_of setting.now items.now)) result }
+    ensures column { OnOk result (types.new.held ≡ types.old.held ++ all_typed setting.now locals.old (trees_of setting.now.body.now items.now)) }
+    ensures room { OnOk result (length types.new.held + types.old.room ≤ length types.old.held + trees_size (trees_of setting.now.body.now items.now) + types.new.room) }
+    ensures answer { IsAnswer (last_checked (context setting.now) locals.old object_type (trees_of setting.now.body.now items.now)) (IsType setting.now.table.now) (λ n. AreTreesWithin n (trees_of setting.now.body.now items.now)) result }
 {
     let mut last = Ty::Class(OBJECT);
     for item in items {
@@ -236,15 +237,15 @@ pub(crate) fn types_of<'a>(
 ) -> Result<Vec<Ty>, CheckError>
     requires items { AllByRecursion (λ item. item.0 < end.0) items.now }
     requires ready { IsReady setting.now locals.old end.0 }
-    requires room { length types.old.held + trees_size (trees_of setting.now items.now) ≤ types.old.room }
+    requires room { length types.old.held + trees_size (trees_of setting.now.body.now items.now) ≤ types.old.room }
     ensures types { IfOk result (λ found. AllByRecursion (IsType setting.now.table.now) found.items) }
     ensures each { IfOk result (λ found. length found.items ≡ length items.now) }
-    ensures typed { IfOk result (λ found. all_checked (context setting.now) locals.old [] (trees_of setting.now items.now) ≡ Ok found.items) }
-    ensures first { IfErr result (IsFirst (all_checked (context setting.now) locals.old [] (trees_of setting.now items.now))) }
+    ensures typed { IfOk result (λ found. all_checked (context setting.now) locals.old [] (trees_of setting.now.body.now items.now) ≡ Ok found.items) }
+    ensures first { IfErr result (IsFirst (all_checked (context setting.now) locals.old [] (trees_of setting.now.body.now items.now))) }
     ensures scope { OnOk result (locals.new ≡ locals.old) }
-    ensures column { OnOk result (types.new.held ≡ types.old.held ++ all_typed setting.now locals.old (trees_of setting.now items.now)) }
-    ensures room { OnOk result (length types.new.held + types.old.room ≤ length types.old.held + trees_size (trees_of setting.now items.now) + types.new.room) }
-    ensures places { (n : ℕ) → AreTreesWithin n (trees_of setting.now items.now) → IfErr result (IsPlacedError n) }
+    ensures column { OnOk result (types.new.held ≡ types.old.held ++ all_typed setting.now locals.old (trees_of setting.now.body.now items.now)) }
+    ensures room { OnOk result (length types.new.held + types.old.room ≤ length types.old.held + trees_size (trees_of setting.now.body.now items.now) + types.new.room) }
+    ensures places { (n : ℕ) → AreTreesWithin n (trees_of setting.now.body.now items.now) → IfErr result (IsPlacedError n) }
 {
     let mut found = Vec::new(setting.alloc);
     for item in items {

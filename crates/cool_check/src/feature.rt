@@ -8,11 +8,12 @@ ghost use Rattle.cool_syntax.specs.TreesWithinLimits.{IsFeatureWithin};
 ghost use Rattle.cool_classes.specs.Chains.{features_of};
 ghost use Rattle.cool_classes.specs.LawfulTables.{IsLawful};
 ghost use Rattle.cool_classes.specs.Tables.{IsTable};
+ghost use Rattle.cool_rules.specs.Scopes.{AreTypes};
 ghost use Rattle.cool_check.specs.Checks.{IsFeatureAnswer};
 ghost use Rattle.cool_check.specs.Faults.{IsPlacedError};
 ghost use Rattle.cool_check.specs.FirstFaults.{IsFirst};
 ghost use Rattle.cool_check.specs.Contexts.{attribute_bindings, formal_bindings};
-ghost use Rattle.cool_check.specs.Settings.{HaveTypes, IsSound, IsSoundClass};
+ghost use Rattle.cool_check.specs.Settings.{IsSound, IsSoundClass};
 ghost use Rattle.cool_check.specs.TypingFaults.{feature_checked};
 
 use crate::expression::type_of;
@@ -64,7 +65,7 @@ pub(crate) fn attribute_scope(
 ) -> Result<Scope<'_>, AllocError>
     requires table { IsTable t.now }
     requires class { c.0 < length t.now }
-    ensures types { IfOk result (HaveTypes t.now) }
+    ensures types { IfOk result (AreTypes t.now) }
     ensures attributes { IfOk result (λ scope. scope ≡ attribute_bindings t.now c) }
 {
     let mut scope = Scope::new(alloc);
@@ -137,7 +138,7 @@ fn formal_scope<'a>(
 ) -> Result<Scope<'a>, AllocError>
     requires sound { IsSound setting.now }
     requires method { slice_get (features_of setting.now.table.now setting.now.class) index ≡ Some (Method method.now) }
-    ensures types { IfOk result (HaveTypes setting.now.table.now) }
+    ensures types { IfOk result (AreTypes setting.now.table.now) }
     ensures formals { IfOk result (λ scope. scope ≡ formal_bindings setting.now.table.now method.now.formals) }
 {
     let called = MethodRef::User {

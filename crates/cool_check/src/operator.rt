@@ -3,10 +3,10 @@
 ghost use Rattle.std.specs.Prelude.{◌≡◌, length, ◌≤◌, ◌+◌, ◌++◌, true, false, IfOk, IfErr, OnOk};
 ghost use Rattle.cool_syntax.specs.Tree.{tree_size};
 ghost use Rattle.cool_syntax.specs.NodeGroups.{IsBinary, IsUnary};
-ghost use Rattle.cool_syntax.specs.NodeLists.{HasPartsBelow};
+ghost use Rattle.cool_syntax.specs.NodeLists.{HasPartsBelow, tree_of_node};
 ghost use Rattle.cool_syntax.specs.TokenFacts.{IsPlaced};
 ghost use Rattle.cool_rules.specs.Conformance.{IsType};
-ghost use Rattle.cool_check.specs.Checks.{tree_of_node, parts_typed, IsReady, IsAnswer, IsTypeOf};
+ghost use Rattle.cool_check.specs.Checks.{parts_typed, IsReady, IsAnswer, IsTypeOf};
 ghost use Rattle.cool_check.specs.Faults.{StandsAt};
 ghost use Rattle.cool_rules.specs.Rules.{same_type};
 ghost use Rattle.cool_rules.specs.Typing.{has_values};
@@ -14,7 +14,8 @@ ghost use Rattle.cool_check.specs.FirstFaults.{assigned, compared, unfit};
 ghost use Rattle.cool_check.specs.Contexts.{context};
 ghost use Rattle.cool_check.specs.declared.fault.CheckError.TheVariants as error;
 ghost use Rattle.cool_classes.specs.declared.class_id.Ty.TheVariants.{Class as IsClass};
-ghost use Rattle.cool_check.specs.Settings.{HaveTypes, IsSound};
+ghost use Rattle.cool_rules.specs.Scopes.{AreTypes};
+ghost use Rattle.cool_check.specs.Settings.{IsSound};
 
 use crate::expression::{is_class, is_self, type_of, type_of_name};
 use crate::fault::{CheckError, TypeKind};
@@ -36,11 +37,11 @@ pub(crate) fn type_of_unary<'a>(
     requires group { IsUnary node.now }
     requires parts { HasPartsBelow id.0 node.now }
     requires ready { IsReady setting.now locals.old id.0 }
-    requires room { length types.old.held + tree_size (tree_of_node setting.now node.now) ≤ types.old.room }
+    requires room { length types.old.held + tree_size (tree_of_node setting.now.body.now node.now) ≤ types.old.room }
     ensures scope { OnOk result (locals.new ≡ locals.old) }
-    ensures column { OnOk result (types.new.held ≡ types.old.held ++ parts_typed setting.now locals.old (tree_of_node setting.now node.now)) }
-    ensures room { OnOk result (length types.new.held + 1 + types.old.room ≤ length types.old.held + tree_size (tree_of_node setting.now node.now) + types.new.room) }
-    ensures answer { IsTypeOf setting.now locals.old (tree_of_node setting.now node.now) result }
+    ensures column { OnOk result (types.new.held ≡ types.old.held ++ parts_typed setting.now locals.old (tree_of_node setting.now.body.now node.now)) }
+    ensures room { OnOk result (length types.new.held + 1 + types.old.room ≤ length types.old.held + tree_size (tree_of_node setting.now.body.now node.now) + types.new.room) }
+    ensures answer { IsTypeOf setting.now locals.old (tree_of_node setting.now.body.now node.now) result }
 {
     match node {
         Node::Assign { at, name, value } => {
@@ -74,7 +75,7 @@ fn assigned(
     given: Ty,
 ) -> Result<Ty, CheckError>
     requires sound { IsSound setting.now }
-    requires locals { HaveTypes setting.now.table.now locals.now }
+    requires locals { AreTypes setting.now.table.now locals.now }
     requires given { IsType setting.now.table.now given }
     ensures answer { IsAnswer (assigned (context setting.now) locals.now at name.now given) (IsType setting.now.table.now) (λ n. IsPlaced n at) result }
     ensures fault { IfErr result (StandsAt at) }
@@ -114,11 +115,11 @@ pub(crate) fn type_of_binary<'a>(
     requires group { IsBinary node.now }
     requires parts { HasPartsBelow id.0 node.now }
     requires ready { IsReady setting.now locals.old id.0 }
-    requires room { length types.old.held + tree_size (tree_of_node setting.now node.now) ≤ types.old.room }
+    requires room { length types.old.held + tree_size (tree_of_node setting.now.body.now node.now) ≤ types.old.room }
     ensures scope { OnOk result (locals.new ≡ locals.old) }
-    ensures column { OnOk result (types.new.held ≡ types.old.held ++ parts_typed setting.now locals.old (tree_of_node setting.now node.now)) }
-    ensures room { OnOk result (length types.new.held + 1 + types.old.room ≤ length types.old.held + tree_size (tree_of_node setting.now node.now) + types.new.room) }
-    ensures answer { IsTypeOf setting.now locals.old (tree_of_node setting.now node.now) result }
+    ensures column { OnOk result (types.new.held ≡ types.old.held ++ parts_typed setting.now locals.old (tree_of_node setting.now.body.now node.now)) }
+    ensures room { OnOk result (length types.new.held + 1 + types.old.room ≤ length types.old.held + tree_size (tree_of_node setting.now.body.now node.now) + types.new.room) }
+    ensures answer { IsTypeOf setting.now locals.old (tree_of_node setting.now.body.now node.now) result }
 {
     match node {
         Node::Arith {

@@ -10,7 +10,7 @@ use Rattle.cool_syntax.specs.declared.node.NodeBranch.{NodeBranch}
 use Rattle.cool_syntax.specs.declared.node.NodeId.{NodeId}
 use Rattle.cool_syntax.specs.Tree.{Tree, Trees, MaybeTree, Cases, Last, More, Without, With, NoCase, CaseOf, tree_size, trees_size, maybe_size, cases_size}
 use Rattle.cool_syntax.specs.Tree as trees
-use Rattle.cool_syntax.specs.Falls.{one_le_size}
+use Rattle.cool_syntax.proofs.TreesHaveNodes.{one_le_size}
 use Rattle.cool_syntax.specs.NodeLists.{root, root_of_maybe, roots, branch_roots, nodes, nodes_of_all, nodes_of_maybe, nodes_of_cases, tree_at}
 use Rattle.mips_isa.specs.Lines.{Name}
 use Rattle.cool_classes.specs.declared.class_id.Ty.{Ty}
@@ -31,6 +31,7 @@ use Rattle.cool_codegen.specs.Shown.{Shown}
 use Rattle.cool_codegen.proofs.ArmsInOrder.{arm_put}
 use Rattle.cool_codegen.specs.Asked.{Extends, integers_in, integers_in_all, integers_in_maybe, integers_in_cases, strings_in, strings_in_all, strings_in_maybe, strings_in_cases, files_of, file_of}
 use Rattle.cool_codegen.specs.Code.{Context, code, arguments_code, items_code, initial_code, arms_code, string_label, label_at, range_code}
+use Rattle.cool_codegen.specs.declared.setting.Wanted.TheVariants.{Lines}
 use Rattle.cool_codegen.specs.Numbered.{size_at, sizes_at, maybe_size_at, branch_sizes_at, node_size, after, with_value, with_bytes, with_file, operation_asked, asked_at, all_asked, maybe_asked, branches_asked, node_asked, receiver_class, nodes_before, lines_at, items_lines, arguments_lines, initial_lines, branch_lines, branch_spans, branches_made, node_lines}
 use Rattle.cool_rules.proofs.PartsStand.{Stands, tree_there, top, first_stands, others_stand, first_branch_stands, other_branches_stand, one_stands, two_stand, maybe_stands, three_stand, all_stand, part_node}
 use Rattle.cool_codegen.proofs.NumbersAgree.{SameIntegers, SameStrings, agrees, after_both, after_strings, extends_same, extends_before, integer_stays, string_stays}
@@ -211,7 +212,7 @@ initial_is s b t g vs d k type Without there x = refl
 initial_is s b t g vs d k type (With e) there x = lines_is s b t g vs d k e there x
 
 arms_are : (s : Context) (b : Tree) (t g : Constants) (vs : List Named) (d k : ℕ) (end : Name) (before : List (Branch (List Shown))) (cs : Cases) → Lies (nodes 0 b) k (nodes_of_cases k cs) → Extends (after t (integers_in_cases cs) (strings_in_cases s.files cs)) g
-    → arms_code s g vs d k end (map (λ (x : Branch (List Shown)). x.arm) before) cs ≡ map (λ (x : Branch (List Shown)). x.arm) (branches_made s b t vs d end before (branch_roots k cs))
+    → arms_code s g vs d k end (map (λ (x : Branch (List Shown)). x.arm) before) cs ≡ map (λ (x : Branch (List Shown)). x.arm) (branches_made Lines s b t vs d end before (branch_roots k cs))
 arms_are s b t g vs d k end before NoCase there x = refl
 arms_are s b t g vs d k end before (CaseOf at name declared e cs) there x =
     let here = first_branch_stands e cs there in
@@ -219,7 +220,7 @@ arms_are s b t g vs d k end before (CaseOf at name declared e cs) there x =
     let class = class_meant s.table s.class declared.name in
     let next = label_at s (codes "next") (root k e) in
     let w : NodeBranch = record { at = at; name = name; declared = declared; body = root k e } in
-    let made : Branch (List Shown) = record { arm = record { depth = length (above s.table class); lines = branch_lines s b t vs d end w }; inside = branch_spans s b vs d [] w } in
+    let made : Branch (List Shown) = record { arm = record { depth = length (above s.table class); lines = branch_lines s b t vs d end w }; inside = branch_spans Lines s b vs d [] w } in
     let lines = lines_is s b t g (bind d name (type_meant s.table declared.name) vs) (d + 1) k e here two.0 in
     (λ i. arms_code s g vs d (k + tree_size e) end
     (with_arm (map (λ (y : Branch (List Shown)). y.arm) before) (record { depth = length (above s.table class); lines = range_code s class next ++ (lines i ++ turn_lines end next) })) cs)

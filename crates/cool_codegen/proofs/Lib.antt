@@ -9,6 +9,7 @@ mod ScopesOfFeatures
 mod ArmsInOrder
 mod SpansNoted
 mod SpansByNumbers
+mod LinesAlone
 pub mod FeaturesThere
 mod NumbersStay
 mod SameSettings

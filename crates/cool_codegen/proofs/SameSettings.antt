@@ -18,7 +18,7 @@ use Rattle.cool_codegen.specs.Variables.{Named}
 -- the code of an expression was added
 abbrev AddsAt : {X E : Type 0} → ℕ → NodeId → Code → Code → Result X E → Setting → Constants → List Named → Type 0
 AddsAt d id before after result s t vs =
-    Adds (lines_at (context s) s.body.now t vs d id) (spans_at (context s) s.body.now vs d (length (lines_of before.lines.items)) id)
+    Adds (lines_at (context s) s.body.now t vs d id) (spans_at s.wanted (context s) s.body.now vs d (length (lines_of before.lines.items)) id)
     (asked_at (context s).files s.body.now t id) (size_at s.body.now id) before after result
 
 pub added_in : {X E : Type 0} (d : ℕ) (id : NodeId) (before after : Code) (result : Result X E) (s r : Setting) (t u : Constants) (vs ws : List Named) → s ≡ r → t ≡ u → vs ≡ ws → AddsAt d id before after result s t vs → AddsAt d id before after result r u ws
@@ -30,7 +30,7 @@ added_in d id before after result s r t u vs ws same asked scope made =
 -- the code of a branch was added
 abbrev AddsBranch : {X E : Type 0} → ℕ → Name → NodeBranch → Code → Code → Result X E → Constants → Setting → List Named → Type 0
 AddsBranch d end w before after result t s vs =
-    Adds (branch_lines (context s) s.body.now t vs d end w) (branch_spans (context s) s.body.now vs d (lines_of before.lines.items) w)
+    Adds (branch_lines (context s) s.body.now t vs d end w) (branch_spans s.wanted (context s) s.body.now vs d (lines_of before.lines.items) w)
     (asked_at (context s).files s.body.now t w.body) (size_at s.body.now w.body) before after result
 
 pub branch_added_in : {X E : Type 0} (d : ℕ) (end : Name) (w : NodeBranch) (before after : Code) (result : Result X E) (t : Constants) (s r : Setting) (vs ws : List Named) → s ≡ r → vs ≡ ws → AddsBranch d end w before after result t s vs → AddsBranch d end w before after result t r ws
@@ -41,7 +41,7 @@ branch_added_in d end w before after result t s r vs ws same scope made =
 -- the code of a node was added, behind the begin of its span
 abbrev AddsIn : {X E : Type 0} → ℕ → NodeId → Node → Code → Code → Result X E → Setting → List Named → List declared_line.Line → Constants → Type 0
 AddsIn d id n before after result s vs ls t =
-    Adds (node_lines (context s) s.body.now t vs d id n) (node_spans (context s) s.body.now t vs d (lines_of ls) id n) (node_asked (context s).files s.body.now t n) (node_size s.body.now n) before after result
+    Adds (node_lines (context s) s.body.now t vs d id n) (node_spans s.wanted (context s) s.body.now t vs d (lines_of ls) id n) (node_asked (context s).files s.body.now t n) (node_size s.body.now n) before after result
 
 pub in_begun : {X E : Type 0} (d : ℕ) (id : NodeId) (n : Node) (old begun after : Code) (result : Result X E) → NotesAlone old begun → AddsNode d id n begun after result
     → AddsIn d id n begun after result old.setting old.variables old.lines.items old.consts

@@ -9,7 +9,7 @@ use Rattle.cool_syntax.specs.declared.node.NodeBranch.{NodeBranch}
 use Rattle.cool_syntax.specs.declared.node.NodeId.{NodeId}
 use Rattle.cool_syntax.specs.Tree.{Tree, Trees, MaybeTree, Cases, Last, More, Without, With, NoCase, CaseOf, tree_size, maybe_size}
 use Rattle.cool_syntax.specs.Tree as trees
-use Rattle.cool_syntax.specs.Falls.{one_le_size}
+use Rattle.cool_syntax.proofs.TreesHaveNodes.{one_le_size}
 use Rattle.cool_syntax.specs.NodeLists.{root, root_of_maybe, roots, branch_roots, nodes, nodes_of_all, nodes_of_maybe, nodes_of_cases, all_trees, made, tree_at}
 use Rattle.mips_isa.specs.Lines.{Line, Name}
 use Rattle.cool_classes.specs.declared.class_id.Ty.{Ty}
@@ -25,6 +25,8 @@ use Rattle.cool_codegen.specs.Code.{Context, code, arguments_code, initial_code,
 use Rattle.cool_codegen.specs.Pieces.{case_begin_lines, mark_lines, test_lines, turn_lines}
 use Rattle.cool_codegen.specs.Spans.{Branch, Span, Spanned, along, branches, spans, with_branch}
 use Rattle.cool_codegen.specs.Spans as of_trees
+use Rattle.cool_codegen.specs.declared.setting.Wanted.{Wanted}
+use Rattle.cool_codegen.specs.declared.setting.Wanted.TheVariants.{Lines, Spans}
 use Rattle.cool_codegen.specs.Shown.{IsWithin, Shown, arms_spans, later, shown, whole}
 use Rattle.cool_codegen.specs.Numbered.{arguments_lines, arguments_spans, asked_at, branch_lines, branch_spans, branches_made, initial_lines, initial_spans, items_spans, lines_at, maybe_asked, no_constants, node_asked, node_lines, node_spans, nodes_before, own_span, spans_at, with_file, within_branch}
 use Rattle.cool_rules.proofs.PartsStand.{Stands, tree_there, top, first_stands, others_stand, first_branch_stands, other_branches_stand, one_stands, two_stand, maybe_stands, three_stand, all_stand}
@@ -48,7 +50,7 @@ module _ (s : Context) (b : Tree) where
       let before : nodes_before b (root k e) ≡ k = omega (arith, one_le_size e) in
       as_many_lines s (asked_at s.files b t (root k e)) g vs d (nodes_before b (root k e)) (tree_at b (root k e)) ∙ (λ i. length (code s g vs d (before i) (is i)))
 
-  pub spans_are : (vs : List Named) (d k from pc : ℕ) (e : Tree) → Stands (nodes 0 b) k e → from ≡ pc → map (shown s no_constants) (spans length s no_constants vs d k pc e) ≡ spans_at s b vs d from (root k e)
+  pub spans_are : (vs : List Named) (d k from pc : ℕ) (e : Tree) → Stands (nodes 0 b) k e → from ≡ pc → map (shown s no_constants) (spans length s no_constants vs d k pc e) ≡ spans_at Spans s b vs d from (root k e)
   unfolding spans_at
   spans_are vs d k from pc e there same =
       let is = sym (tree_there b k e there) in
@@ -57,7 +59,7 @@ module _ (s : Context) (b : Tree) where
       λ i. map (shown s no_constants) (spans length s no_constants vs d (before i) (sym same i) (is i))
 
   items_are : (t : Constants) (vs : List Named) (d k pc : ℕ) (before : List Line) (ts : Trees) → Lies (nodes 0 b) k (nodes_of_all k ts) → length before ≡ pc
-      → map (shown s no_constants) (of_trees.items_spans length s no_constants vs d k pc ts) ≡ items_spans s b t vs d before (roots k ts)
+      → map (shown s no_constants) (of_trees.items_spans length s no_constants vs d k pc ts) ≡ items_spans Spans s b t vs d before (roots k ts)
   items_are t vs d k pc before Last there same = refl
   items_are t vs d k pc before (More e ts) there same =
       let lines = lines_at s b t vs d (root k e) in
@@ -67,7 +69,7 @@ module _ (s : Context) (b : Tree) where
       (items_are (asked_at s.files b t (root k e)) vs d (k + tree_size e) _ (before ++ lines) ts (others_stand e ts there) (omega (arith, length-append before lines)))
 
   arguments_are : (t : Constants) (vs : List Named) (d k pc : ℕ) (before : List Line) (ts : Trees) → Lies (nodes 0 b) k (nodes_of_all k ts) → length before ≡ pc
-      → map (shown s no_constants) (of_trees.arguments_spans length s no_constants vs d k pc ts) ≡ arguments_spans s b t vs d before (roots k ts)
+      → map (shown s no_constants) (of_trees.arguments_spans length s no_constants vs d k pc ts) ≡ arguments_spans Spans s b t vs d before (roots k ts)
   arguments_are t vs d k pc before Last there same = refl
   arguments_are t vs d k pc before (More e ts) there same =
       let lines = lines_at s b t vs d (root k e) in
@@ -96,7 +98,7 @@ module _ (s : Context) (b : Tree) where
       )
 
   initial_are : (vs : List Named) (d k pc : ℕ) (before : List Line) (o : MaybeTree) → Lies (nodes 0 b) k (nodes_of_maybe k o) → length before ≡ pc
-      → map (shown s no_constants) (of_trees.initial_spans length s no_constants vs d k pc o) ≡ initial_spans s b vs d before (root_of_maybe k o)
+      → map (shown s no_constants) (of_trees.initial_spans length s no_constants vs d k pc o) ≡ initial_spans Spans s b vs d before (root_of_maybe k o)
   initial_are vs d k pc before Without there same = refl
   initial_are vs d k pc before (With e) there same = spans_are vs d k (length before) pc e there same
 
@@ -147,7 +149,7 @@ module _ (s : Context) (b : Tree) where
       (along_is xs ys (pc + length x.arm.lines) (before ++ y.arm.lines) h.1 (omega (arith, length-append before y.arm.lines)))
 
   branches_are : (t : Constants) (vs : List Named) (d k : ℕ) (end : Name) (xs : List Spanned) (ys : List (Branch (List Shown))) (cs : Cases) → Lies (nodes 0 b) k (nodes_of_cases k cs) → AreBranches xs ys
-      → AreBranches (branches length s no_constants vs d k end xs cs) (branches_made s b t vs d end ys (branch_roots k cs))
+      → AreBranches (branches length s no_constants vs d k end xs cs) (branches_made Spans s b t vs d end ys (branch_roots k cs))
   branches_are t vs d k end xs ys NoCase there h = h
   branches_are t vs d k end xs ys (CaseOf at name declared e cs) there h =
       let here = first_branch_stands e cs there in
@@ -186,7 +188,7 @@ module _ (s : Context) (b : Tree) where
 
     pub node_spanned : (e : Tree) → Stands (nodes 0 b) k e
         → map (shown s no_constants) (spans length s no_constants vs d k (length before) e)
-        ≡ whole vs d (length before) (length (before ++ node_lines s b t vs d (root k e) (top k e))) e ∷ node_spans s b t vs d before (root k e) (top k e)
+        ≡ whole vs d (length before) (length (before ++ node_lines s b t vs d (root k e) (top k e))) e ∷ node_spans Spans s b t vs d before (root k e) (top k e)
     node_spanned (trees.Assign at name e) there =
         own (trees.Assign at name e) there (spans length s no_constants vs d k (length before) e) _ (spans_are vs d k _ _ e (one_stands e _ there) refl)
     node_spanned (trees.Dispatch at e name ts) there =
@@ -195,14 +197,14 @@ module _ (s : Context) (b : Tree) where
         let many = many_arguments t vs d (k + tree_size e) ts parts.1 in
         own (trees.Dispatch at e name ts) there (of_trees.arguments_spans length s no_constants vs d (k + tree_size e) (length before) ts ++ spans length s no_constants vs (d + trees_count ts) k (length before + length (arguments_code s no_constants vs d (k + tree_size e) ts)) e) _
         (both s (of_trees.arguments_spans length s no_constants vs d (k + tree_size e) (length before) ts) _ _ _ (arguments_are t vs d (k + tree_size e) (length before) before ts parts.1 refl)
-        (spans_are vs (d + trees_count ts) k (length (before ++ args)) (length before + length (arguments_code s no_constants vs d (k + tree_size e) ts)) e parts.0 (omega (arith, length-append before args)) ∙ ap (λ (n : ℕ). spans_at s b vs (d + n) (length (before ++ args)) (root k e)) (count_is (k + tree_size e) ts)))
+        (spans_are vs (d + trees_count ts) k (length (before ++ args)) (length before + length (arguments_code s no_constants vs d (k + tree_size e) ts)) e parts.0 (omega (arith, length-append before args)) ∙ ap (λ (n : ℕ). spans_at Spans s b vs (d + n) (length (before ++ args)) (root k e)) (count_is (k + tree_size e) ts)))
     node_spanned (trees.StaticDispatch at e class name ts) there =
         let parts = two_stand e (nodes_of_all (k + tree_size e) ts) _ there in
         let args = arguments_lines s b t vs d (roots (k + tree_size e) ts) in
         let many = many_arguments t vs d (k + tree_size e) ts parts.1 in
         own (trees.StaticDispatch at e class name ts) there (of_trees.arguments_spans length s no_constants vs d (k + tree_size e) (length before) ts ++ spans length s no_constants vs (d + trees_count ts) k (length before + length (arguments_code s no_constants vs d (k + tree_size e) ts)) e) _
         (both s (of_trees.arguments_spans length s no_constants vs d (k + tree_size e) (length before) ts) _ _ _ (arguments_are t vs d (k + tree_size e) (length before) before ts parts.1 refl)
-        (spans_are vs (d + trees_count ts) k (length (before ++ args)) (length before + length (arguments_code s no_constants vs d (k + tree_size e) ts)) e parts.0 (omega (arith, length-append before args)) ∙ ap (λ (n : ℕ). spans_at s b vs (d + n) (length (before ++ args)) (root k e)) (count_is (k + tree_size e) ts)))
+        (spans_are vs (d + trees_count ts) k (length (before ++ args)) (length before + length (arguments_code s no_constants vs d (k + tree_size e) ts)) e parts.0 (omega (arith, length-append before args)) ∙ ap (λ (n : ℕ). spans_at Spans s b vs (d + n) (length (before ++ args)) (root k e)) (count_is (k + tree_size e) ts)))
     node_spanned (trees.If at c y n) there =
         let parts = three_stand c y n _ there in
         let lines_c = lines_at s b t vs d (root k c) in
@@ -261,7 +263,7 @@ module _ (s : Context) (b : Tree) where
         let l3 = length-append ((before ++ lines_a) ++ begin) push_lines in
         own (trees.Case at a cs) there _ _
         (both s (spans length s no_constants vs d k (length before) a) _ _ _ (spans_are vs d k _ _ a parts.0 refl)
-        (along_is (branches length s no_constants vs d (k + tree_size a) end [] cs) (branches_made s b asked vs d end [] (branch_roots (k + tree_size a) cs))
+        (along_is (branches length s no_constants vs d (k + tree_size a) end [] cs) (branches_made Spans s b asked vs d end [] (branch_roots (k + tree_size a) cs))
         (length before + length (code s no_constants vs d k a) + length (case_begin_lines (file_label s no_constants at) at.line) + length push_lines) (((before ++ lines_a) ++ begin) ++ push_lines)
         (branches_are asked vs d (k + tree_size a) end [] [] cs parts.1 tt) (omega arith)))
     node_spanned (trees.New at class) there = own (trees.New at class) there [] [] refl
@@ -294,21 +296,21 @@ module _ (s : Context) (b : Tree) where
     node_spanned (trees.Str at bytes) there = own (trees.Str at bytes) there [] [] refl
     node_spanned (trees.Bool at value) there = own (trees.Bool at value) there [] [] refl
 
--- at the number of a part: what its spans show
+-- at the number of a part, where spans are wanted: what they show
 pub spans_of_node : (s : Context) (b : TypedBody) (scope : List Binding) (t : Constants) (vs : List Named) (d : ℕ) (id : NodeId) (n : Node) (before : List Line)
     → IsPart b scope id → slice_get (nodes 0 b.body) id.0 ≡ Some n → tree_at b.body id ≡ made (all_trees b.body) n
-    → spans_at s b.body vs d (length before) id ≡ own_span s b.body t vs d before id n ∷ node_spans s b.body t vs d before id n
+    → spans_at Spans s b.body vs d (length before) id ≡ own_span s b.body t vs d before id n ∷ node_spans Spans s b.body t vs d before id n
 spans_of_node s b scope t vs d id n before h e tree =
     let is = sym (at_part b scope id n h e) in
     let there = sym (tree_there b.body h.before h.tree h.stands) ∙ ap (tree_at b.body) (sym h.number) ∙ tree in
-    ap (spans_at s b.body vs d (length before)) h.number
+    ap (spans_at Spans s b.body vs d (length before)) h.number
     ∙ sym (spans_are s b.body vs d h.before _ _ h.tree h.stands refl)
     ∙ node_spanned s b.body t vs d h.before before h.tree h.stands
-    ∙ (λ i. whole vs d (length before) (length (before ++ node_lines s b.body t vs d (sym h.number i) (is i))) (there i) ∷ node_spans s b.body t vs d before (sym h.number i) (is i))
+    ∙ (λ i. whole vs d (length before) (length (before ++ node_lines s b.body t vs d (sym h.number i) (is i))) (there i) ∷ node_spans Spans s b.body t vs d before (sym h.number i) (is i))
 
 -- the spans of an expression lie within its lines
 within_at : (s : Context) (b : Tree) (t : Constants) (vs : List Named) (d from most : ℕ) (id : NodeId) → from + length (lines_at s b t vs d id) ≤ most
-    → AllByRecursion (λ x. (x.from ≤ most) × (x.to ≤ most)) (spans_at s b vs d from id)
+    → AllByRecursion (λ x. (x.from ≤ most) × (x.to ≤ most)) (spans_at Spans s b vs d from id)
 unfolding lines_at spans_at
 within_at s b t vs d from most id fits =
     let e = tree_at b id in
@@ -323,14 +325,21 @@ within_at s b t vs d from most id fits =
     each [] h = tt
     each (x ∷ xs) h = (((let f = h.0 in omega arith), h.0), each xs h.1)
 
+-- what is noted of them lies within, and so does nothing
+noted_within : (want : Wanted) (s : Context) (b : Tree) (t : Constants) (vs : List Named) (d from most : ℕ) (id : NodeId) → from + length (lines_at s b t vs d id) ≤ most
+    → AllByRecursion (λ x. (x.from ≤ most) × (x.to ≤ most)) (spans_at want s b vs d from id)
+unfolding spans_at
+noted_within Lines s b t vs d from most id fits = tt
+noted_within Spans s b t vs d from most id fits = within_at s b t vs d from most id fits
+
 -- those of a branch within the lines of the branch, and so in all branches
-pub branches_within : (s : Context) (b : Tree) (t : Constants) (vs : List Named) (d : ℕ) (end : Name) (before : List (Branch (List Shown))) (ws : List NodeBranch)
-    → AllByRecursion IsWithin before → AllByRecursion IsWithin (branches_made s b t vs d end before ws)
-branches_within s b t vs d end before [] h = h
-branches_within s b t vs d end before (w ∷ ws) h =
+pub branches_within : (want : Wanted) (s : Context) (b : Tree) (t : Constants) (vs : List Named) (d : ℕ) (end : Name) (before : List (Branch (List Shown))) (ws : List NodeBranch)
+    → AllByRecursion IsWithin before → AllByRecursion IsWithin (branches_made want s b t vs d end before ws)
+branches_within want s b t vs d end before [] h = h
+branches_within want s b t vs d end before (w ∷ ws) h =
     let scope = within_branch s vs d w in
     let range = range_code s (class_meant s.table s.class w.declared.name) (label_at s (codes "next") w.body) in
     let turn = turn_lines end (label_at s (codes "next") w.body) in
     let lines = lines_at s b t scope (d + 1) w.body in
-    branches_within s b (asked_at s.files b t w.body) vs d end (with_branch before _) ws
-    (all_put IsWithin before _ h (within_at s b t scope (d + 1) (length range) _ w.body (omega (arith, length-append range (lines ++ turn), length-append lines turn))))
+    branches_within want s b (asked_at s.files b t w.body) vs d end (with_branch before _) ws
+    (all_put IsWithin before _ h (noted_within want s b t scope (d + 1) (length range) _ w.body (omega (arith, length-append range (lines ++ turn), length-append lines turn))))

@@ -9,7 +9,9 @@ use Rattle.mips_isa.specs.declared.line.Line as declared_line
 use Rattle.mips_isa.specs.Lines.{lines_of}
 use Rattle.cool_codegen.specs.declared.span.Span as declared_span
 use Rattle.cool_codegen.specs.declared.arm.Arm as declared_arm
-use Rattle.cool_codegen.specs.Shown.{Shown, ended, made_of, shown_of}
+use Rattle.cool_codegen.specs.Shown.{Shown, ended, made_of, noted, shown_of}
+use Rattle.cool_codegen.specs.declared.setting.Wanted.{Wanted}
+use Rattle.cool_codegen.specs.declared.setting.Wanted.TheVariants.{Spans}
 use Rattle.cool_codegen.specs.Spans.{Branch, branch_of, with_branch}
 
 pub as_many : (ls : List declared_line.Line) → length (lines_of ls) ≡ length ls
@@ -26,13 +28,13 @@ replaced xs before rest x n y to has number is within =
     ap shown_of is ∙ sym (get_or-map shown_of xs n y x within) ∙ (λ i. get_or (has i) (sym number i) x) ∙ get_or-append_seam before x rest x in
     map-set shown_of xs n (until to y) ∙ (λ i. slice_set (has i) (sym number i) (ended to (there i))) ∙ set-append_seam before x rest (ended to x)
 
--- the number of a span that was noted, whatever was noted behind it
-pub noted_there : (xs ys zs : List declared_span.Span) (n : ℕ) (x : Shown) (more : List Shown)
-    → n ≡ length xs → map shown_of ys ≡ map shown_of xs ++ x ∷ [] → map shown_of zs ≡ map shown_of ys ++ more → n < length zs
-noted_there xs ys zs n x more number begun behind =
+-- where spans are wanted, the number of one that was noted, whatever was noted behind it
+pub noted_there : (want : Wanted) (xs ys zs : List declared_span.Span) (n : ℕ) (x : Shown) (more : List Shown)
+    → n ≡ length xs → map shown_of ys ≡ map shown_of xs ++ noted want (x ∷ []) → map shown_of zs ≡ map shown_of ys ++ more → want ≡ Spans → n < length zs
+noted_there want xs ys zs n x more number begun behind spans =
     omega (
       arith,
-      ap length begun,
+      ap length (begun ∙ ap (λ (v : Wanted). map shown_of xs ++ noted v (x ∷ [])) spans),
       ap length behind,
       length-append (map shown_of xs) (x ∷ []),
       length-append (map shown_of ys) more,

@@ -8,7 +8,9 @@ use Rattle.cool_codegen.specs.Asked.{Extends, integers_in, strings_in}
 use Rattle.cool_codegen.specs.Code.{Context, code}
 use Rattle.cool_codegen.specs.Numbered.{after, asked_at, lines_at, no_constants, size_at, spans_at}
 use Rattle.cool_codegen.specs.Spans.{Span, spans}
-use Rattle.cool_codegen.specs.Shown.{shown, whole}
+use Rattle.cool_codegen.specs.Shown.{noted, shown, whole}
+use Rattle.cool_codegen.specs.declared.setting.Wanted.{Wanted}
+use Rattle.cool_codegen.specs.declared.setting.Wanted.TheVariants.{Lines, Spans}
 use Rattle.cool_codegen.proofs.LinesInAll.{as_many_lines}
 use Rattle.cool_codegen.proofs.SpansByNumbers.{spans_are}
 use Rattle.cool_codegen.proofs.SpansOfTables.{same_spans}
@@ -35,9 +37,11 @@ shown_same : (s : Context) (g u : Constants) (xs : List Span) → map (shown s g
 shown_same s g u [] = refl
 shown_same s g u (x ∷ xs) = λ i. whole x.scope x.depth x.from (x.from + as_many_lines s g u x.scope x.depth x.first x.tree i) x.tree ∷ shown_same s g u xs i
 
--- what its spans show is what those of the body show by each table
-pub whole_spans : (s : Context) (b : Tree) (g : Constants) (vs : List Named) (from : ℕ) (id : NodeId) → id ≡ root 0 b → spans_at s b vs 0 from id ≡ map (shown s g) (spans length s g vs 0 0 from b)
-whole_spans s b g vs from id e =
-    ap (spans_at s b vs 0 from) e ∙ sym (spans_are s b vs 0 0 from from b (whole_stands (nodes 0 b)) refl)
+-- what is noted of its spans is what those of the body show by each table
+pub whole_spans : (want : Wanted) (s : Context) (b : Tree) (g : Constants) (vs : List Named) (from : ℕ) (id : NodeId) → id ≡ root 0 b → spans_at want s b vs 0 from id ≡ noted want (map (shown s g) (spans length s g vs 0 0 from b))
+unfolding spans_at
+whole_spans Lines s b g vs from id e = refl
+whole_spans Spans s b g vs from id e =
+    ap (spans_at Spans s b vs 0 from) e ∙ sym (spans_are s b vs 0 0 from from b (whole_stands (nodes 0 b)) refl)
     ∙ ap (map (shown s no_constants)) (same_spans s no_constants g vs 0 0 from from b refl)
     ∙ shown_same s no_constants g (spans length s g vs 0 0 from b)

@@ -15,11 +15,12 @@ use Rattle.cool_consts.specs.Constants.{Constants}
 use Rattle.cool_codegen.specs.declared.code.Code.{Code}
 use Rattle.cool_codegen.specs.declared.feature.FeatureCode.{FeatureCode}
 use Rattle.cool_codegen.specs.declared.setting.Setting.{Setting}
+use Rattle.cool_codegen.specs.declared.setting.Wanted.{Wanted}
 use Rattle.cool_codegen.specs.Asked.{integers_in, strings_in, with_integers, with_strings, Extends, Keeps}
 use Rattle.cool_codegen.specs.Code.{Context}
 use Rattle.cool_codegen.specs.Features.{feature_code, feature_integers, feature_names, feature_strings}
 use Rattle.cool_codegen.specs.Spans.{feature_spans}
-use Rattle.cool_codegen.specs.Shown.{Shown, shown, shown_of}
+use Rattle.cool_codegen.specs.Shown.{Shown, noted, shown, shown_of}
 use Rattle.cool_codegen.specs.Numbered.{node_asked, node_lines, node_size, node_spans}
 use Rattle.cool_codegen.specs.Settings.{context, typed_body, HaveTypes, IsSound}
 use Rattle.cool_codegen.specs.Variables.{Named}
@@ -68,7 +69,7 @@ pub record Adds {X E : Type 0} (code : List Line) (shows : List Shown) (named : 
 abbrev pub AddsNode : {X E : Type 0} → ℕ → NodeId → Node → Code → Code → Result X E → Type 0
 AddsNode depth id node before after result =
     Adds (node_lines (context before.setting) before.setting.body.now before.consts before.variables depth id node)
-    (node_spans (context before.setting) before.setting.body.now before.consts before.variables depth (lines_of before.lines.items) id node)
+    (node_spans before.setting.wanted (context before.setting) before.setting.body.now before.consts before.variables depth (lines_of before.lines.items) id node)
     (node_asked (context before.setting).files before.setting.body.now before.consts node)
     (node_size before.setting.body.now node) before after result
 
@@ -85,20 +86,20 @@ pub record NotesAlone (before after : Code) : Type 0 where
   pub consts : after.consts ≡ before.consts
 
 -- Code of a feature was made with these names in scope in all of it, whose lines are the same by each table that goes on from the constants
--- after it, and what its spans show by each table.
+-- after it, and what is noted of its spans by each table.
 pub record MakesCode {E : Type 0} (s : Setting) (code : Constants → List Line) (shows : Constants → List Shown) (variables : List Named) (t u : Constants) (result : Result FeatureCode E) : Type 0 where
   pub lines : IfOk result (λ made. (g : Constants) → Extends u g → lines_of made.lines.items ≡ code g)
-  pub spans : IfOk result (λ made. (g : Constants) → map shown_of made.spans.items ≡ shows g)
+  pub spans : IfOk result (λ made. (g : Constants) → map shown_of made.spans.items ≡ noted s.wanted (shows g))
   pub names : IfOk result (λ made. made.names ≡ variables)
   pub integers : OnOk result (u.integers ≡ with_integers t.integers (integers_in s.body.now))
   pub strings : OnOk result (u.strings ≡ with_strings t.strings (strings_in (context s).files s.body.now))
   pub kept : Keeps t u
 
--- The code of a feature was made: its lines are the same by each table that goes on from the constants after it, and what its spans show by
--- each table. The names are those in scope in all of it.
-pub record MakesFeature {E : Type 0} (s : Context) (x : Feature) (t u : Constants) (result : Result FeatureCode E) : Type 0 where
+-- The code of a feature was made: its lines are the same by each table that goes on from the constants after it, and what is noted of its
+-- spans by each table. The names are those in scope in all of it.
+pub record MakesFeature {E : Type 0} (want : Wanted) (s : Context) (x : Feature) (t u : Constants) (result : Result FeatureCode E) : Type 0 where
   pub lines : IfOk result (λ made. (g : Constants) → Extends u g → lines_of made.lines.items ≡ feature_code s g x)
-  pub spans : IfOk result (λ made. (g : Constants) → map shown_of made.spans.items ≡ map (shown s g) (feature_spans length s g 0 x))
+  pub spans : IfOk result (λ made. (g : Constants) → map shown_of made.spans.items ≡ noted want (map (shown s g) (feature_spans length s g 0 x)))
   pub names : IfOk result (λ made. made.names ≡ feature_names s x)
   pub integers : OnOk result (u.integers ≡ with_integers t.integers (feature_integers x))
   pub strings : OnOk result (u.strings ≡ with_strings t.strings (feature_strings s.files x))

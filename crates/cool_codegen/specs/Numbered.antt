@@ -25,7 +25,9 @@ use Rattle.cool_codegen.specs.Variables.{Named, bind, scope_of}
 use Rattle.cool_codegen.specs.Types.{class_meant}
 use Rattle.cool_codegen.specs.Arms.{arms_lines}
 use Rattle.cool_codegen.specs.Spans.{Branch, spans, with_branch}
-use Rattle.cool_codegen.specs.Shown.{Shown, arms_spans, shown, whole}
+use Rattle.cool_codegen.specs.Shown.{Shown, arms_spans, noted, shown, whole}
+use Rattle.cool_codegen.specs.declared.setting.Wanted.{Wanted}
+use Rattle.cool_codegen.specs.declared.setting.Wanted.TheVariants.{Lines}
 use Rattle.cool_codegen.specs.Asked.{integers_in, strings_in, with_integers, with_strings}
 use Rattle.cool_codegen.specs.Code.{Context, code, name_code, assign_code, new_code, default_code, truth_label, integer_label, string_label, file_label, label_at, bool_code, int_code, operation_code, compare_code, slot_code, static_code, range_code}
 
@@ -175,23 +177,23 @@ branch_lines s b t vs d end w =
     range_code s (class_of_branch s w) (label_at s (codes "next") w.body)
     ++ (lines_at s b t (within_branch s vs d w) (d + 1) w.body ++ turn_lines end (label_at s (codes "next") w.body))
 
--- what the spans of an expression show whose code begins behind so many lines: the same by each table of constants, and so by none
-unfoldable pub spans_at : Context → Tree → List Named → ℕ → ℕ → NodeId → List Shown
-spans_at s b vs d from id = map (shown s no_constants) (spans length s no_constants vs d (nodes_before b id) from (tree_at b id))
+-- what is noted of the spans of an expression whose code begins behind so many lines: the same by each table of constants, and so by none
+unfoldable pub spans_at : Wanted → Context → Tree → List Named → ℕ → ℕ → NodeId → List Shown
+spans_at want s b vs d from id = noted want (map (shown s no_constants) (spans length s no_constants vs d (nodes_before b id) from (tree_at b id)))
 
 -- those in a branch that stands behind lines
-abbrev pub branch_spans : Context → Tree → List Named → ℕ → List Line → NodeBranch → List Shown
-branch_spans s b vs d before w =
-    spans_at s b (within_branch s vs d w) (d + 1) (length (before ++ range_code s (class_of_branch s w) (label_at s (codes "next") w.body))) w.body
+abbrev pub branch_spans : Wanted → Context → Tree → List Named → ℕ → List Line → NodeBranch → List Shown
+branch_spans want s b vs d before w =
+    spans_at want s b (within_branch s vs d w) (d + 1) (length (before ++ range_code s (class_of_branch s w) (label_at s (codes "next") w.body))) w.body
 
 -- the branches put among those before them
-abbrev pub branches_made : Context → Tree → Constants → List Named → ℕ → Name → List (Branch (List Shown)) → List NodeBranch → List (Branch (List Shown))
-branches_made s b t vs d end before [] = before
-branches_made s b t vs d end before (w ∷ ws) =
-    branches_made s b (asked_at s.files b t w.body) vs d end
+abbrev pub branches_made : Wanted → Context → Tree → Constants → List Named → ℕ → Name → List (Branch (List Shown)) → List NodeBranch → List (Branch (List Shown))
+branches_made want s b t vs d end before [] = before
+branches_made want s b t vs d end before (w ∷ ws) =
+    branches_made want s b (asked_at s.files b t w.body) vs d end
     (with_branch before (record {
       arm = record { depth = length (above s.table (class_of_branch s w)); lines = branch_lines s b t vs d end w };
-      inside = branch_spans s b vs d [] w;
+      inside = branch_spans want s b vs d [] w;
     }))
     ws
 
@@ -234,7 +236,7 @@ node_lines s b t vs d id (node.Case at a ws) =
     lines_at s b t vs d a
     ++ (case_begin_lines (file_label s (with_file s.files (asked_at s.files b t a) at) at) at.line
     ++ (push_lines
-    ++ (made_lines (branches_made s b (with_file s.files (asked_at s.files b t a) at) vs d (label_at s (codes "end") id) [] ws)
+    ++ (made_lines (branches_made Lines s b (with_file s.files (asked_at s.files b t a) at) vs d (label_at s (codes "end") id) [] ws)
     ++ case_end_lines (label_at s (codes "end") id))))
 node_lines s b t vs d id (node.New at class) = new_code s.table (type_meant s.table class.name)
 node_lines s b t vs d id (node.IsVoid at a) = lines_at s b t vs d a ++ (is_void_lines ++ bool_code s id)
@@ -254,57 +256,57 @@ node_lines s b t vs d id (node.Bool at value) = take_lines (truth_label value)
 
 -- spans: of parts whose code stands behind lines, after a table
 
-abbrev pub items_spans : Context → Tree → Constants → List Named → ℕ → List Line → List NodeId → List Shown
-items_spans s b t vs d before [] = []
-items_spans s b t vs d before (id ∷ ids) =
-    spans_at s b vs d (length before) id ++ items_spans s b (asked_at s.files b t id) vs d (before ++ lines_at s b t vs d id) ids
+abbrev pub items_spans : Wanted → Context → Tree → Constants → List Named → ℕ → List Line → List NodeId → List Shown
+items_spans want s b t vs d before [] = []
+items_spans want s b t vs d before (id ∷ ids) =
+    spans_at want s b vs d (length before) id ++ items_spans want s b (asked_at s.files b t id) vs d (before ++ lines_at s b t vs d id) ids
 
-abbrev pub arguments_spans : Context → Tree → Constants → List Named → ℕ → List Line → List NodeId → List Shown
-arguments_spans s b t vs d before [] = []
-arguments_spans s b t vs d before (id ∷ ids) =
-    spans_at s b vs d (length before) id ++ arguments_spans s b (asked_at s.files b t id) vs (d + 1) ((before ++ lines_at s b t vs d id) ++ push_lines) ids
+abbrev pub arguments_spans : Wanted → Context → Tree → Constants → List Named → ℕ → List Line → List NodeId → List Shown
+arguments_spans want s b t vs d before [] = []
+arguments_spans want s b t vs d before (id ∷ ids) =
+    spans_at want s b vs d (length before) id ++ arguments_spans want s b (asked_at s.files b t id) vs (d + 1) ((before ++ lines_at s b t vs d id) ++ push_lines) ids
 
-abbrev pub initial_spans : Context → Tree → List Named → ℕ → List Line → Option NodeId → List Shown
-initial_spans s b vs d before None = []
-initial_spans s b vs d before (Some id) = spans_at s b vs d (length before) id
+abbrev pub initial_spans : Wanted → Context → Tree → List Named → ℕ → List Line → Option NodeId → List Shown
+initial_spans want s b vs d before None = []
+initial_spans want s b vs d before (Some id) = spans_at want s b vs d (length before) id
 
 -- those of two operands, the left one of which goes to the stack
-abbrev pub operands_spans : Context → Tree → Constants → List Named → ℕ → List Line → NodeId → NodeId → List Shown
-operands_spans s b t vs d before l r = spans_at s b vs d (length before) l ++ spans_at s b vs (d + 1) (length ((before ++ lines_at s b t vs d l) ++ push_lines)) r
+abbrev pub operands_spans : Wanted → Context → Tree → Constants → List Named → ℕ → List Line → NodeId → NodeId → List Shown
+operands_spans want s b t vs d before l r = spans_at want s b vs d (length before) l ++ spans_at want s b vs (d + 1) (length ((before ++ lines_at s b t vs d l) ++ push_lines)) r
 
 -- those of the parts of a node
-abbrev pub node_spans : Context → Tree → Constants → List Named → ℕ → List Line → NodeId → Node → List Shown
-node_spans s b t vs d before id (node.Assign at name a) = spans_at s b vs d (length before) a
-node_spans s b t vs d before id (node.Dispatch at a name ids) =
-    arguments_spans s b t vs d before ids ++ spans_at s b vs (d + length ids) (length (before ++ arguments_lines s b t vs d ids)) a
-node_spans s b t vs d before id (node.StaticDispatch at a class name ids) =
-    arguments_spans s b t vs d before ids ++ spans_at s b vs (d + length ids) (length (before ++ arguments_lines s b t vs d ids)) a
-node_spans s b t vs d before id (node.If at c y n) =
+abbrev pub node_spans : Wanted → Context → Tree → Constants → List Named → ℕ → List Line → NodeId → Node → List Shown
+node_spans want s b t vs d before id (node.Assign at name a) = spans_at want s b vs d (length before) a
+node_spans want s b t vs d before id (node.Dispatch at a name ids) =
+    arguments_spans want s b t vs d before ids ++ spans_at want s b vs (d + length ids) (length (before ++ arguments_lines s b t vs d ids)) a
+node_spans want s b t vs d before id (node.StaticDispatch at a class name ids) =
+    arguments_spans want s b t vs d before ids ++ spans_at want s b vs (d + length ids) (length (before ++ arguments_lines s b t vs d ids)) a
+node_spans want s b t vs d before id (node.If at c y n) =
     let yes = (before ++ lines_at s b t vs d c) ++ test_lines (label_at s (codes "else") id) in
     let no = (yes ++ lines_at s b (asked_at s.files b t c) vs d y) ++ turn_lines (label_at s (codes "end") id) (label_at s (codes "else") id) in
-    spans_at s b vs d (length before) c ++ (spans_at s b vs d (length yes) y ++ spans_at s b vs d (length no) n)
-node_spans s b t vs d before id (node.While at c a) =
+    spans_at want s b vs d (length before) c ++ (spans_at want s b vs d (length yes) y ++ spans_at want s b vs d (length no) n)
+node_spans want s b t vs d before id (node.While at c a) =
     let predicate = before ++ mark_lines (label_at s (codes "loop") id) in
     let body = (predicate ++ lines_at s b t vs d c) ++ test_lines (label_at s (codes "end") id) in
-    spans_at s b vs d (length predicate) c ++ spans_at s b vs d (length body) a
-node_spans s b t vs d before id (node.Block at ids) = items_spans s b t vs d before ids
-node_spans s b t vs d before id (node.Let at name declared o a) =
-    initial_spans s b vs d before o
-    ++ spans_at s b (bind d name (type_meant s.table declared.name) vs) (d + 1) (length ((before ++ initial_lines s b t vs d (type_meant s.table declared.name) o) ++ push_lines)) a
-node_spans s b t vs d before id (node.Case at a ws) =
+    spans_at want s b vs d (length predicate) c ++ spans_at want s b vs d (length body) a
+node_spans want s b t vs d before id (node.Block at ids) = items_spans want s b t vs d before ids
+node_spans want s b t vs d before id (node.Let at name declared o a) =
+    initial_spans want s b vs d before o
+    ++ spans_at want s b (bind d name (type_meant s.table declared.name) vs) (d + 1) (length ((before ++ initial_lines s b t vs d (type_meant s.table declared.name) o) ++ push_lines)) a
+node_spans want s b t vs d before id (node.Case at a ws) =
     let begun = (before ++ lines_at s b t vs d a) ++ case_begin_lines (file_label s (with_file s.files (asked_at s.files b t a) at) at) at.line in
-    spans_at s b vs d (length before) a
-    ++ arms_spans (begun ++ push_lines) (branches_made s b (with_file s.files (asked_at s.files b t a) at) vs d (label_at s (codes "end") id) [] ws)
-node_spans s b t vs d before id (node.New at class) = []
-node_spans s b t vs d before id (node.IsVoid at a) = spans_at s b vs d (length before) a
-node_spans s b t vs d before id (node.Arith at op l r) = operands_spans s b t vs d before l r
-node_spans s b t vs d before id (node.Neg at a) = spans_at s b vs d (length before) a
-node_spans s b t vs d before id (node.Compare at op l r) = operands_spans s b t vs d before l r
-node_spans s b t vs d before id (node.Not at a) = spans_at s b vs d (length before) a
-node_spans s b t vs d before id (node.Id at name) = []
-node_spans s b t vs d before id (node.Int at value) = []
-node_spans s b t vs d before id (node.Str at bytes) = []
-node_spans s b t vs d before id (node.Bool at value) = []
+    spans_at want s b vs d (length before) a
+    ++ arms_spans (begun ++ push_lines) (branches_made want s b (with_file s.files (asked_at s.files b t a) at) vs d (label_at s (codes "end") id) [] ws)
+node_spans want s b t vs d before id (node.New at class) = []
+node_spans want s b t vs d before id (node.IsVoid at a) = spans_at want s b vs d (length before) a
+node_spans want s b t vs d before id (node.Arith at op l r) = operands_spans want s b t vs d before l r
+node_spans want s b t vs d before id (node.Neg at a) = spans_at want s b vs d (length before) a
+node_spans want s b t vs d before id (node.Compare at op l r) = operands_spans want s b t vs d before l r
+node_spans want s b t vs d before id (node.Not at a) = spans_at want s b vs d (length before) a
+node_spans want s b t vs d before id (node.Id at name) = []
+node_spans want s b t vs d before id (node.Int at value) = []
+node_spans want s b t vs d before id (node.Str at bytes) = []
+node_spans want s b t vs d before id (node.Bool at value) = []
 
 -- that of a node itself
 abbrev pub own_span : Context → Tree → Constants → List Named → ℕ → List Line → NodeId → Node → Shown

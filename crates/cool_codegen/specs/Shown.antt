@@ -13,6 +13,8 @@ use Rattle.cool_codegen.specs.declared.arm.Arm as declared_arm
 use Rattle.cool_codegen.specs.declared.span.Form.{Form}
 use Rattle.cool_codegen.specs.declared.span.Form.TheVariants as forms
 use Rattle.cool_codegen.specs.declared.span.Span as declared_span
+use Rattle.cool_codegen.specs.declared.setting.Wanted.{Wanted}
+use Rattle.cool_codegen.specs.declared.setting.Wanted.TheVariants.{Lines, Spans}
 use Rattle.cool_codegen.specs.Arms.{arm_of}
 use Rattle.cool_codegen.specs.Variables.{Named, named_of}
 use Rattle.cool_codegen.specs.Code.{Context}
@@ -74,6 +76,11 @@ shown_of x = record {
   names = x.names;
   latest = option_map named_of x.latest;
 }
+
+-- what is noted of spans: all where they are wanted, and nothing where lines alone are
+abbrev pub noted : Wanted → List Shown → List Shown
+noted Lines xs = []
+noted Spans xs = xs
 
 -- a branch whose code was made, with what its spans show, by the lines from its first
 abbrev pub made_of : declared_arm.Arm (Vec declared_span.Span) → Branch (List Shown)

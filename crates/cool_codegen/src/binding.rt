@@ -19,6 +19,7 @@ ghost use Rattle.cool_codegen.specs.Code.{file_label, range_code};
 ghost use Rattle.cool_codegen.specs.Pieces.{case_begin_lines};
 ghost use Rattle.cool_codegen.specs.Numbered.{asked_at, branch_lines, branch_sizes_at, branch_spans, branches_asked, branches_made, class_of_branch, initial_lines, initial_spans, lines_at, made_lines, maybe_asked, maybe_size_at, node_size, size_at, spans_at, with_file};
 ghost use Rattle.cool_codegen.specs.Settings.{context, typed_body, IsSound};
+ghost use Rattle.cool_codegen.specs.declared.setting.Wanted.TheVariants.{Lines};
 ghost use Rattle.cool_codegen.specs.Variables.{bind, pushed, scope_of};
 
 use crate::arm::{Arm, insert_arm};
@@ -105,7 +106,7 @@ impl<'a> Code<'a> {
         requires places { IsMaybeWithin (length self.old.setting.names.now) (of_option (option_map (at_id (all_trees self.old.setting.body.now)) init)) }
         requires ready { IsReady self.old.setting self.old.variables }
         requires room { HasRoom self.old.consts depth (maybe_size_at self.old.setting.body.now init) }
-        ensures made { Adds (initial_lines (context self.old.setting) self.old.setting.body.now self.old.consts self.old.variables depth bound init) (initial_spans (context self.old.setting) self.old.setting.body.now self.old.variables depth (lines_of self.old.lines.items) init) (maybe_asked (context self.old.setting).files self.old.setting.body.now self.old.consts init) (maybe_size_at self.old.setting.body.now init) self.old self.new result }
+        ensures made { Adds (initial_lines (context self.old.setting) self.old.setting.body.now self.old.consts self.old.variables depth bound init) (initial_spans self.old.setting.wanted (context self.old.setting) self.old.setting.body.now self.old.variables depth (lines_of self.old.lines.items) init) (maybe_asked (context self.old.setting).files self.old.setting.body.now self.old.consts init) (maybe_size_at self.old.setting.body.now init) self.old self.new result }
     {
         match init {
             Some(value) => {
@@ -132,7 +133,7 @@ impl<'a> Code<'a> {
         requires bound { IsType self.old.setting.table.now bound }
         requires ready { IsReady self.old.setting self.old.variables }
         requires room { HasRoom self.old.consts (depth + 1) (size_at self.old.setting.body.now body) }
-        ensures made { Adds (lines_at (context self.old.setting) self.old.setting.body.now self.old.consts (bind depth name.now bound self.old.variables) (depth + 1) body) (spans_at (context self.old.setting) self.old.setting.body.now (bind depth name.now bound self.old.variables) (depth + 1) (length (lines_of self.old.lines.items)) body) (asked_at (context self.old.setting).files self.old.setting.body.now self.old.consts body) (size_at self.old.setting.body.now body) self.old self.new result }
+        ensures made { Adds (lines_at (context self.old.setting) self.old.setting.body.now self.old.consts (bind depth name.now bound self.old.variables) (depth + 1) body) (spans_at self.old.setting.wanted (context self.old.setting) self.old.setting.body.now (bind depth name.now bound self.old.variables) (depth + 1) (length (lines_of self.old.lines.items)) body) (asked_at (context self.old.setting).files self.old.setting.body.now self.old.consts body) (size_at self.old.setting.body.now body) self.old self.new result }
     {
         self.variables.enter(name, pushed(depth, bound))?;
         self.expression(depth + 1, body)?;
@@ -154,7 +155,7 @@ impl<'a> Code<'a> {
         requires places { AreCasesWithin (length self.old.setting.names.now) (of_twigs (map (twig_at (all_trees self.old.setting.body.now)) branches.now)) }
         requires ready { IsReady self.old.setting self.old.variables }
         requires room { HasRoom self.old.consts (depth + 1) (branch_sizes_at self.old.setting.body.now branches.now) }
-        ensures made { Adds (made_lines (branches_made (context self.old.setting) self.old.setting.body.now self.old.consts self.old.variables depth end.now [] branches.now)) (arms_spans (lines_of self.old.lines.items) (branches_made (context self.old.setting) self.old.setting.body.now self.old.consts self.old.variables depth end.now [] branches.now)) (branches_asked (context self.old.setting).files self.old.setting.body.now self.old.consts branches.now) (branch_sizes_at self.old.setting.body.now branches.now) self.old self.new result }
+        ensures made { Adds (made_lines (branches_made Lines (context self.old.setting) self.old.setting.body.now self.old.consts self.old.variables depth end.now [] branches.now)) (arms_spans (lines_of self.old.lines.items) (branches_made self.old.setting.wanted (context self.old.setting) self.old.setting.body.now self.old.consts self.old.variables depth end.now [] branches.now)) (branches_asked (context self.old.setting).files self.old.setting.body.now self.old.consts branches.now) (branch_sizes_at self.old.setting.body.now branches.now) self.old self.new result }
     {
         let setting = self.setting;
         let mut sorted = Vec::new(setting.alloc);
@@ -195,7 +196,7 @@ impl<'a> Code<'a> {
         requires declared { class ≡ class_of_branch (context self.old.setting) branch.now }
         requires ready { IsReady self.old.setting self.old.variables }
         requires room { HasRoom self.old.consts (depth + 1) (size_at self.old.setting.body.now branch.now.body) }
-        ensures made { Adds (branch_lines (context self.old.setting) self.old.setting.body.now self.old.consts self.old.variables depth end.now branch.now) (branch_spans (context self.old.setting) self.old.setting.body.now self.old.variables depth (lines_of self.old.lines.items) branch.now) (asked_at (context self.old.setting).files self.old.setting.body.now self.old.consts branch.now.body) (size_at self.old.setting.body.now branch.now.body) self.old self.new result }
+        ensures made { Adds (branch_lines (context self.old.setting) self.old.setting.body.now self.old.consts self.old.variables depth end.now branch.now) (branch_spans self.old.setting.wanted (context self.old.setting) self.old.setting.body.now self.old.variables depth (lines_of self.old.lines.items) branch.now) (asked_at (context self.old.setting).files self.old.setting.body.now self.old.consts branch.now.body) (size_at self.old.setting.body.now branch.now.body) self.old self.new result }
     {
         let alloc = self.setting.alloc;
         let next = inner_label(&self.setting, "next", branch.body)?;

@@ -84,7 +84,7 @@ impl<'a> Code<'a> {
         requires room { HasRoom self.old.consts depth (sizes_at self.old.setting.body.now args.now) }
         ensures pushed { IfOk result (λ inner. inner ≡ depth + length args.now) }
         ensures within { IfOk result (λ inner. inner ≤ depth + sizes_at self.old.setting.body.now args.now) }
-        ensures made { Adds (arguments_lines (context self.old.setting) self.old.setting.body.now self.old.consts self.old.variables depth args.now) (arguments_spans (context self.old.setting) self.old.setting.body.now self.old.consts self.old.variables depth (lines_of self.old.lines.items) args.now) (all_asked (context self.old.setting).files self.old.setting.body.now self.old.consts args.now) (sizes_at self.old.setting.body.now args.now) self.old self.new result }
+        ensures made { Adds (arguments_lines (context self.old.setting) self.old.setting.body.now self.old.consts self.old.variables depth args.now) (arguments_spans self.old.setting.wanted (context self.old.setting) self.old.setting.body.now self.old.consts self.old.variables depth (lines_of self.old.lines.items) args.now) (all_asked (context self.old.setting).files self.old.setting.body.now self.old.consts args.now) (sizes_at self.old.setting.body.now args.now) self.old self.new result }
     {
         let mut inner = depth;
         for arg in args {

@@ -5,9 +5,10 @@ ghost use Rattle.mips_isa.specs.Lines.{lines_of};
 ghost use Rattle.cool_syntax.specs.NodeLists.{made};
 ghost use Rattle.cool_syntax.specs.Tree.{Tree};
 ghost use Rattle.cool_codegen.specs.AddedCode.{NotesAlone};
-ghost use Rattle.cool_codegen.specs.Shown.{ended, shown_of, whole, Shown};
+ghost use Rattle.cool_codegen.specs.Shown.{ended, noted, shown_of, whole, Shown};
+ghost use Rattle.cool_codegen.specs.declared.setting.Wanted.TheVariants.{Spans};
 
-use crate::setting::Setting;
+use crate::setting::{Setting, Wanted};
 use crate::span::{Span, form_of};
 use crate::variables::Variables;
 use cool_consts::Consts;
@@ -15,8 +16,8 @@ use cool_syntax::Node;
 use mips_isa::Line;
 use std::alloc::AllocError;
 
-/// The code of a feature while it is made: where it stands, the names in scope, the constants so far, the lines so far, and the spans of the
-/// expressions whose code they are.
+/// The code of a feature while it is made: where it stands, the names in scope, the constants so far, the lines so far, and, where they are
+/// wanted, the spans of the expressions whose code they are.
 #[derive(Drop)]
 pub struct Code<'a> {
     pub setting: Setting<'a>,
@@ -27,33 +28,37 @@ pub struct Code<'a> {
 }
 
 impl<'a> Code<'a> {
-    /// Notes that the code of a node begins here, at this depth, and answers the number of its span, which ends where it begins until
-    /// `end_span`.
+    /// Notes, where spans are wanted, that the code of a node begins here, at this depth, and answers the number of its span, which ends
+    /// where it begins until `end_span`.
     pub(crate) fn begin_span(&mut self, depth: u32, node: &Node) -> Result<usize, AllocError>
         ensures alone { NotesAlone self.old self.new }
         ensures number { IfOk result (λ number. number ≡ length self.old.spans.items) }
-        ensures spans { OnOk result ((ts : List Tree) → map shown_of self.new.spans.items ≡ map shown_of self.old.spans.items ++ whole self.old.variables depth (length (lines_of self.old.lines.items)) (length (lines_of self.old.lines.items)) (made ts node.now) ∷ []) }
+        ensures spans { OnOk result ((ts : List Tree) → map shown_of self.new.spans.items ≡ map shown_of self.old.spans.items ++ noted self.old.setting.wanted (whole self.old.variables depth (length (lines_of self.old.lines.items)) (length (lines_of self.old.lines.items)) (made ts node.now) ∷ [])) }
     {
         let number = self.spans.len();
-        let from = self.lines.len();
-        self.spans.push(Span {
-            at: node.place(),
-            form: form_of(node),
-            from,
-            to: from,
-            depth,
-            names: self.variables.count(),
-            latest: self.variables.latest(),
-        })?;
+        if let Wanted::Spans = self.setting.wanted {
+            let from = self.lines.len();
+            self.spans.push(Span {
+                at: node.place(),
+                form: form_of(node),
+                from,
+                to: from,
+                depth,
+                names: self.variables.count(),
+                latest: self.variables.latest(),
+            })?;
+        }
         Ok(number)
     }
 
-    /// Notes that the code whose span has this number ends here.
+    /// Notes, where spans are wanted, that the code whose span has this number ends here.
     pub(crate) fn end_span(&mut self, number: usize)
-        requires noted { number < length self.old.spans.items }
+        requires begun { self.old.setting.wanted ≡ Spans → number < length self.old.spans.items }
         ensures alone { NotesAlone self.old self.new }
-        ensures spans { (before rest : List Shown) (x : Shown) → map shown_of self.old.spans.items ≡ before ++ x ∷ rest → length before ≡ number → map shown_of self.new.spans.items ≡ before ++ ended (length (lines_of self.old.lines.items)) x ∷ rest }
+        ensures spans { (before rest : List Shown) (x : Shown) → map shown_of self.old.spans.items ≡ before ++ (noted self.old.setting.wanted (x ∷ []) ++ rest) → length before ≡ number → map shown_of self.new.spans.items ≡ before ++ (noted self.old.setting.wanted (ended (length (lines_of self.old.lines.items)) x ∷ []) ++ rest) }
     {
-        self.spans[number].to = self.lines.len();
+        if let Wanted::Spans = self.setting.wanted {
+            self.spans[number].to = self.lines.len();
+        }
     }
 }

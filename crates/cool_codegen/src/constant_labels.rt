@@ -7,6 +7,7 @@ ghost use Rattle.cool_codegen.specs.Asked.{Extends, Keeps};
 ghost use Rattle.cool_codegen.specs.Code.{file_label, file_name, integer_label, string_label};
 ghost use Rattle.cool_codegen.specs.Settings.{context};
 
+use crate::label_text::{add_number, text_of};
 use crate::setting::Setting;
 use cool_consts::Consts;
 use cool_syntax::Place;
@@ -28,7 +29,9 @@ pub fn int_label(alloc: Global, consts: &mut Consts, value: u32) -> Result<Vec<u
 fn int_name(alloc: Global, number: u32) -> Result<Vec<u8>, AllocError>
     ensures { IfOk result (λ label. label.items ≡ int_constant number) }
 {
-    Ok(format!(in alloc; "int_const{number}")?.into_bytes())
+    let mut name = text_of(alloc, b"int_const")?;
+    add_number(&mut name, number)?;
+    Ok(name)
 }
 
 /// The label of a string of the source.
@@ -47,7 +50,9 @@ pub fn string_label(alloc: Global, consts: &mut Consts, bytes: &[u8]) -> Result<
 fn string_name(alloc: Global, number: u32) -> Result<Vec<u8>, AllocError>
     ensures { IfOk result (λ label. label.items ≡ string_constant number) }
 {
-    Ok(format!(in alloc; "str_const{number}")?.into_bytes())
+    let mut name = text_of(alloc, b"str_const")?;
+    add_number(&mut name, number)?;
+    Ok(name)
 }
 
 /// The label of the name of the file of a place.

@@ -1,12 +1,13 @@
 //! The code of expressions: names, constants, new objects, conditionals, loops and blocks.
 
-ghost use Rattle.std.specs.Prelude.{◌≡◌, ◌≤◌, List, ◌∷◌, length};
+ghost use Rattle.std.specs.Prelude.{◌≡◌, ◌≤◌, List, [], ◌∷◌, ◌++◌, length};
 ghost use Rattle.mips_isa.specs.Lines.{Line, lines_of};
 ghost use Rattle.cool_syntax.specs.NodeGroups.{IsControl, IsLeaf};
 ghost use Rattle.cool_codegen.specs.AddedCode.{Adds, AddsNode, AreExpressionsOf, HasRoom, IsExpressionOf, IsNodeOf, IsReady};
 ghost use Rattle.cool_codegen.specs.Code.{truth_label};
 ghost use Rattle.cool_codegen.specs.Numbered.{all_asked, asked_at, items_lines, items_spans, lines_at, node_asked, node_lines, node_size, node_spans, own_span, size_at, sizes_at, spans_at};
 ghost use Rattle.cool_codegen.specs.Settings.{context};
+ghost use Rattle.cool_codegen.specs.Shown.{noted};
 ghost use Rattle.cool_codegen.specs.Variables.{scope_of};
 
 use crate::code::Code;
@@ -29,7 +30,7 @@ impl<'a> Code<'a> {
         requires expression { IsExpressionOf self.old.setting (scope_of self.old.variables) id }
         requires ready { IsReady self.old.setting self.old.variables }
         requires room { HasRoom self.old.consts depth (size_at self.old.setting.body.now id) }
-        ensures made { Adds (lines_at (context self.old.setting) self.old.setting.body.now self.old.consts self.old.variables depth id) (spans_at (context self.old.setting) self.old.setting.body.now self.old.variables depth (length (lines_of self.old.lines.items)) id) (asked_at (context self.old.setting).files self.old.setting.body.now self.old.consts id) (size_at self.old.setting.body.now id) self.old self.new result }
+        ensures made { Adds (lines_at (context self.old.setting) self.old.setting.body.now self.old.consts self.old.variables depth id) (spans_at self.old.setting.wanted (context self.old.setting) self.old.setting.body.now self.old.variables depth (length (lines_of self.old.lines.items)) id) (asked_at (context self.old.setting).files self.old.setting.body.now self.old.consts id) (size_at self.old.setting.body.now id) self.old self.new result }
         ensures some { 1 ≤ size_at self.old.setting.body.now id }
     {
         let node = self.node_of(depth, id);
@@ -73,7 +74,7 @@ impl<'a> Code<'a> {
         ensures some { 1 ≤ size_at self.now.setting.body.now id }
         ensures lines { lines_at (context self.now.setting) self.now.setting.body.now self.now.consts self.now.variables depth id ≡ node_lines (context self.now.setting) self.now.setting.body.now self.now.consts self.now.variables depth id result.now }
         ensures asked { asked_at (context self.now.setting).files self.now.setting.body.now self.now.consts id ≡ node_asked (context self.now.setting).files self.now.setting.body.now self.now.consts result.now }
-        ensures spans { (before : List Line) → spans_at (context self.now.setting) self.now.setting.body.now self.now.variables depth (length before) id ≡ own_span (context self.now.setting) self.now.setting.body.now self.now.consts self.now.variables depth before id result.now ∷ node_spans (context self.now.setting) self.now.setting.body.now self.now.consts self.now.variables depth before id result.now }
+        ensures spans { (before : List Line) → spans_at self.now.setting.wanted (context self.now.setting) self.now.setting.body.now self.now.variables depth (length before) id ≡ noted self.now.setting.wanted (own_span (context self.now.setting) self.now.setting.body.now self.now.consts self.now.variables depth before id result.now ∷ []) ++ node_spans self.now.setting.wanted (context self.now.setting) self.now.setting.body.now self.now.consts self.now.variables depth before id result.now }
     {
         self.setting.body.node(id)
     }
@@ -169,7 +170,7 @@ impl<'a> Code<'a> {
         requires items { AreExpressionsOf self.old.setting (scope_of self.old.variables) end items.now }
         requires ready { IsReady self.old.setting self.old.variables }
         requires room { HasRoom self.old.consts depth (sizes_at self.old.setting.body.now items.now) }
-        ensures made { Adds (items_lines (context self.old.setting) self.old.setting.body.now self.old.consts self.old.variables depth items.now) (items_spans (context self.old.setting) self.old.setting.body.now self.old.consts self.old.variables depth (lines_of self.old.lines.items) items.now) (all_asked (context self.old.setting).files self.old.setting.body.now self.old.consts items.now) (sizes_at self.old.setting.body.now items.now) self.old self.new result }
+        ensures made { Adds (items_lines (context self.old.setting) self.old.setting.body.now self.old.consts self.old.variables depth items.now) (items_spans self.old.setting.wanted (context self.old.setting) self.old.setting.body.now self.old.consts self.old.variables depth (lines_of self.old.lines.items) items.now) (all_asked (context self.old.setting).files self.old.setting.body.now self.old.consts items.now) (sizes_at self.old.setting.body.now items.now) self.old self.new result }
     {
         for item in items {
             self.expression(depth, *item)?;

@@ -21,13 +21,14 @@ ghost use Rattle.cool_codegen.specs.Code.{code};
 ghost use Rattle.cool_codegen.specs.Features.{attributes_in, feature_code, feature_integers, feature_strings, initial_value_code, method_code, with_formals};
 ghost use Rattle.cool_codegen.specs.Settings.{attribute_of, context, HasTypesIn, HaveTypes, IsSound};
 ghost use Rattle.cool_codegen.specs.Shown.{shown};
+ghost use Rattle.cool_codegen.specs.declared.setting.Wanted.TheVariants.{Spans};
 ghost use Rattle.cool_codegen.specs.Spans.{initial_value_spans, method_spans, spans};
 ghost use Rattle.cool_codegen.specs.Variables.{scope_of};
 
 use crate::code::Code;
 use crate::number::signed;
 use crate::piece::{leave, mark, store};
-use crate::setting::Setting;
+use crate::setting::{Setting, Wanted};
 use crate::span::Span;
 use crate::variables::{Variable, Variables};
 use cool_classes::{AttributeRef, ClassId, ClassTable, MethodRef, Ty};
@@ -42,7 +43,7 @@ use mips_isa::register::{FP, S0};
 use std::alloc::{AllocError, Global};
 use std::mem::replace;
 
-/// The code of a feature, the spans of its expressions, and the names in scope in all of it.
+/// The code of a feature, the spans of its expressions where they are wanted, and the names in scope in all of it.
 #[derive(Drop)]
 pub struct FeatureCode<'a> {
     pub lines: Vec<Line>,
@@ -75,7 +76,10 @@ pub fn feature_lines(
     ensures strings { (x : syntax.Feature) → slice_get (features_of p.now c) feature ≡ Some x → OnOk result (consts.new.strings ≡ with_strings consts.old.strings (feature_strings (map string_bytes names.now) x)) }
     ensures kept { Extends consts.old consts.new }
 {
-    let FeatureCode { lines, .. } = feature_code(alloc, p, layout, consts, names, c, feature)?;
+    let wanted = Wanted::Lines;
+    let FeatureCode { lines, .. } = wanted_code(
+        alloc, p, layout, consts, names, c, feature, wanted,
+    )?;
     Ok(lines)
 }
 
@@ -98,7 +102,33 @@ pub fn feature_code<'a>(
     requires feature { feature < length (features_of p.now c) }
     requires few_integers { length consts.old.integers < 2 ^ 31 }
     requires few_strings { length consts.old.strings < 2 ^ 31 }
-    ensures made { (x : syntax.Feature) → slice_get (features_of p.now c) feature ≡ Some x → MakesFeature (record { table = p.now; class = c; feature = feature; files = map string_bytes names.now }) x consts.old consts.new result }
+    ensures made { (x : syntax.Feature) → slice_get (features_of p.now c) feature ≡ Some x → MakesFeature Spans (record { table = p.now; class = c; feature = feature; files = map string_bytes names.now }) x consts.old consts.new result }
+    ensures kept { Extends consts.old consts.new }
+{
+    let wanted = Wanted::Spans;
+    wanted_code(alloc, p, layout, consts, names, c, feature, wanted)
+}
+
+/// The code of a feature of a class, with the spans of its expressions where they are wanted, and with none else.
+///
+/// `Err` comes only for want of memory. The constants are then those before, with perhaps more after them.
+fn wanted_code<'a>(
+    alloc: Global,
+    p: &'a TypedProgram,
+    layout: &'a Layout,
+    consts: &mut Consts,
+    names: &'a [String],
+    c: ClassId,
+    feature: u32,
+    wanted: Wanted,
+) -> Result<FeatureCode<'a>, AllocError>
+    requires layout { IsLayoutOf layout.now p.now }
+    requires fits { Fits p.now (length names.now) }
+    requires class { c.0 < length p.now }
+    requires feature { feature < length (features_of p.now c) }
+    requires few_integers { length consts.old.integers < 2 ^ 31 }
+    requires few_strings { length consts.old.strings < 2 ^ 31 }
+    ensures made { (x : syntax.Feature) → slice_get (features_of p.now c) feature ≡ Some x → MakesFeature wanted (record { table = p.now; class = c; feature = feature; files = map string_bytes names.now }) x consts.old consts.new result }
     ensures kept { Extends consts.old consts.new }
 {
     let table = p.table();
@@ -107,6 +137,7 @@ pub fn feature_code<'a>(
         Feature::Method(method) => {
             let setting = Setting {
                 alloc,
+                wanted,
                 table,
                 layout,
                 names,
@@ -121,6 +152,7 @@ pub fn feature_code<'a>(
             Some(body) => {
                 let setting = Setting {
                     alloc,
+                    wanted,
                     table,
                     layout,
                     names,

@@ -1,9 +1,10 @@
 //! The labels inside the code of a feature.
 
-ghost use Rattle.std.specs.Prelude.{◌≡◌, IfOk};
+ghost use Rattle.std.specs.Prelude.{◌≡◌, ◌++◌, codes, decimal, IfOk, OnOk};
 ghost use Rattle.cool_codegen.specs.Code.{label_at};
 ghost use Rattle.cool_codegen.specs.Settings.{context};
 
+use crate::label_text::{add_number, text_of};
 use crate::setting::Setting;
 use cool_syntax::NodeId;
 use std::alloc::AllocError;
@@ -12,8 +13,17 @@ use std::alloc::AllocError;
 pub fn inner_label(setting: &Setting<'_>, kind: &str, id: NodeId) -> Result<Vec<u8>, AllocError>
     ensures { IfOk result (λ label. label.items ≡ label_at (context setting.now) kind.now id) }
 {
-    let class = setting.class.0;
-    let feature = setting.feature;
-    let node = id.0;
-    Ok(format!(in setting.alloc; "{kind}_{class}_{feature}_{node}")?.into_bytes())
+    let mut label = text_of(setting.alloc, kind.as_bytes())?;
+    add_part(&mut label, setting.class.0)?;
+    add_part(&mut label, setting.feature)?;
+    add_part(&mut label, id.0)?;
+    Ok(label)
+}
+
+/// Adds a number behind a `_`. `Err` comes only for want of memory.
+fn add_part(label: &mut Vec<u8>, number: u32) -> Result<(), AllocError>
+    ensures { OnOk result (label.new.items ≡ label.old.items ++ (codes "_" ++ decimal number)) }
+{
+    label.push(b'_')?;
+    add_number(label, number)
 }

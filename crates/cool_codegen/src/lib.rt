@@ -13,6 +13,7 @@ mod constant_labels;
 mod expression;
 mod feature;
 mod inner_labels;
+mod label_text;
 mod number;
 mod operation;
 mod operator;

@@ -17,10 +17,18 @@ use cool_rules::NodeTypes;
 use cool_syntax::{Body, Name};
 use std::alloc::Global;
 
-/// The classes with their layout, the names of the files, the feature, and its expression with the types of its nodes.
+/// What is wanted of a feature: the lines of its code alone, or the spans of its expressions too.
+#[derive(Clone, Copy)]
+pub enum Wanted {
+    Lines,
+    Spans,
+}
+
+/// What is wanted of a feature, the classes with their layout, the names of the files, the feature, and its expression with the types of its nodes.
 #[derive(Clone, Copy)]
 pub struct Setting<'a> {
     pub alloc: Global,
+    pub wanted: Wanted,
     pub table: &'a ClassTable,
     pub layout: &'a Layout,
     pub names: &'a [String],

@@ -34,7 +34,7 @@ short_promise c None still calm nothing = record { comes = Comes.short nothing; 
 short_promise c (Some (Asked.check names)) still calm nothing = check_ends (Comes.short nothing)
 short_promise c (Some (Asked.asm names)) still calm nothing = unbuilt_ends still (Comes.short nothing)
 short_promise c (Some (Asked.build names)) still calm nothing = unbuilt_ends still (Comes.short nothing)
-short_promise c (Some (Asked.run names limits fold)) still calm nothing = unrun_ends still (Comes.short nothing)
+short_promise c (Some (Asked.run asked)) still calm nothing = unrun_ends still (Comes.short nothing)
 short_promise c (Some (Asked.eval names steps)) still calm nothing = unevaluated_ends still (Comes.short nothing)
 short_promise c (Some (Asked.exec name limits)) still calm nothing = unloaded_ends still (Comes.short nothing)
 short_promise c (Some (Asked.debug script names limits)) still calm nothing = debug_ends (DebugComes.refused (Comes.short nothing))

@@ -5,11 +5,10 @@ use Rattle.cool_syntax.specs.declared.TheConstants.{MOST_FILES, MOST_SOURCE_BYTE
 use Rattle.cool_classes.specs.Chains.{Class}
 use Rattle.cool_faults.specs.{declared.fault.Fault.{Fault}, Files.{total}, Verdicts.{IsAccepted, IsFaultList, IsRefused}}
 use Rattle.cool_ports.specs.{Counts.{last_count, Rose}, ShelfFiles.{FileMap, IsMissing, IsLonger, AreHeld}, declared.shelf.ShelfFault.{ShelfFault}}
-use Rattle.cool_ports.specs.declared.shelf.ShelfFault.TheVariants as shelf_faults
 use Rattle.cool_words.specs.Plans.{is_file_name, words_of}
 use Rattle.cool_driver.specs.{Contents.{texts}, Calls.{Call, Got, ShelfUse, shelf_of, HasTold, UnlessCutShort}}
 use Rattle.cool_driver.specs.{Notes.{refused_note, missing_note, unread_note, too_many_note, too_large_note}, Statuses.{REFUSED, FILE_FAULT}}
-use Rattle.cool_driver.specs.{declared.reading.ReadError.{ReadError}, declared.reading.ReadError.TheVariants.{Memory, Refused}}
+use Rattle.cool_sources.specs.Reading.{IsCause}
 use Rattle.lists.specs.Bytes.{AreBytes}
 
 -- The sources of a program: a file's name and bytes for each, one file at least, and neither too many nor too large.
@@ -20,13 +19,6 @@ pub record AreSources (names : List (String Global)) (contents : List (Vec ℕ))
   pub bytes : AllByRecursion AreBytes (texts contents)
   pub few : length contents ≤ MOST_FILES
   pub small : total (texts contents) ≤ MOST_SOURCE_BYTES
-
--- why the shelf refuses a file of this name that may have so many bytes
-abbrev pub IsCause : Option FileMap → ℕ → ℕ → List ℕ → ℕ → ShelfFault → Type 0
-IsCause files before after name most shelf_faults.Missing = IsMissing files name before after
-IsCause files before after name most shelf_faults.Failed = Rose before after
-IsCause files before after name most shelf_faults.TooLarge = IsLonger files name most before after
-IsCause files before after name most shelf_faults.Memory = ⊥
 
 -- these names are asked for, unless those of the files are too many; then none is
 abbrev pub unless_too_many : (files asked : List (List ℕ)) → List (List ℕ)
@@ -77,10 +69,6 @@ abbrev pub IsStopAt : ShelfUse → List (List ℕ) → ℕ → List ℕ → Shel
 IsStopAt shelf names most name fault =
     (contents : List (List ℕ)) × AreReadUpTo shelf most names name contents
     × IsCause shelf.files shelf.faults_before shelf.faults_after name (most - total contents) fault
-
-abbrev pub IsStop : ShelfUse → List (List ℕ) → ℕ → ReadError → Type 0
-IsStop shelf names most Memory = Unit {0}
-IsStop shelf names most (Refused name fault) = IsStopAt shelf names most name.now fault
 
 -- Why the files of these names, which may have so many bytes, were not read, and the note of it.
 pub data AreUnread (shelf : ShelfUse) (most : ℕ) (names : List (List ℕ)) : List ℕ → Type 0 where

@@ -23,7 +23,6 @@ mod commands;
 mod execution;
 mod growing_sink;
 mod notes;
-mod reading;
 mod refusal;
 mod sources;
 mod status;
@@ -100,13 +99,7 @@ pub fn cool<F: Shelf, I: Source, O: Sink, E: Sink>(
         Ok(Plan::Build { files: names }) => {
             build_files(alloc, Form::Image, &names, files, out, notes)
         }
-        Ok(
-            Plan::Run {
-                files: names,
-                limits,
-                fold,
-            },
-        ) => { run_files(alloc, limits, fold, &names, files, input, out, notes) }
+        Ok(Plan::Run(plan)) => run_files(alloc, &plan, files, input, out, notes),
         Ok(
             Plan::Eval {
                 files: names,

@@ -13,12 +13,12 @@ ghost use Rattle.cool_driver.specs.Refusals.{AreFaultLines, IsDueToFaults, IsTol
 ghost use Rattle.cool_driver.specs.Sources.{AreRead, GrewBy, IsDueUnread, IsNoProgram, IsProgram, AreSources, unless_too_many};
 
 use crate::notes::TOO_MANY_FILES;
-use crate::reading::{ReadError, read_files};
 use crate::refusal::{Refusal, refuse_by_line, refuse_for_faults, refuse_unread};
 use crate::status::Status;
 use cool_faults::{Verdict, accept};
 use cool_ports::Shelf;
 use cool_rules::TypedProgram;
+use cool_sources::{ReadError, read_files};
 use cool_syntax::{MOST_FILES, MOST_SOURCE_BYTES};
 use std::alloc::Global;
 

@@ -13,7 +13,7 @@ use crate::answer::{files_text, fit, refusal_note};
 use crate::form::Form;
 use crate::note::{BAD_COMMAND_LINE, FILES_NOT_READ};
 use cool_ports::{Failed, Shelf, Sink, put_pieces};
-use cool_sources::{Status, read_files, tell};
+use cool_sources::{Status, read_sources, tell};
 use cool_syntax::MOST_FILES;
 use std::alloc::Global;
 
@@ -108,6 +108,6 @@ fn names_text<F: Shelf>(
     if names.len() > MOST_FILES {
         return Err(Status::FileFault);
     }
-    let contents = read_files(alloc, names, files)?;
+    let contents = read_sources(alloc, names, files)?;
     Ok(files_text(alloc, form, names, &contents)?)
 }

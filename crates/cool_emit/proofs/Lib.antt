@@ -39,7 +39,9 @@ mod LabelsOfData
 mod LabelsAreDifferent
 pub mod ProgramsAreSound
 mod PartsAreLight
+mod ConstantsAgain
 mod SectionsInTurn
+mod BatchesInTurn
 mod PassesEnd
 pub mod SpansOfPrograms
 mod KindsInAll

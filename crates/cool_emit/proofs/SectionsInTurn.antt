@@ -1,14 +1,16 @@
 -- The sections of a program, one after another.
-use Rattle.std.proofs.Common.{◌≡◌, ◌∙◌, ℕ, zero, suc, ◌+◌, ◌<◌, ◌≤◌, List, [], ◌∷◌, ◌++◌, length, flat_map, map, take, drop, get_or, slice_get, Some, ap, refl, sym, subst, arith, append_assoc, append-nil, length-append}
+use Rattle.std.proofs.Common.{◌≡◌, ◌∙◌, ℕ, zero, suc, ◌+◌, ◌<◌, ◌≤◌, List, [], ◌∷◌, ◌++◌, length, flat_map, map, take, drop, get_or, slice_get, Some, ap, refl, sym, subst, arith, append_assoc, append-nil, length-append, inl, inr}
 use Rattle.std.specs.List.{AllByRecursion}
 use Rattle.std.proofs.lemmas.Grind.{flat_map-append}
+use Rattle.std.proofs.lemmas.Bool.{cases_eq}
 use Rattle.std.proofs.lemmas.List.{take-append-drop}
-use Rattle.mips_isa.specs.Lines.{Line, ToData, IsInRange, AreInRange}
-use Rattle.mips_isa.specs.Assembly.{directive_line}
+use Rattle.std.proofs.lemmas.Option.{get_or_from_slice_get, slice_get_read, slice_get_within}
+use Rattle.mips_isa.specs.Lines.{Line, AreInRange}
 use Rattle.cool_syntax.specs.declared.file_tree.Feature.{Feature}
 use Rattle.cool_syntax.specs.declared.file_tree.Feature.TheVariants as features
 use Rattle.cool_classes.specs.declared.class_id.ClassId.{ClassId}
 use Rattle.cool_classes.specs.Chains.{Class, class_number, features_of}
+use Rattle.cool_classes.proofs.FirstIndexes.{take_get}
 use Rattle.cool_runtime.specs.RoutineLines.{all_routine_lines}
 use Rattle.cool_layout.specs.Preorder.{numbers_from}
 use Rattle.cool_consts.specs.Constants.{Constants}
@@ -17,19 +19,21 @@ use Rattle.cool_codegen.specs.Features.{feature_integers, feature_strings}
 use Rattle.cool_codegen.specs.Numbered.{after}
 use Rattle.cool_codegen.proofs.NumbersAgree.{after_both, extends_before, extends_same}
 use Rattle.cool_emit.specs.Additions.{Adds, integers_asked, strings_asked}
+use Rattle.cool_emit.specs.Batches.{asked_by, AreAsked}
 use Rattle.cool_emit.specs.Programs.{Placed, attributes_in, methods_from, methods_in, placed_code, class_code, class_features, classes_code, all_features, initializer_code, program_constants, program_data, program_lines, IsBuildable}
 use Rattle.cool_emit.specs.SoundLines.{joined_lines}
 use Rattle.cool_emit.specs.declared.section.Section.{Section}
 use Rattle.cool_emit.specs.declared.section.Section.TheVariants.{Method}
 use Rattle.cool_emit.specs.Sections.{class_sections, sections_in, placed_at, features_in, section_code, IsSection}
 use Rattle.cool_emit.proofs.AddingParts.{take_more}
+use Rattle.cool_emit.proofs.ConstantsAgain.{integers_again, strings_again}
 use Rattle.cool_emit.proofs.ClassesInTurn.{features_weigh, placed_weight, table_weight}
 use Rattle.cool_emit.proofs.ConstantsAsked.{few_integers, few_strings}
 use Rattle.cool_emit.proofs.ProgramsAreSound.{programs_sound}
 use Rattle.cool_emit.proofs.SoundLinesAssemble.{in_range}
 use Rattle.cool_emit.proofs.Totals.{total, total-append}
 use Rattle.lists.proofs.ItemsLeft.{drop_one}
-use Rattle.lists.proofs.AllItems.{all_append, all_left, all_right}
+use Rattle.lists.proofs.AllItems.{all_append}
 use Rattle.std.proofs.lemmas.List.Folds.{flat_map-map}
 
 -- lists of lists
@@ -116,13 +120,6 @@ all_at P (z ∷ xs) x ys h = all_at P xs x ys h.1
 parts_at : {X : Type 0} (xs : List X) (i : ℕ) (x : X) → i < length xs → x ≡ get_or xs i x → xs ≡ take i xs ++ x ∷ drop (i + 1) xs
 parts_at xs i x less is = sym (take-append-drop i xs) ∙ ap (λ ys. take i xs ++ ys) (drop_one xs i x less is)
 
--- the constants after some sections
-abbrev pub asked_by : List Class → List (List ℕ) → List Section → Constants
-asked_by p files xs = record {
-  integers = with_integers [] (integers_asked (flat_map (features_in p) xs));
-  strings = with_strings [] (strings_asked files (flat_map (features_in p) xs));
-}
-
 abbrev none : Constants
 none = record { integers = []; strings = [] }
 
@@ -134,6 +131,22 @@ asked_both p files xs ys =
     ap (λ (hs : List Placed). after none (integers_asked hs) (strings_asked files hs)) (flat_map-append (features_in p) xs ys)
     ∙ (λ i. after none (flat_map-append (λ (f : Placed). feature_integers f.feature) fs gs i) (flat_map-append (λ (f : Placed). feature_strings files f.feature) fs gs i))
     ∙ after_both none (integers_asked fs) (integers_asked gs) (strings_asked files fs) (strings_asked files gs)
+
+-- the constants of a section between others
+asked_between : (p : List Class) (files : List (List ℕ)) (xs : List Section) (s : Section) (ys : List Section)
+    → asked_by p files (xs ++ s ∷ ys) ≡ record {
+      integers = with_integers [] (integers_asked (flat_map (features_in p) xs) ++ (integers_asked (features_in p s) ++ integers_asked (flat_map (features_in p) ys)));
+      strings = with_strings [] (strings_asked files (flat_map (features_in p) xs) ++ (strings_asked files (features_in p s) ++ strings_asked files (flat_map (features_in p) ys)));
+    }
+asked_between p files xs s ys =
+    let fs = flat_map (features_in p) xs in
+    let gs = features_in p s in
+    let hs = flat_map (features_in p) ys in
+    ap (λ (all : List Placed). after none (integers_asked all) (strings_asked files all)) (flat_map-append (features_in p) xs (s ∷ ys))
+    ∙ (λ i. after none (three (λ (f : Placed). feature_integers f.feature) fs gs hs i) (three (λ (f : Placed). feature_strings files f.feature) fs gs hs i))
+  where
+    three : {X Y : Type 0} (f : X → List Y) (xs bs cs : List X) → flat_map f (xs ++ (bs ++ cs)) ≡ flat_map f xs ++ (flat_map f bs ++ flat_map f cs)
+    three f xs bs cs = flat_map-append f xs (bs ++ cs) ∙ ap (λ ls. flat_map f xs ++ ls) (flat_map-append f bs cs)
 
 module _ (p : List Class) (files : List (List ℕ)) (b : IsBuildable p files) where
   abbrev g : Constants
@@ -174,7 +187,7 @@ module _ (p : List Class) (files : List (List ℕ)) (b : IsBuildable p files) wh
   pub lines_in_parts : program_lines p files ≡ joined_lines (flat_map (section_code p files g) (sections_in p)) (program_data p files)
   lines_in_parts = ap (λ (ls : List Line). joined_lines ls (program_data p files)) (sym (code_of_sections p files g))
 
-  all_in_range : AreInRange (joined_lines (flat_map (section_code p files g) (sections_in p)) (program_data p files))
+  pub all_in_range : AreInRange (joined_lines (flat_map (section_code p files g) (sections_in p)) (program_data p files))
   all_in_range = subst AreInRange lines_in_parts (in_range _ _ (programs_sound p files b))
 
   -- What is known of a section that was made after those before it.
@@ -186,63 +199,55 @@ module _ (p : List Class) (files : List (List ℕ)) (b : IsBuildable p files) wh
     pub within_here : IsSection p s
     within_here = all_at (IsSection p) (take i (sections_in p)) s (drop (i + 1) (sections_in p)) (subst (AllByRecursion (IsSection p)) parts (all_within p))
 
-    module _ (old new : Constants) (made : List Line) (before : old ≡ asked_by p files (take i (sections_in p)))
-        (adds : Adds files (features_in p s) (λ t. section_code p files t s) old new [] made) where
-      -- the constants after it
-      pub constants_here : new ≡ asked_by p files (take (i + 1) (sections_in p))
-      constants_here =
-          let xs = take i (sections_in p) in
-          let fs = features_in p s in
-          adds.constants
-          ∙ (ap (λ (t : Constants). after t (integers_asked fs) (strings_asked files fs)) before
-          ∙ (ap (λ (hs : List Placed). after (asked_by p files xs) (integers_asked hs) (strings_asked files hs)) (sym (append-nil fs))
-          ∙ (sym (asked_both p files xs (s ∷ [])) ∙ ap (asked_by p files) (sym (take_more (sections_in p) i s less is)))))
+    -- where it is among the first sections, it asks for no more constants than these
+    asked_again : (n : ℕ) → i < n
+        → after (asked_by p files (take n (sections_in p))) (integers_asked (features_in p s)) (strings_asked files (features_in p s))
+        ≡ asked_by p files (take n (sections_in p))
+    asked_again n before =
+        let xs = take n (sections_in p) in
+        let there : slice_get xs i ≡ Some s = take_get (sections_in p) n i s before (slice_get_read (sections_in p) (length (sections_in p)) i s refl less is) in
+        let split : xs ≡ take i xs ++ s ∷ drop (i + 1) xs = parts_at xs i s (slice_get_within xs i s there) (sym (get_or_from_slice_get xs i s s there)) in
+        subst (λ (t : Constants). after t (integers_asked (features_in p s)) (strings_asked files (features_in p s)) ≡ t)
+        (sym (ap (asked_by p files) split ∙ asked_between p files (take i xs) s (drop (i + 1) xs)))
+        (λ j. record {
+          integers = integers_again [] (integers_asked (flat_map (features_in p) (take i xs))) (integers_asked (features_in p s)) (integers_asked (flat_map (features_in p) (drop (i + 1) xs))) j;
+          strings = strings_again [] (strings_asked files (flat_map (features_in p) (take i xs))) (strings_asked files (features_in p s)) (strings_asked files (flat_map (features_in p) (drop (i + 1) xs))) j;
+        })
 
-      -- its lines, by the constants of the program
-      pub lines_here : made ≡ section_code p files g s
-      lines_here =
-          let xs = take (i + 1) (sections_in p) in
-          let ys = drop (i + 1) (sections_in p) in
-          let fs = flat_map (features_in p) ys in
-          let whole : after (asked_by p files xs) (integers_asked fs) (strings_asked files fs) ≡ g =
-          sym (asked_both p files xs ys) ∙ (ap (asked_by p files) (take-append-drop (i + 1) (sections_in p)) ∙ all_asked) in
-          let more : Extends (asked_by p files xs) g =
-          subst (Extends (asked_by p files xs)) whole
-          (extends_before (asked_by p files xs) (after (asked_by p files xs) (integers_asked fs) (strings_asked files fs)) (integers_asked fs) (strings_asked files fs)
-          (extends_same (after (asked_by p files xs) (integers_asked fs) (strings_asked files fs)))) in
-          adds.lines g (subst (λ (t : Constants). Extends t g) (sym constants_here) more)
+    -- the constants after it, where those before it or more were asked for
+    pub constants_here : (old new : Constants) (made : List Line) → AreAsked p files i old
+        → Adds files (features_in p s) (λ t. section_code p files t s) old new [] made → AreAsked p files (i + 1) new
+    constants_here old new made (n, (least, before)) adds =
+        elim (cases_eq i n) [
+          | inl same ↦ (i + 1, (omega arith, first_time (before ∙ ap (λ (k : ℕ). asked_by p files (take k (sections_in p))) (sym same))))
+          | inr other ↦ (n, (omega arith, adds.constants ∙ (ap (λ (t : Constants). after t (integers_asked fs) (strings_asked files fs)) before ∙ asked_again n (omega arith))))
+        ]
+      where
+        fs : List Placed
+        fs = features_in p s
 
-      -- whose numbers are in their ranges
-      pub ranges_here : AreInRange made
-      ranges_here =
-          let ranges : Line → Type 0 = λ line. IsInRange line.statement in
-          let code = section_code p files g in
-          let front = flat_map code (take i (sections_in p)) in
-          let behind = flat_map code (drop (i + 1) (sections_in p)) in
-          let text = all_left ranges (flat_map code (sections_in p)) _ all_in_range in
-          let split : flat_map code (sections_in p) ≡ front ++ (code s ++ behind) =
-          ap (flat_map code) parts ∙ flat_map-append code (take i (sections_in p)) (s ∷ drop (i + 1) (sections_in p)) in
-          subst AreInRange (sym lines_here)
-          (all_left ranges (code s) behind (all_right ranges front (code s ++ behind) (subst AreInRange split text)))
+        first_time : old ≡ asked_by p files (take i (sections_in p)) → new ≡ asked_by p files (take (i + 1) (sections_in p))
+        first_time here =
+            let xs = take i (sections_in p) in
+            adds.constants
+            ∙ (ap (λ (t : Constants). after t (integers_asked fs) (strings_asked files fs)) here
+            ∙ (ap (λ (hs : List Placed). after (asked_by p files xs) (integers_asked hs) (strings_asked files hs)) (sym (append-nil fs))
+            ∙ (sym (asked_both p files xs (s ∷ [])) ∙ ap (asked_by p files) (sym (take_more (sections_in p) i s less is)))))
 
-      -- the lines so far, and the lines that are left
-      pub so_far : flat_map (section_code p files g) (take i (sections_in p)) ++ made ≡ flat_map (section_code p files g) (take (i + 1) (sections_in p))
-      so_far =
-          let code = section_code p files g in
-          ap (λ (ls : List Line). flat_map code (take i (sections_in p)) ++ ls) (lines_here ∙ sym (append-nil (code s)))
-          ∙ (sym (flat_map-append code (take i (sections_in p)) (s ∷ [])) ∙ ap (flat_map code) (sym (take_more (sections_in p) i s less is)))
-
-      pub left : flat_map (section_code p files g) (drop i (sections_in p)) ≡ made ++ flat_map (section_code p files g) (drop (i + 1) (sections_in p))
-      left =
-          let code = section_code p files g in
-          ap (flat_map code) (drop_one (sections_in p) i s less is)
-          ∙ ap (λ (ls : List Line). ls ++ flat_map code (drop (i + 1) (sections_in p))) (sym lines_here)
-
-  -- the numbers of the data are in their ranges
-  pub data_in_range : AreInRange (directive_line ToData ∷ program_data p files)
-  data_in_range =
-      let ranges : Line → Type 0 = λ line. IsInRange line.statement in
-      all_right ranges (flat_map (section_code p files g) (sections_in p)) _ all_in_range
+    -- its lines, by the constants of the program, where those for which it asks are among the first
+    pub lines_here : (n : ℕ) (new : Constants) (made : List Line) → new ≡ asked_by p files (take n (sections_in p))
+        → ((t : Constants) → Extends new t → made ≡ section_code p files t s) → made ≡ section_code p files g s
+    lines_here n new made is_first by =
+        let xs = take n (sections_in p) in
+        let ys = drop n (sections_in p) in
+        let fs = flat_map (features_in p) ys in
+        let whole : after (asked_by p files xs) (integers_asked fs) (strings_asked files fs) ≡ g =
+        sym (asked_both p files xs ys) ∙ (ap (asked_by p files) (take-append-drop n (sections_in p)) ∙ all_asked) in
+        let more : Extends (asked_by p files xs) g =
+        subst (Extends (asked_by p files xs)) whole
+        (extends_before (asked_by p files xs) (after (asked_by p files xs) (integers_asked fs) (strings_asked files fs)) (integers_asked fs) (strings_asked files fs)
+        (extends_same (after (asked_by p files xs) (integers_asked fs) (strings_asked files fs)))) in
+        by g (subst (λ (t : Constants). Extends t g) (sym is_first) more)
 
 -- the constants after sections that were added to none
 pub constants_of : (p : List Class) (files : List (List ℕ)) (sections : List Section) (i : ℕ) (old new : Constants) (code : Constants → List Line) (x y : List Line)

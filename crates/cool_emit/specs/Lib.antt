@@ -3,6 +3,7 @@ pub mod FileNames
 pub mod Programs
 pub mod SoundLines
 pub mod Sections
+pub mod Batches
 pub mod SpansOfPrograms
 pub mod CodeTables
 pub mod TableLines

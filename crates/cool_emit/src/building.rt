@@ -1,6 +1,6 @@
 //! The image of a whole program.
 
-ghost use Rattle.std.specs.Prelude.{◌≡◌, ◌<◌, ◌^◌, ◌∷◌, [], length, map, string_bytes, IfOk, None};
+ghost use Rattle.std.specs.Prelude.{◌≡◌, ◌<◌, ◌≤◌, ◌^◌, ◌+◌, ◌∷◌, [], Some, length, map, slice_get, string_bytes, IfOk, OnOk, None};
 ghost use Rattle.mips_isa.specs.Assembly.{fault_of, image_of, directive_line, Assembles};
 ghost use Rattle.mips_isa.specs.Lines.{lines_of, ToData};
 ghost use Rattle.mips_asm.specs.FirstPasses.{HasTaken};
@@ -8,10 +8,13 @@ ghost use Rattle.mips_asm.specs.SecondPasses.{HasLeft};
 ghost use Rattle.cool_rules.specs.Fits.{Fits};
 ghost use Rattle.cool_emit.specs.FileNames.{AreShortNames};
 ghost use Rattle.cool_emit.specs.Additions.{Adds, files_of, IsSound};
-ghost use Rattle.cool_emit.specs.Programs.{data_lines, program_lines};
+ghost use Rattle.cool_emit.specs.Batches.{batches_of, AreAsked, AreFirst};
+ghost use Rattle.cool_emit.specs.Programs.{data_lines, program_constants, program_lines};
+ghost use Rattle.cool_emit.specs.declared.kept.TheConstants.{MOST_KEPT_LINES};
 ghost use Rattle.cool_emit.specs.Sections.{features_in, section_code, sections_in, IsSection};
 
 use crate::emission::Emission;
+use crate::kept::Kept;
 use crate::program::add_data;
 use crate::section::Section;
 use cool_consts::Consts;
@@ -21,10 +24,19 @@ use mips_asm::{FirstPass, SecondPass};
 use mips_isa::{AsmError, Image, Line};
 use std::alloc::{AllocError, Global};
 
+/// What is there after the first pass: the pass, the constants of the program, and the lines that need not be made again.
+#[derive(Drop)]
+struct Passed {
+    pass: FirstPass,
+    consts: Consts,
+    kept: Kept,
+}
+
 /// The image of a program whose files have these names, of at most 4,096 bytes each. Its lines have no fault, so `Err` comes only for
 /// want of memory.
 ///
-/// Its lines are made twice, section by section, and no more than those of one section are held at once.
+/// Its lines are made in batches, section by section. Those of the first batches, up to `MOST_KEPT_LINES`, are made once, and the others
+/// twice: of these no more than one batch is held at once.
 pub fn build(alloc: Global, p: &TypedProgram, names: &[String]) -> Result<Image, AllocError>
     requires fits { Fits p.now (length names.now) }
     requires names { AreShortNames (map string_bytes names.now) }
@@ -52,43 +64,78 @@ impl<'a> Emission<'a> {
         ensures { Assembles (program_lines self.now.program.now (files_of self.now)) result }
     {
         let sections = self.sections()?;
-        let first = self.first_pass(&sections)?;
-        let second = first.finish()?;
-        self.second_pass(&sections, second)
+        let Passed { pass, consts, kept } = self.first_pass(&sections)?;
+        let second = pass.finish()?;
+        self.second_pass(&sections, second, consts, kept)
     }
 
     /// The first pass over the lines of the program. `Err` comes only for want of memory.
-    fn first_pass(&self, sections: &[Section]) -> Result<FirstPass, AllocError>
+    fn first_pass(&self, sections: &[Section]) -> Result<Passed, AllocError>
         requires sound { IsSound self.now }
         requires sections { sections.now ≡ sections_in self.now.program.now }
-        ensures { IfOk result (λ pass. HasTaken pass (program_lines self.now.program.now (files_of self.now))) }
+        ensures taken { IfOk result (λ passed. HasTaken passed.pass (program_lines self.now.program.now (files_of self.now))) }
+        ensures constants { IfOk result (λ passed. passed.consts ≡ program_constants self.now.program.now (files_of self.now)) }
+        ensures kept { IfOk result (λ passed. AreFirst (batches_of self.now.program.now (files_of self.now)) passed.kept) }
+        ensures few { IfOk result (λ passed. length passed.kept.lines.items ≤ MOST_KEPT_LINES) }
     {
         let mut pass = FirstPass::new(self.alloc);
         let mut consts = Consts::new(self.alloc);
-        for section in sections {
-            let lines = self.section_lines(section, &mut consts)?;
+        let mut kept = Kept::new(self.alloc);
+        for number in 0..sections.len() + 1 {
+            let lines = self.batch(sections, number, &mut consts)?;
             pass.take(&lines)?;
+            kept.keep(number, lines)?;
         }
-        let lines = self.data(&consts)?;
-        pass.take(&lines)?;
-        Ok(pass)
+        Ok(Passed { pass, consts, kept })
     }
 
-    /// The image, by the second pass over the lines of the program.
-    fn second_pass(&self, sections: &[Section], mut pass: SecondPass) -> Result<Image, AsmError>
+    /// The image, by the second pass over the lines of the program, the first of which are kept. These go once they are taken.
+    fn second_pass(
+        &self,
+        sections: &[Section],
+        mut pass: SecondPass,
+        mut consts: Consts,
+        kept: Kept,
+    ) -> Result<Image, AsmError>
         requires sound { IsSound self.now }
         requires sections { sections.now ≡ sections_in self.now.program.now }
         requires all { HasLeft pass (program_lines self.now.program.now (files_of self.now)) (program_lines self.now.program.now (files_of self.now)) }
+        requires constants { consts ≡ program_constants self.now.program.now (files_of self.now) }
+        requires kept { AreFirst (batches_of self.now.program.now (files_of self.now)) kept }
         ensures { Assembles (program_lines self.now.program.now (files_of self.now)) result }
     {
-        let mut consts = Consts::new(self.alloc);
-        for section in sections {
-            let lines = self.section_lines(section, &mut consts)?;
+        let first = kept.batches;
+        {
+            let lines = kept.lines;
             pass.take(&lines)?;
         }
-        let lines = self.data(&consts)?;
-        pass.take(&lines)?;
+        for number in first..sections.len() + 1 {
+            let lines = self.batch(sections, number, &mut consts)?;
+            pass.take(&lines)?;
+        }
         pass.finish()
+    }
+
+    /// The lines of the batch of a number: of a section, or behind all sections of the data. The constants are those for which the sections
+    /// before it ask, with perhaps more. `Err` comes only for want of memory.
+    fn batch(
+        &self,
+        sections: &[Section],
+        number: usize,
+        consts: &mut Consts,
+    ) -> Result<Vec<Line>, AllocError>
+        requires sound { IsSound self.now }
+        requires sections { sections.now ≡ sections_in self.now.program.now }
+        requires within { number ≤ length sections.now }
+        requires constants { AreAsked self.now.program.now (files_of self.now) number consts.old }
+        ensures lines { IfOk result (λ lines. slice_get (batches_of self.now.program.now (files_of self.now)) number ≡ Some (lines_of lines.items)) }
+        ensures constants { OnOk result (AreAsked self.now.program.now (files_of self.now) (number + 1) consts.new) }
+    {
+        if number < sections.len() {
+            self.section_lines(&sections[number], consts)
+        } else {
+            self.data(consts)
+        }
     }
 
     /// The lines of a section. `Err` comes only for want of memory.

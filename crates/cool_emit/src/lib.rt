@@ -8,6 +8,7 @@ mod building;
 mod code_table;
 mod emission;
 mod initializer;
+mod kept;
 mod laws;
 mod program;
 mod row;
@@ -15,6 +16,7 @@ mod section;
 
 pub use building::build;
 pub use code_table::table;
+pub use kept::MOST_KEPT_LINES;
 pub use laws::law_rows_stand;
 pub use program::lines;
 pub use row::place_text;

@@ -34,6 +34,7 @@ use std::alloc::Global;
 use std::rc::Rc;
 
 /// The next argument, or else the receiver.
+#[inline(always)]
 #[tactic(auto, unfolding(crate::specs::Machine::begin_args))]
 pub(crate) fn begin_args<'a>(
     machine: &mut Machine<'a>,

@@ -39,6 +39,7 @@ pub(crate) fn begin_test<'a>(
 }
 
 /// The next item of a block, or the value of the one before.
+#[inline(always)]
 #[tactic(auto, unfolding(crate::specs::Machine::next_item))]
 pub(crate) fn next_item<'a>(
     machine: &mut Machine<'a>,

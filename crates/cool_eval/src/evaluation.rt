@@ -90,7 +90,8 @@ fn layouts(alloc: Global, table: &ClassTable) -> Result<Vec<Vec<AttributeRef>>, 
     Ok(layouts)
 }
 
-/// Runs to the end.
+/// Runs to the end. Each step is compiled into its loop, so that focus and frame stay in the processor's registers.
+#[inline(never)]
 fn run<'a, S: Source, K: Sink>(
     setting: &Setting<'a>,
     main: &'a Name,

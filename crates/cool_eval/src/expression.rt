@@ -1,17 +1,18 @@
 //! Expressions begun.
 
-ghost use Rattle.std.specs.Prelude.{◌≡◌, ◌∷◌, [], ◌++◌, ℕ, List, IfErr, IfOk};
+ghost use Rattle.std.specs.Prelude.{◌≡◌, ◌∷◌, [], ◌++◌, ◌<◌, ℕ, List, IfErr, IfOk};
 ghost use Rattle.cool_classes.specs.Chains.{Class};
+ghost use Rattle.cool_syntax.specs.NodeGroups.{IsBinary, IsBinding, IsCall, IsControl, IsLeaf, IsUnary};
+ghost use Rattle.cool_syntax.specs.NodeLists.{all_trees, made, HasPartsBelow};
+ghost use Rattle.cool_syntax.specs.Tree.{tree_size};
 ghost use Rattle.cool_meaning.specs.Evaluation as meaning;
 ghost use Rattle.cool_meaning.specs.Lookups as lookups;
 ghost use Rattle.cool_meaning.specs.Values as values;
 ghost use Rattle.cool_eval.specs.Configurations.{env_of, frame_of, frames_of, state_of, Comes, IsResultAt};
 ghost use Rattle.cool_eval.specs.Counts.{IsInner};
-ghost use Rattle.cool_eval.specs.Groups.{IsBinary, IsBinding, IsCall, IsControl, IsLeaf, IsUnary};
 ghost use Rattle.cool_eval.specs.Machine.{begun, Begin, Continue};
 ghost use Rattle.cool_eval.specs.Ready.{IsReady};
 ghost use Rattle.cool_eval.specs.Values.{value_of};
-ghost use Rattle.cool_eval.specs.Views.{form_tree};
 
 use crate::basic::string;
 use crate::call::begin_args;
@@ -20,11 +21,11 @@ use crate::ending::Ending;
 use crate::frame::{Focus, Frame};
 use crate::machine::{Machine, share};
 use crate::object::begin_new;
-use crate::part::{Form, Part};
+use crate::part::{Part, part_at, parts_at, twigs_at};
 use crate::scene::{Scene, Setting};
 use crate::value::Value;
 use cool_classes::ClassId;
-use cool_syntax::Name;
+use cool_syntax::{Body, Name, Node, NodeId};
 use std::rc::Rc;
 
 /// Begins an expression.
@@ -40,28 +41,31 @@ pub(crate) fn begin<'a>(
     ensures ended { machine.new.ended ≡ machine.old.ended }
     ensures inner { IfErr result IsInner }
 {
-    let form = part.form();
-    match &form {
-        Form::Dispatch { .. } | Form::StaticDispatch { .. } => {
-            begin_call(setting, machine, scene, form)
+    let (body, id, node) = part.open();
+    match node {
+        Node::Dispatch { .. } | Node::StaticDispatch { .. } => {
+            begin_call(setting, machine, scene, body, id, node)
         }
-        Form::If { .. } | Form::While { .. } | Form::Block { .. } => {
-            begin_control(machine, scene, form)
+        Node::If { .. } | Node::While { .. } | Node::Block { .. } => {
+            begin_control(machine, scene, body, id, node)
         }
-        Form::Let { .. } | Form::Case { .. } => begin_binding(setting, machine, scene, form),
-        Form::Assign { .. } | Form::IsVoid { .. } | Form::Neg { .. } | Form::Not { .. } => {
-            begin_unary(machine, scene, form)
+        Node::Let { .. } | Node::Case { .. } => begin_binding(
+            setting, machine, scene, body, id, node,
+        ),
+        Node::Assign { .. } | Node::IsVoid { .. } | Node::Neg { .. } | Node::Not { .. } => {
+            begin_unary(machine, scene, body, id, node)
         }
-        Form::Arith { .. } | Form::Compare { .. } => begin_binary(machine, scene, form),
-        Form::New { .. }
-        | Form::Id { .. }
-        | Form::Int { .. }
-        | Form::Str { .. }
-        | Form::Bool { .. } => begin_leaf(setting, machine, scene, form),
+        Node::Arith { .. } | Node::Compare { .. } => begin_binary(machine, scene, body, id, node),
+        Node::New { .. }
+        | Node::Id { .. }
+        | Node::Int { .. }
+        | Node::Str { .. }
+        | Node::Bool { .. } => begin_leaf(setting, machine, scene, body, node),
     }
 }
 
 /// Begins a part, for whose value a frame waits.
+#[inline(always)]
 pub(crate) fn begin_under<'a>(
     machine: &mut Machine<'a>,
     scene: Rc<Scene<'a>>,
@@ -77,104 +81,140 @@ pub(crate) fn begin_under<'a>(
     Ok(Focus::Begin { scene, part })
 }
 
-/// Begins the arguments of a dispatch.
+/// Begins the arguments of a dispatch, whose parts have numbers below this one.
 #[tactic(auto, unfolding(crate::specs::Machine::begun))]
 fn begin_call<'a>(
     setting: &Setting<'a>,
     machine: &mut Machine<'a>,
     scene: Rc<Scene<'a>>,
-    form: Form<'a>,
+    body: &'a Body,
+    id: NodeId,
+    node: &'a Node,
 ) -> Result<Focus<'a>, Ending>
-    requires group { IsCall form }
+    requires group { IsCall node.now }
+    requires below { id.0 < tree_size body.now }
+    requires parts { HasPartsBelow id.0 node.now }
     ensures comes { (p : List Class) (input output : List ℕ) → Comes p result machine.new input output
-        (begun p (value_of scene.entry.value.me) (env_of p scene.entry.value) (form_tree form.entry) (frames_of p machine.old) (state_of machine.old input output) machine.old.left) }
+        (begun p (value_of scene.entry.value.me) (env_of p scene.entry.value) (made (all_trees body.now) node.now) (frames_of p machine.old) (state_of machine.old input output) machine.old.left) }
     ensures ended { machine.new.ended ≡ machine.old.ended }
     ensures inner { IfErr result IsInner }
 {
     let given = Vec::new(setting.alloc);
-    match form {
-        Form::Dispatch {
+    match node {
+        Node::Dispatch {
             at,
             receiver,
             name,
             args,
-        } => begin_args(machine, scene, given, args, at, receiver, None, name),
-        Form::StaticDispatch {
+        } => begin_args(
+            machine,
+            scene,
+            given,
+            parts_at(body, args.as_slice()),
+            *at,
+            part_at(body, *receiver),
+            None,
+            name,
+        ),
+        Node::StaticDispatch {
             at,
             receiver,
             class,
             name,
             args,
         } => {
+            let args = parts_at(body, args.as_slice());
+            let receiver = part_at(body, *receiver);
             let class = Some(&class.name);
-            begin_args(machine, scene, given, args, at, receiver, class, name)
+            begin_args(machine, scene, given, args, *at, receiver, class, name)
         }
         _ => unreachable!(),
     }
 }
 
-/// Begins a condition, a loop or a block.
+/// Begins a condition, a loop or a block, whose parts have numbers below this one.
 #[tactic(auto, unfolding(crate::specs::Machine::begun))]
 fn begin_control<'a>(
     machine: &mut Machine<'a>,
     scene: Rc<Scene<'a>>,
-    form: Form<'a>,
+    body: &'a Body,
+    id: NodeId,
+    node: &'a Node,
 ) -> Result<Focus<'a>, Ending>
-    requires group { IsControl form }
+    requires group { IsControl node.now }
+    requires below { id.0 < tree_size body.now }
+    requires parts { HasPartsBelow id.0 node.now }
     ensures comes { (p : List Class) (input output : List ℕ) → Comes p result machine.new input output
-        (begun p (value_of scene.entry.value.me) (env_of p scene.entry.value) (form_tree form.entry) (frames_of p machine.old) (state_of machine.old input output) machine.old.left) }
+        (begun p (value_of scene.entry.value.me) (env_of p scene.entry.value) (made (all_trees body.now) node.now) (frames_of p machine.old) (state_of machine.old input output) machine.old.left) }
     ensures ended { machine.new.ended ≡ machine.old.ended }
     ensures inner { IfErr result IsInner }
 {
-    match form {
-        Form::If { test, yes, no, .. } => {
+    match node {
+        Node::If { test, yes, no, .. } => {
             let copy = share(&scene)?;
             let frame = Frame::Choose {
                 scene,
-                first: yes,
-                second: no,
+                first: part_at(body, *yes),
+                second: part_at(body, *no),
             };
-            begin_under(machine, copy, frame, test)
+            begin_under(machine, copy, frame, part_at(body, *test))
         }
-        Form::While { test, body, .. } => begin_test(machine, scene, test, body),
-        Form::Block { items, .. } => next_item(machine, scene, Value::Void, items),
+        Node::While {
+            test,
+            body: turn,
+            ..
+        } => begin_test(machine, scene, part_at(body, *test), part_at(body, *turn)),
+        Node::Block { items, .. } => next_item(
+            machine,
+            scene,
+            Value::Void,
+            parts_at(body, items.as_slice()),
+        ),
         _ => unreachable!(),
     }
 }
 
-/// Begins a binding or a case.
+/// Begins a binding or a case, whose parts have numbers below this one.
 #[tactic(auto, unfolding(crate::specs::Machine::begun, crate::specs::Machine::begin_let))]
 fn begin_binding<'a>(
     setting: &Setting<'a>,
     machine: &mut Machine<'a>,
     scene: Rc<Scene<'a>>,
-    form: Form<'a>,
+    body: &'a Body,
+    id: NodeId,
+    node: &'a Node,
 ) -> Result<Focus<'a>, Ending>
-    requires group { IsBinding form }
+    requires group { IsBinding node.now }
+    requires below { id.0 < tree_size body.now }
+    requires parts { HasPartsBelow id.0 node.now }
     ensures comes { (p : List Class) (input output : List ℕ) → Comes p result machine.new input output
-        (begun p (value_of scene.entry.value.me) (env_of p scene.entry.value) (form_tree form.entry) (frames_of p machine.old) (state_of machine.old input output) machine.old.left) }
+        (begun p (value_of scene.entry.value.me) (env_of p scene.entry.value) (made (all_trees body.now) node.now) (frames_of p machine.old) (state_of machine.old input output) machine.old.left) }
     ensures ended { machine.new.ended ≡ machine.old.ended }
     ensures inner { IfErr result IsInner }
 {
-    match form {
-        Form::Let {
+    match node {
+        Node::Let {
             name,
             declared,
             init,
-            body,
+            body: inner,
             ..
         } => {
             let copy = share(&scene)?;
-            let frame = Frame::Bind { scene, name, body };
+            let frame = Frame::Bind {
+                scene,
+                name,
+                body: part_at(body, *inner),
+            };
             match init {
-                Some(part) => begin_under(machine, copy, frame, part),
+                Some(part) => begin_under(machine, copy, frame, part_at(body, *part)),
                 None => {
                     machine.wait(frame)?;
                     Ok(Focus::Return(setting.default_of(&declared.name)?))
                 }
             }
         }
-        Form::Case {
+        Node::Case {
             at,
             value,
             branches,
@@ -182,56 +222,72 @@ fn begin_binding<'a>(
             let copy = share(&scene)?;
             let frame = Frame::Pick {
                 scene,
-                at,
-                branches,
+                at: *at,
+                branches: twigs_at(body, branches.as_slice()),
             };
-            begin_under(machine, copy, frame, value)
+            begin_under(machine, copy, frame, part_at(body, *value))
         }
         _ => unreachable!(),
     }
 }
 
-/// Begins an assignment or a prefix operator.
+/// Begins an assignment or a prefix operator, whose parts have numbers below this one.
 #[tactic(auto, unfolding(crate::specs::Machine::begun))]
 fn begin_unary<'a>(
     machine: &mut Machine<'a>,
     scene: Rc<Scene<'a>>,
-    form: Form<'a>,
+    body: &'a Body,
+    id: NodeId,
+    node: &'a Node,
 ) -> Result<Focus<'a>, Ending>
-    requires group { IsUnary form }
+    requires group { IsUnary node.now }
+    requires below { id.0 < tree_size body.now }
+    requires parts { HasPartsBelow id.0 node.now }
     ensures comes { (p : List Class) (input output : List ℕ) → Comes p result machine.new input output
-        (begun p (value_of scene.entry.value.me) (env_of p scene.entry.value) (form_tree form.entry) (frames_of p machine.old) (state_of machine.old input output) machine.old.left) }
+        (begun p (value_of scene.entry.value.me) (env_of p scene.entry.value) (made (all_trees body.now) node.now) (frames_of p machine.old) (state_of machine.old input output) machine.old.left) }
     ensures ended { machine.new.ended ≡ machine.old.ended }
     ensures inner { IfErr result IsInner }
 {
-    match form {
-        Form::Assign { name, value, .. } => {
+    match node {
+        Node::Assign { name, value, .. } => {
             let copy = share(&scene)?;
-            begin_under(machine, copy, Frame::AssignTo { scene, name }, value)
+            let part = part_at(body, *value);
+            begin_under(machine, copy, Frame::AssignTo { scene, name }, part)
         }
-        Form::IsVoid { value, .. } => begin_under(machine, scene, Frame::TestVoid, value),
-        Form::Not { value, .. } => begin_under(machine, scene, Frame::Invert, value),
-        Form::Neg { at, value } => begin_under(machine, scene, Frame::Negate { at }, value),
+        Node::IsVoid { value, .. } => {
+            begin_under(machine, scene, Frame::TestVoid, part_at(body, *value))
+        }
+        Node::Not { value, .. } => {
+            begin_under(machine, scene, Frame::Invert, part_at(body, *value))
+        }
+        Node::Neg { at, value } => {
+            let frame = Frame::Negate { at: *at };
+            begin_under(machine, scene, frame, part_at(body, *value))
+        }
         _ => unreachable!(),
     }
 }
 
-/// Begins an operator between two operands.
+/// Begins an operator between two operands, whose parts have numbers below this one.
 #[tactic(auto, unfolding(crate::specs::Machine::begun))]
 fn begin_binary<'a>(
     machine: &mut Machine<'a>,
     scene: Rc<Scene<'a>>,
-    form: Form<'a>,
+    body: &'a Body,
+    id: NodeId,
+    node: &'a Node,
 ) -> Result<Focus<'a>, Ending>
-    requires group { IsBinary form }
+    requires group { IsBinary node.now }
+    requires below { id.0 < tree_size body.now }
+    requires parts { HasPartsBelow id.0 node.now }
     ensures comes { (p : List Class) (input output : List ℕ) → Comes p result machine.new input output
-        (begun p (value_of scene.entry.value.me) (env_of p scene.entry.value) (form_tree form.entry) (frames_of p machine.old) (state_of machine.old input output) machine.old.left) }
+        (begun p (value_of scene.entry.value.me) (env_of p scene.entry.value) (made (all_trees body.now) node.now) (frames_of p machine.old) (state_of machine.old input output) machine.old.left) }
     ensures ended { machine.new.ended ≡ machine.old.ended }
     ensures inner { IfErr result IsInner }
 {
     let copy = share(&scene)?;
-    match form {
-        Form::Arith {
+    match node {
+        Node::Arith {
             at,
             op,
             left,
@@ -239,18 +295,25 @@ fn begin_binary<'a>(
         } => {
             let frame = Frame::Operand {
                 scene,
-                at,
-                op,
-                right,
+                at: *at,
+                op: *op,
+                right: part_at(body, *right),
             };
-            begin_under(machine, copy, frame, left)
+            begin_under(machine, copy, frame, part_at(body, *left))
         }
-        Form::Compare {
+        Node::Compare {
             op,
             left,
             right,
             ..
-        } => begin_under(machine, copy, Frame::Compared { scene, op, right }, left),
+        } => {
+            let frame = Frame::Compared {
+                scene,
+                op: *op,
+                right: part_at(body, *right),
+            };
+            begin_under(machine, copy, frame, part_at(body, *left))
+        }
         _ => unreachable!(),
     }
 }
@@ -261,24 +324,25 @@ fn begin_leaf<'a>(
     setting: &Setting<'a>,
     machine: &mut Machine<'a>,
     scene: Rc<Scene<'a>>,
-    form: Form<'a>,
+    body: &'a Body,
+    node: &'a Node,
 ) -> Result<Focus<'a>, Ending>
     requires ready { IsReady setting.now.table.now setting.now.layouts.now }
-    requires group { IsLeaf form }
+    requires group { IsLeaf node.now }
     ensures comes { (input output : List ℕ) → Comes setting.now.table.now result machine.new input output
-        (begun setting.now.table.now (value_of scene.entry.value.me) (env_of setting.now.table.now scene.entry.value) (form_tree form.entry) (frames_of setting.now.table.now machine.old) (state_of machine.old input output) machine.old.left) }
+        (begun setting.now.table.now (value_of scene.entry.value.me) (env_of setting.now.table.now scene.entry.value) (made (all_trees body.now) node.now) (frames_of setting.now.table.now machine.old) (state_of machine.old input output) machine.old.left) }
     ensures ended { machine.new.ended ≡ machine.old.ended }
     ensures inner { IfErr result IsInner }
 {
-    match form {
-        Form::Id { name, .. } => Ok(Focus::Return(value_named(setting, machine, &scene, name)?)),
-        Form::Int { value, .. } => Ok(Focus::Return(Value::Int(i64::from(value.cast_signed())))),
-        Form::Str { bytes, .. } => {
+    match node {
+        Node::Id { name, .. } => Ok(Focus::Return(value_named(setting, machine, &scene, name)?)),
+        Node::Int { value, .. } => Ok(Focus::Return(Value::Int(i64::from(value.cast_signed())))),
+        Node::Str { bytes, .. } => {
             let copy = Vec::from_slice(setting.alloc, bytes.as_slice())?;
             Ok(Focus::Return(string(setting.alloc, copy)?))
         }
-        Form::Bool { value, .. } => Ok(Focus::Return(Value::Bool(value))),
-        Form::New { class, .. } => {
+        Node::Bool { value, .. } => Ok(Focus::Return(Value::Bool(*value))),
+        Node::New { class, .. } => {
             let class = class_made(setting, &scene, &class.name);
             begin_new(setting, machine, class)
         }

@@ -21,7 +21,8 @@ pub(crate) struct Machine<'a> {
 }
 
 impl<'a> Machine<'a> {
-    /// One more frame waits.
+    /// One more frame waits. Compiled into its callers, it writes the parts of the frame to where the frame waits, and no others.
+    #[inline(always)]
     #[tactic(auto, using(crate::proofs::Stacks::stack_more))]
     pub(crate) fn wait(&mut self, frame: Frame<'a>) -> Result<(), Ending>
         ensures frames { OnOk result ((p : List Class) → frames_of p self.new ≡ frame_of p frame.entry ∷ frames_of p self.old) }
@@ -76,6 +77,7 @@ pub(crate) fn shared<'a>(alloc: Global, scene: Scene<'a>) -> Result<Rc<Scene<'a>
 }
 
 /// The same scene. `Err` comes only for want of memory.
+#[inline(always)]
 pub(crate) fn share<'a>(scene: &Rc<Scene<'a>>) -> Result<Rc<Scene<'a>>, Ending>
     ensures shared { IfOk result (λ copy. copy.value ≡ scene.now.value) }
     ensures memory { IfErr result (λ e. e ≡ Ending.Memory) }

@@ -13,6 +13,7 @@ use crate::value::Value;
 use cool_syntax::{ArithOp, CompareOp, Place};
 
 /// The number that a value is.
+#[inline(always)]
 pub(crate) fn number(value: &Value) -> Result<i64, Ending>
     ensures { IsNumberOf result (value_of value.now) }
 {
@@ -23,6 +24,7 @@ pub(crate) fn number(value: &Value) -> Result<i64, Ending>
 }
 
 /// A result where it has 32 bits; one that is none has not even 64.
+#[inline(always)]
 fn exact(at: Place, found: Option<i64>) -> Result<Value, Ending>
     ensures value { (z : ℤ) → SomeIff found (FitsSigned w64 z) z → IsResultOf result (meaning.exact at z) }
     ensures inner { IfErr result IsInner }
@@ -34,6 +36,7 @@ fn exact(at: Place, found: Option<i64>) -> Result<Value, Ending>
 }
 
 /// The negative of a number.
+#[inline(always)]
 pub(crate) fn negate(at: Place, value: &Value) -> Result<Value, Ending>
     ensures value { IsResultOf result (negated at (value_of value.now)) }
     ensures inner { IfErr result IsInner }
@@ -42,6 +45,7 @@ pub(crate) fn negate(at: Place, value: &Value) -> Result<Value, Ending>
 }
 
 /// An operation on two numbers.
+#[inline(always)]
 pub(crate) fn operate(op: ArithOp, at: Place, left: &Value, right: &Value) -> Result<Value, Ending>
     ensures value { IsResultOf result (operated op at (value_of left.now) (value_of right.now)) }
     ensures inner { IfErr result IsInner }
@@ -76,6 +80,7 @@ fn same(left: &Value, right: &Value) -> bool
 }
 
 /// A comparison.
+#[inline(always)]
 pub(crate) fn compare(op: CompareOp, left: &Value, right: &Value) -> Result<Value, Ending>
     ensures value { IsResultOf result (meaning.compare op (value_of left.now) (value_of right.now)) }
     ensures inner { IfErr result IsInner }

@@ -1,15 +1,13 @@
 //! Expressions of a body, opened one at a time.
 
-ghost use Rattle.std.specs.Prelude.{◌≡◌, ◌<◌, None, Some, ◌∷◌, [], IfSome};
-ghost use Rattle.cool_syntax.specs.NodeGroups.{IsBinary, IsBinding, IsCall, IsControl, IsLeaf, IsUnary};
-ghost use Rattle.cool_syntax.specs.NodeLists.{all_trees, made, tree_at, HasPartsBelow};
+ghost use Rattle.std.specs.Prelude.{◌≡◌, ◌<◌, None, Some, ◌∷◌, [], IfSome, map};
+ghost use Rattle.std.specs.List.{AllByRecursion};
+ghost use Rattle.cool_syntax.specs.NodeLists.{all_trees, at_id, made, tree_at, twig_at, HasPartsBelow};
 ghost use Rattle.cool_syntax.specs.Tree.{of_twigs, tree_size};
 ghost use Rattle.cool_eval.specs.Machine.{branch_named};
-ghost use Rattle.cool_eval.specs.Views.{form_tree, IsFirst, taken_of};
+ghost use Rattle.cool_eval.specs.Views.{IsFirst, taken_of};
 
-use cool_syntax::{
-    ArithOp, Body, Bytes, CompareOp, Name, Node, NodeBranch, NodeId, Place, TypeRef,
-};
+use cool_syntax::{Body, Name, Node, NodeBranch, NodeId};
 use std::marker::Model;
 
 /// An expression of a body. A contract sees its tree.
@@ -82,100 +80,6 @@ impl<'a> Model for Twigs<'a> {
     ghost invariant = { λ p. AllByRecursion (λ b. b.body.0 < tree_size p.body.now) p.branches.now };
 }
 
-/// An expression with its parts.
-#[derive(Drop)]
-pub(crate) enum Form<'a> {
-    Assign {
-        at: Place,
-        name: &'a Name,
-        value: Part<'a>,
-    },
-    Dispatch {
-        at: Place,
-        receiver: Part<'a>,
-        name: &'a Name,
-        args: Parts<'a>,
-    },
-    StaticDispatch {
-        at: Place,
-        receiver: Part<'a>,
-        class: &'a TypeRef,
-        name: &'a Name,
-        args: Parts<'a>,
-    },
-    If {
-        at: Place,
-        test: Part<'a>,
-        yes: Part<'a>,
-        no: Part<'a>,
-    },
-    While {
-        at: Place,
-        test: Part<'a>,
-        body: Part<'a>,
-    },
-    Block {
-        at: Place,
-        items: Parts<'a>,
-    },
-    Let {
-        at: Place,
-        name: &'a Name,
-        declared: &'a TypeRef,
-        init: Option<Part<'a>>,
-        body: Part<'a>,
-    },
-    Case {
-        at: Place,
-        value: Part<'a>,
-        branches: Twigs<'a>,
-    },
-    New {
-        at: Place,
-        class: &'a TypeRef,
-    },
-    IsVoid {
-        at: Place,
-        value: Part<'a>,
-    },
-    Arith {
-        at: Place,
-        op: ArithOp,
-        left: Part<'a>,
-        right: Part<'a>,
-    },
-    Neg {
-        at: Place,
-        value: Part<'a>,
-    },
-    Compare {
-        at: Place,
-        op: CompareOp,
-        left: Part<'a>,
-        right: Part<'a>,
-    },
-    Not {
-        at: Place,
-        value: Part<'a>,
-    },
-    Id {
-        at: Place,
-        name: &'a Name,
-    },
-    Int {
-        at: Place,
-        value: u32,
-    },
-    Str {
-        at: Place,
-        bytes: &'a Bytes,
-    },
-    Bool {
-        at: Place,
-        value: bool,
-    },
-}
-
 impl<'a> Part<'a> {
     /// The whole expression of a body.
     pub(crate) fn whole(body: &'a Body) -> Part<'a>
@@ -197,235 +101,42 @@ impl<'a> Part<'a> {
         }
     }
 
-    /// The expression with its parts.
-    pub(crate) fn form(self) -> Form<'a>
-        ensures { form_tree result ≡ self.entry }
+    /// The body, the expression's number there, and its node, whose parts have smaller numbers.
+    #[inline(always)]
+    pub(crate) fn open(self) -> (&'a Body, NodeId, &'a Node)
+        ensures below { result.1.0 < tree_size result.0.now }
+        ensures tree { self.entry ≡ made (all_trees result.0.now) result.2.now }
+        ensures parts { HasPartsBelow result.1.0 result.2.now }
     {
-        let (body, id) = (self.body, self.id);
-        let node = body.node(id);
-        match node {
-            Node::Dispatch { .. } | Node::StaticDispatch { .. } => call_of(body, id, node),
-            Node::Let { .. } | Node::Case { .. } => binding_of(body, id, node),
-            Node::If { .. } | Node::While { .. } | Node::Block { .. } => control_of(body, id, node),
-            Node::Assign { .. } | Node::IsVoid { .. } | Node::Neg { .. } | Node::Not { .. } => {
-                unary_of(body, id, node)
-            }
-            Node::Arith { .. } | Node::Compare { .. } => binary_of(body, id, node),
-            Node::New { .. }
-            | Node::Id { .. }
-            | Node::Int { .. }
-            | Node::Str { .. }
-            | Node::Bool { .. } => leaf_of(body, node),
-        }
+        (self.body, self.id, self.body.node(self.id))
     }
 }
 
 /// The expression of this number.
-fn part_at<'a>(body: &'a Body, id: NodeId) -> Part<'a>
+#[inline(always)]
+pub(crate) fn part_at<'a>(body: &'a Body, id: NodeId) -> Part<'a>
     requires below { id.0 < tree_size body.now }
     ensures { result ≡ tree_at body.now id }
 {
     Part { body, id }
 }
 
-/// A dispatch, whose parts have numbers below this one.
-fn call_of<'a>(body: &'a Body, id: NodeId, node: &'a Node) -> Form<'a>
-    requires group { IsCall node.now }
-    requires below { id.0 < tree_size body.now }
-    requires parts { HasPartsBelow id.0 node.now }
-    ensures { form_tree result ≡ made (all_trees body.now) node.now }
+/// The expressions of these numbers.
+#[inline(always)]
+pub(crate) fn parts_at<'a>(body: &'a Body, ids: &'a [NodeId]) -> Parts<'a>
+    requires below { AllByRecursion (λ id. id.0 < tree_size body.now) ids.now }
+    ensures { result ≡ map (at_id (all_trees body.now)) ids.now }
 {
-    match node {
-        Node::Dispatch {
-            at,
-            receiver,
-            name,
-            args,
-        } => Form::Dispatch {
-            at: *at,
-            receiver: part_at(body, *receiver),
-            name,
-            args: Parts {
-                body,
-                ids: args.as_slice(),
-            },
-        },
-        Node::StaticDispatch {
-            at,
-            receiver,
-            class,
-            name,
-            args,
-        } => Form::StaticDispatch {
-            at: *at,
-            receiver: part_at(body, *receiver),
-            class,
-            name,
-            args: Parts {
-                body,
-                ids: args.as_slice(),
-            },
-        },
-        _ => unreachable!(),
-    }
+    Parts { body, ids }
 }
 
-/// A condition, a loop or a block, whose parts have numbers below this one.
-fn control_of<'a>(body: &'a Body, id: NodeId, node: &'a Node) -> Form<'a>
-    requires group { IsControl node.now }
-    requires below { id.0 < tree_size body.now }
-    requires parts { HasPartsBelow id.0 node.now }
-    ensures { form_tree result ≡ made (all_trees body.now) node.now }
+/// These branches.
+#[inline(always)]
+pub(crate) fn twigs_at<'a>(body: &'a Body, branches: &'a [NodeBranch]) -> Twigs<'a>
+    requires below { AllByRecursion (λ b. b.body.0 < tree_size body.now) branches.now }
+    ensures { result ≡ map (twig_at (all_trees body.now)) branches.now }
 {
-    match node {
-        Node::If { at, test, yes, no } => Form::If {
-            at: *at,
-            test: part_at(body, *test),
-            yes: part_at(body, *yes),
-            no: part_at(body, *no),
-        },
-        Node::While {
-            at,
-            test,
-            body: turn,
-        } => Form::While {
-            at: *at,
-            test: part_at(body, *test),
-            body: part_at(body, *turn),
-        },
-        Node::Block { at, items } => Form::Block {
-            at: *at,
-            items: Parts {
-                body,
-                ids: items.as_slice(),
-            },
-        },
-        _ => unreachable!(),
-    }
-}
-
-/// A binding or a case, whose parts have numbers below this one.
-fn binding_of<'a>(body: &'a Body, id: NodeId, node: &'a Node) -> Form<'a>
-    requires group { IsBinding node.now }
-    requires below { id.0 < tree_size body.now }
-    requires parts { HasPartsBelow id.0 node.now }
-    ensures { form_tree result ≡ made (all_trees body.now) node.now }
-{
-    match node {
-        Node::Let {
-            at,
-            name,
-            declared,
-            init,
-            body: inner,
-        } => Form::Let {
-            at: *at,
-            name,
-            declared,
-            init: match init {
-                Some(id) => Some(part_at(body, *id)),
-                None => None,
-            },
-            body: part_at(body, *inner),
-        },
-        Node::Case {
-            at,
-            value,
-            branches,
-        } => Form::Case {
-            at: *at,
-            value: part_at(body, *value),
-            branches: Twigs {
-                body,
-                branches: branches.as_slice(),
-            },
-        },
-        _ => unreachable!(),
-    }
-}
-
-/// An assignment or a prefix operator, whose part has a number below this one.
-fn unary_of<'a>(body: &'a Body, id: NodeId, node: &'a Node) -> Form<'a>
-    requires group { IsUnary node.now }
-    requires below { id.0 < tree_size body.now }
-    requires parts { HasPartsBelow id.0 node.now }
-    ensures { form_tree result ≡ made (all_trees body.now) node.now }
-{
-    match node {
-        Node::Assign { at, name, value } => Form::Assign {
-            at: *at,
-            name,
-            value: part_at(body, *value),
-        },
-        Node::IsVoid { at, value } => Form::IsVoid {
-            at: *at,
-            value: part_at(body, *value),
-        },
-        Node::Neg { at, value } => Form::Neg {
-            at: *at,
-            value: part_at(body, *value),
-        },
-        Node::Not { at, value } => Form::Not {
-            at: *at,
-            value: part_at(body, *value),
-        },
-        _ => unreachable!(),
-    }
-}
-
-/// An operator between two operands, whose parts have numbers below this one.
-fn binary_of<'a>(body: &'a Body, id: NodeId, node: &'a Node) -> Form<'a>
-    requires group { IsBinary node.now }
-    requires below { id.0 < tree_size body.now }
-    requires parts { HasPartsBelow id.0 node.now }
-    ensures { form_tree result ≡ made (all_trees body.now) node.now }
-{
-    match node {
-        Node::Arith {
-            at,
-            op,
-            left,
-            right,
-        } => Form::Arith {
-            at: *at,
-            op: *op,
-            left: part_at(body, *left),
-            right: part_at(body, *right),
-        },
-        Node::Compare {
-            at,
-            op,
-            left,
-            right,
-        } => Form::Compare {
-            at: *at,
-            op: *op,
-            left: part_at(body, *left),
-            right: part_at(body, *right),
-        },
-        _ => unreachable!(),
-    }
-}
-
-/// An expression with no other in it.
-fn leaf_of<'a>(body: &'a Body, node: &'a Node) -> Form<'a>
-    requires group { IsLeaf node.now }
-    ensures { form_tree result ≡ made (all_trees body.now) node.now }
-{
-    match node {
-        Node::New { at, class } => Form::New { at: *at, class },
-        Node::Id { at, name } => Form::Id { at: *at, name },
-        Node::Int { at, value } => Form::Int {
-            at: *at,
-            value: *value,
-        },
-        Node::Str { at, bytes } => Form::Str { at: *at, bytes },
-        Node::Bool { at, value } => Form::Bool {
-            at: *at,
-            value: *value,
-        },
-        _ => unreachable!(),
-    }
+    Twigs { body, branches }
 }
 
 impl<'a> Parts<'a> {

@@ -91,6 +91,7 @@ impl<'a> Setting<'a> {
     }
 
     /// The location of an attribute of an object. `Stuck` comes where it has none of this name.
+    #[inline(always)]
     fn attribute(&self, object: &Object, name: &Name) -> Result<usize, Ending>
         requires ready { IsReady self.now.table.now self.now.layouts.now }
         ensures location { IsLocation (environment_of self.now.table.now (values.Obj object.now.class object.now.identity (locations_from object.now.first object.now.count))) name.now result }
@@ -188,6 +189,7 @@ impl<'a> Setting<'a> {
 
 impl<'a> Scene<'a> {
     /// The location of a name: that of the latest variable of this name, or else of the attribute. `Stuck` comes where there is none.
+    #[inline(always)]
     pub(crate) fn location(&self, setting: &Setting<'a>, name: &Name) -> Result<usize, Ending>
         requires ready { IsReady setting.now.table.now setting.now.layouts.now }
         ensures location { IsLocation (env_of setting.now.table.now self.now) name.now result }

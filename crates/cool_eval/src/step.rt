@@ -33,6 +33,7 @@ use cool_ports::{Sink, Source};
 use cool_syntax::{Name, Place};
 
 /// A value comes to what waits for it.
+#[inline(always)]
 #[tactic(auto, using(crate::proofs::QuietFrames::quiet_else, crate::proofs::QuietSteps::quiet_counts, crate::proofs::QuietSteps::quiet_faults, cool_ports::proofs::InputsInParts::took_nothing), unfolding(crate::specs::Machine::returned))]
 fn give<'a, S: Source, K: Sink>(
     setting: &Setting<'a>,
@@ -63,6 +64,7 @@ fn give<'a, S: Source, K: Sink>(
 }
 
 /// A value comes to what waits for it and calls no method.
+#[inline(always)]
 #[tactic(auto, using(crate::proofs::StoredValues::stored_more), unfolding(crate::specs::Machine::returned))]
 fn resume<'a>(
     setting: &Setting<'a>,
@@ -262,6 +264,7 @@ pub(crate) fn first<'a>(
 }
 
 /// One step. `Ok(None)` comes where the value of the whole was returned.
+#[inline(always)]
 #[tactic(auto, using(crate::proofs::QuietSteps::quiet_counts, crate::proofs::QuietSteps::quiet_faults, cool_ports::proofs::InputsInParts::took_nothing))]
 pub(crate) fn step<'a, S: Source, K: Sink>(
     setting: &Setting<'a>,

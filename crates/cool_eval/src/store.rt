@@ -74,6 +74,7 @@ impl Store {
     }
 
     /// The value at a location.
+    #[inline(always)]
     pub(crate) fn load(&self, location: usize) -> Result<Value, Ending>
         ensures loaded { IsLoaded self.now.values location result }
         ensures inner { IfErr result IsInner }

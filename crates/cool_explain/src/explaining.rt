@@ -19,7 +19,7 @@ use crate::note::{BAD_COMMAND_LINE, FILES_NOT_READ};
 use crate::text::text_of;
 use cool_mend::{Explained, Explanation, explain};
 use cool_ports::{Failed, Shelf, Sink, put_pieces};
-use cool_sources::{Status, read_files, tell};
+use cool_sources::{Status, read_sources, tell};
 use cool_syntax::MOST_FILES;
 use std::alloc::{AllocError, Global};
 
@@ -128,7 +128,7 @@ fn names_answer<F: Shelf>(
     if names.len() > MOST_FILES {
         return Err(Status::FileFault);
     }
-    let contents = read_files(alloc, names, files)?;
+    let contents = read_sources(alloc, names, files)?;
     Ok(files_answer(alloc, form, names, &contents)?)
 }
 

@@ -49,9 +49,6 @@ module _ (p : List Class) (r : IsRooted p) (n : ℕ) (all : List Table) (are : A
   in_table : k < length p
   in_table = let l = are.low in omega arith
 
-  pub above_low : (j : ℕ) → t.above ≡ Some j → j < k
-  above_low j e = (subst (IsAbove p k) e table_here.above).0
-
   pub found_here : (f : List ℕ) (s : ℕ) → lookup (bytes_eq f) (slots_shown t.own.entries) ≡ Some s → slot p (class_of p k) f ≡ Some s
   found_here f s e = ap (position_in f) (sym (slots_are p r k in_table t.above table_here.above)) ∙ table_here.table.found f s e
 

@@ -13,25 +13,12 @@ use Rattle.cool_names.specs.Programs.{class_marks, feature_marks, features_marks
 use Rattle.cool_names.specs.Scopes.{Variable, entered}
 use Rattle.lists.proofs.ItemsLeft.{drop_one}
 
--- the name of a formal's type, after a sign, is followed by those after it
-pub name_later : (text sign : List ℕ) (fs : List Formal) (i : ℕ) (f : Formal) → i < length fs → f ≡ get_or fs i f
-    → ((text ++ sign) ++ f.declared.name) ++ separated (codes ",") (map (λ (g : Formal). g.declared.name) (drop (i + 1) fs)) ≡ text ++ separated sign (map (λ (g : Formal). g.declared.name) (drop i fs))
-name_later text sign fs i f within is =
-    let rest = separated (codes ",") (map (λ (g : Formal). g.declared.name) (drop (i + 1) fs)) in
-    append_assoc (text ++ sign) f.declared.name rest ∙ append_assoc text sign (f.declared.name ++ rest)
-    ∙ sym (ap (λ (gs : List Formal). text ++ separated sign (map (λ (g : Formal). g.declared.name) gs)) (drop_one fs i f within is))
-
 -- the marks of a formal come before those of the formals after it
 pub formals_later : (p : List Class) (ds : List ClassDef) (before : List Mark) (fs : List Formal) (i : ℕ) (f : Formal) → i < length fs → f ≡ get_or fs i f
     → (before ++ declared_marks p ds role.Formal f.at f.name f.declared) ++ formals_marks p ds (drop (i + 1) fs) ≡ before ++ formals_marks p ds (drop i fs)
 formals_later p ds before fs i f within is =
     append_assoc before (declared_marks p ds role.Formal f.at f.name f.declared) (formals_marks p ds (drop (i + 1) fs))
     ∙ sym (ap (λ (gs : List Formal). before ++ formals_marks p ds gs) (drop_one fs i f within is))
-
--- a formal is entered before those after it
-pub entered_later : (fs : List Formal) (scope : List Variable) (i : ℕ) (f : Formal) → i < length fs → f ≡ get_or fs i f
-    → entered (map formal_variable (drop (i + 1) fs)) (formal_variable f ∷ scope) ≡ entered (map formal_variable (drop i fs)) scope
-entered_later fs scope i f within is = sym (ap (λ (gs : List Formal). entered (map formal_variable gs) scope) (drop_one fs i f within is))
 
 -- the marks of a feature come before those of the features after it
 pub features_later : (s : Context) (before : List Mark) (fs : List Feature) (i : ℕ) (f : Feature) → i < length fs → f ≡ get_or fs i f

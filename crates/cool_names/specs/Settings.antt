@@ -27,16 +27,3 @@ context s = record { table = s.program.table.now; definitions = s.program.defini
 pub record IsReady (s : Setting) (number : ℕ) : Type 0 where
   pub sound : IsSound s
   pub below : number < tree_size s.body.now
-
--- the trees that parts of the body in a setting stand for
-abbrev pub tree_of_node : Setting → Node → Tree
-tree_of_node s node = made (all_trees s.body.now) node
-
-abbrev pub trees_of : Setting → List NodeId → Trees
-trees_of s ids = of_list (map (at_id (all_trees s.body.now)) ids)
-
-abbrev pub maybe_tree_of : Setting → Option NodeId → MaybeTree
-maybe_tree_of s id = of_option (option_map (at_id (all_trees s.body.now)) id)
-
-abbrev pub cases_of : Setting → List NodeBranch → Cases
-cases_of s branches = of_twigs (map (twig_at (all_trees s.body.now)) branches)

@@ -3,10 +3,10 @@
 ghost use Rattle.std.specs.Prelude.{◌≡◌, ◌<◌, ◌∷◌, ◌++◌, IfSome, OnOk};
 ghost use Rattle.std.specs.List.{AllByRecursion};
 ghost use Rattle.cool_syntax.specs.NodeGroups.{IsBinding};
-ghost use Rattle.cool_syntax.specs.NodeLists.{tree_at, HasPartsBelow};
+ghost use Rattle.cool_syntax.specs.NodeLists.{tree_at, HasPartsBelow, cases_of, maybe_tree_of, tree_of_node};
 ghost use Rattle.cool_names.specs.Marks.{marks_of, marks_of_cases, marks_of_maybe};
 ghost use Rattle.cool_names.specs.Scopes.{variable_of};
-ghost use Rattle.cool_names.specs.Settings.{IsReady, cases_of, context, maybe_tree_of, tree_of_node};
+ghost use Rattle.cool_names.specs.Settings.{IsReady, context};
 
 use crate::expression::add_marks;
 use crate::mark::{Mark, Role};
@@ -28,7 +28,7 @@ pub(crate) fn add_binding<'a>(
     requires parts { HasPartsBelow id.0 node.now }
     requires ready { IsReady setting.now id.0 }
     ensures scope { OnOk result (locals.new ≡ locals.old) }
-    ensures marks { OnOk result (marks.new.items ≡ marks.old.items ++ marks_of (context setting.now) locals.old (tree_of_node setting.now node.now)) }
+    ensures marks { OnOk result (marks.new.items ≡ marks.old.items ++ marks_of (context setting.now) locals.old (tree_of_node setting.now.body.now node.now)) }
 {
     match node {
         Node::Let {
@@ -73,7 +73,7 @@ fn add_option<'a>(
     requires init { IfSome init (λ value. value.0 < end.0) }
     requires ready { IsReady setting.now end.0 }
     ensures scope { OnOk result (locals.new ≡ locals.old) }
-    ensures marks { OnOk result (marks.new.items ≡ marks.old.items ++ marks_of_maybe (context setting.now) locals.old (maybe_tree_of setting.now init)) }
+    ensures marks { OnOk result (marks.new.items ≡ marks.old.items ++ marks_of_maybe (context setting.now) locals.old (maybe_tree_of setting.now.body.now init)) }
 {
     match init {
         Some(value) => add_marks(setting, locals, marks, value),
@@ -112,7 +112,7 @@ fn add_branches<'a>(
     requires branches { AllByRecursion (λ branch. branch.body.0 < end.0) branches.now }
     requires ready { IsReady setting.now end.0 }
     ensures scope { OnOk result (locals.new ≡ locals.old) }
-    ensures marks { OnOk result (marks.new.items ≡ marks.old.items ++ marks_of_cases (context setting.now) locals.old (cases_of setting.now branches.now)) }
+    ensures marks { OnOk result (marks.new.items ≡ marks.old.items ++ marks_of_cases (context setting.now) locals.old (cases_of setting.now.body.now branches.now)) }
 {
     for branch in branches {
         setting.program.add_declared(marks, Role::Case, branch.at, &branch.name, &branch.declared)?;

@@ -2,10 +2,10 @@
 
 ghost use Rattle.std.specs.Prelude.{◌≡◌, ◌<◌, ◌++◌, IfSome, OnOk, [], if◌then◌else◌};
 ghost use Rattle.cool_syntax.specs.NodeGroups.{IsCall};
-ghost use Rattle.cool_syntax.specs.NodeLists.{tree_at, HasPartsBelow};
+ghost use Rattle.cool_syntax.specs.NodeLists.{tree_at, HasPartsBelow, tree_of_node};
 ghost use Rattle.cool_rules.specs.Conformance.{IsType};
 ghost use Rattle.cool_names.specs.Marks.{is_written, marks_of, seen_type};
-ghost use Rattle.cool_names.specs.Settings.{IsReady, context, tree_of_node};
+ghost use Rattle.cool_names.specs.Settings.{IsReady, context};
 
 use crate::expression::{add_all, add_marks};
 use crate::mark::Mark;
@@ -28,7 +28,7 @@ pub(crate) fn add_call<'a>(
     requires parts { HasPartsBelow id.0 node.now }
     requires ready { IsReady setting.now id.0 }
     ensures scope { OnOk result (locals.new ≡ locals.old) }
-    ensures marks { OnOk result (marks.new.items ≡ marks.old.items ++ marks_of (context setting.now) locals.old (tree_of_node setting.now node.now)) }
+    ensures marks { OnOk result (marks.new.items ≡ marks.old.items ++ marks_of (context setting.now) locals.old (tree_of_node setting.now.body.now node.now)) }
 {
     match node {
         Node::Dispatch {

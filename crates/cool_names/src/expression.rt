@@ -3,9 +3,9 @@
 ghost use Rattle.std.specs.Prelude.{◌≡◌, ◌<◌, ◌++◌, OnOk, IfSome};
 ghost use Rattle.std.specs.List.{AllByRecursion};
 ghost use Rattle.cool_syntax.specs.NodeGroups.{IsBinary, IsControl, IsLeaf, IsUnary};
-ghost use Rattle.cool_syntax.specs.NodeLists.{tree_at, HasPartsBelow};
+ghost use Rattle.cool_syntax.specs.NodeLists.{tree_at, HasPartsBelow, tree_of_node, trees_of};
 ghost use Rattle.cool_names.specs.Marks.{marks_of, marks_of_all};
-ghost use Rattle.cool_names.specs.Settings.{IsReady, IsSound, context, tree_of_node, trees_of};
+ghost use Rattle.cool_names.specs.Settings.{IsReady, IsSound, context};
 
 use crate::binding::add_binding;
 use crate::call::add_call;
@@ -60,7 +60,7 @@ fn add_leaf<'a>(
 ) -> Result<(), AllocError>
     requires group { IsLeaf node.now }
     requires sound { IsSound setting.now }
-    ensures { OnOk result (marks.new.items ≡ marks.old.items ++ marks_of (context setting.now) locals.now (tree_of_node setting.now node.now)) }
+    ensures { OnOk result (marks.new.items ≡ marks.old.items ++ marks_of (context setting.now) locals.now (tree_of_node setting.now.body.now node.now)) }
 {
     match node {
         Node::Id { at, name } => {
@@ -86,7 +86,7 @@ fn add_unary<'a>(
     requires parts { HasPartsBelow id.0 node.now }
     requires ready { IsReady setting.now id.0 }
     ensures scope { OnOk result (locals.new ≡ locals.old) }
-    ensures marks { OnOk result (marks.new.items ≡ marks.old.items ++ marks_of (context setting.now) locals.old (tree_of_node setting.now node.now)) }
+    ensures marks { OnOk result (marks.new.items ≡ marks.old.items ++ marks_of (context setting.now) locals.old (tree_of_node setting.now.body.now node.now)) }
 {
     match node {
         Node::Assign { at, name, value } => {
@@ -113,7 +113,7 @@ fn add_control<'a>(
     requires parts { HasPartsBelow id.0 node.now }
     requires ready { IsReady setting.now id.0 }
     ensures scope { OnOk result (locals.new ≡ locals.old) }
-    ensures marks { OnOk result (marks.new.items ≡ marks.old.items ++ marks_of (context setting.now) locals.old (tree_of_node setting.now node.now)) }
+    ensures marks { OnOk result (marks.new.items ≡ marks.old.items ++ marks_of (context setting.now) locals.old (tree_of_node setting.now.body.now node.now)) }
 {
     match node {
         Node::If { test, yes, no, .. } => {
@@ -142,7 +142,7 @@ pub(crate) fn add_all<'a>(
     requires items { AllByRecursion (λ item. item.0 < end.0) items.now }
     requires ready { IsReady setting.now end.0 }
     ensures scope { OnOk result (locals.new ≡ locals.old) }
-    ensures marks { OnOk result (marks.new.items ≡ marks.old.items ++ marks_of_all (context setting.now) locals.old (trees_of setting.now items.now)) }
+    ensures marks { OnOk result (marks.new.items ≡ marks.old.items ++ marks_of_all (context setting.now) locals.old (trees_of setting.now.body.now items.now)) }
 {
     for item in items {
         add_marks(setting, locals, marks, *item)?;

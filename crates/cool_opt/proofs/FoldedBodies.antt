@@ -28,9 +28,10 @@ use Rattle.cool_opt.specs.declared.place.Placed.{Placed}
 use Rattle.cool_opt.specs.declared.setting.Setting.{Setting}
 use Rattle.cool_opt.specs.Definers.{AreDefiners}
 use Rattle.cool_rules.specs.NodeScopes.{expression_of, feature_scope}
+use Rattle.cool_rules.specs.Scopes.{AreTypes}
 use Rattle.cool_opt.specs.FoldedNodes.{FoldsPart}
 use Rattle.cool_opt.specs.Folding.{fold_feature, fold_option}
-use Rattle.cool_opt.specs.Settings.{typed_body, HaveTypes, IsSound}
+use Rattle.cool_opt.specs.Settings.{typed_body, IsSound}
 use Rattle.cool_opt.specs.Shrinking.{shrunk}
 use Rattle.cool_opt.proofs.FoldedFeatures.{FoldsInit, feature_folds}
 use Rattle.cool_opt.proofs.TypesInScope.{own_typed, scope_typed}
@@ -38,7 +39,7 @@ use Rattle.lists.proofs.AllItems.{all_get}
 
 -- the expression of a feature, in its scope: the types of its nodes, what it is folded to, and the types of the nodes of that
 pub record FoldsBody (p : List Class) (c : ClassId) (x : Feature) (e : Tree) : Type 0 where
-  pub types : HaveTypes p (feature_scope p c x)
+  pub types : AreTypes p (feature_scope p c x)
   pub column : feature_types p c x ≡ node_types p c (feature_scope p c x) e
   pub body : Some (shrunk p c (feature_scope p c x) e) ≡ expression_of (fold_feature p c x)
   pub folded : node_types p c (feature_scope p c x) (shrunk p c (feature_scope p c x) e) ≡ feature_types p c (fold_feature p c x)
@@ -106,7 +107,7 @@ module _ (s : Setting) (p : List Class) (same : s.table.now ≡ p) (x : Feature)
       → (after.nodes.items ≡ nodes 0 (shrunk p s.class (feature_scope p s.class x) s.body.now)) × (after.types.held ≡ feature_types p s.class (fold_feature p s.class x))
   whole_folded id before after f last tree none no_types part =
       let scope = feature_scope p s.class x in
-      let types : HaveTypes s.table.now scope = subst (λ (q : List Class). HaveTypes q scope) (sym same) folds.types in
+      let types : AreTypes s.table.now scope = subst (λ (q : List Class). AreTypes q scope) (sym same) folds.types in
       let h = part scope types (subst (IsPart (typed_body s) scope) (sym last) whole_part) in (
         h.placed ∙ (λ i. none i ++ nodes (length (none i)) (shrunk (same i) s.class scope (tree i))),
         h.typed (ap length no_types ∙ sym (ap length none))

@@ -10,7 +10,7 @@ use Rattle.cool_classes.specs.Chains.{Class, name_of, Below}
 use Rattle.cool_classes.specs.Features.{Denotes}
 use Rattle.cool_rules.specs.Conformance.{class_of as class_meant}
 use Rattle.cool_rules.specs.Conformance.{IsType}
-use Rattle.cool_rules.specs.Scopes.{Binding}
+use Rattle.cool_rules.specs.Scopes.{AreTypes, Binding}
 use Rattle.cool_rules.specs.Typing.{int_type, bool_type, object_type, with_name, HasType, HaveTypes, HaveItems, HasInit, HaveBranches}
 use Rattle.cool_rules.specs.TypedTables.{IsTypedTable}
 use Rattle.cool_meaning.specs.Values.{Value, Void, Int, Bool as Truth, Str, class_of, default_of, Environment}
@@ -49,10 +49,6 @@ module _ (p p' : List Class) (typed : IsTypedTable p) (same_tables : SameTables 
     (within : c.0 < length p) where
   abbrev IsOf : Ty → World → Value → Type 0
   IsOf t w v = Fits p w v (class_meant k t)
-
-  abbrev AreTypes : List Binding → Type 0
-  AreTypes scope = AllByRecursion (λ (x : Binding). IsType p x.type) scope
-
   -- New objects
 
   new_keeps : (w : World) (scope : List Binding) (env : Environment) (name : List ℕ) (t : Ty) → Scene p w c k self scope env → Denotes p name t
@@ -89,7 +85,7 @@ module _ (p p' : List Class) (typed : IsTypedTable p) (same_tables : SameTables 
   -- Expressions
 
   mutual
-    pub folds : (t : Tree) (w : World) (scope : List Binding) (env : Environment) (type : Ty) → AreTypes scope → Scene p w c k self scope env → HasType p c scope t type
+    pub folds : (t : Tree) (w : World) (scope : List Binding) (env : Environment) (type : Ty) → AreTypes p scope → Scene p w c k self scope env → HasType p c scope t type
         → Keeps p b w (eval p calls self env t) (eval p' calls' self env (fold p c scope t))
     folds (trees.Id at name) w scope env type types scene h = keeps_same (rule (value_named self env name))
     folds (trees.Int at n) w scope env type types scene h = keeps_same (rule (give (Int (signed n))))
@@ -158,7 +154,7 @@ module _ (p p' : List Class) (typed : IsTypedTable p) (same_tables : SameTables 
         (λ w2 x g2 fit1. keeps_same (compare op v x)))))
         (compare_row p' calls' self env at op (fold p c scope e) (fold p c scope f))
 
-    pub folds_all : (ts : Trees) (w : World) (scope : List Binding) (env : Environment) (given' : List Ty) → AreTypes scope → Scene p w c k self scope env → HaveTypes p c scope ts given'
+    pub folds_all : (ts : Trees) (w : World) (scope : List Binding) (env : Environment) (given' : List Ty) → AreTypes p scope → Scene p w c k self scope env → HaveTypes p c scope ts given'
         → Keeps p b w (eval_all p calls self env ts) (eval_all p' calls' self env (fold_all p c scope ts))
     folds_all Last w scope env given' types scene h = keeps_same (give [])
     folds_all (More e es) w scope env [] types scene h = absurd h
@@ -167,19 +163,19 @@ module _ (p p' : List Class) (typed : IsTypedTable p) (same_tables : SameTables 
         holding_keeps 1 (bind_keeps {Q = λ w' vs. AllFit p w' vs (map (class_meant k) ts)} (all_sound p typed calls b calls_sound c k self es w1 scope env ts (scene_later p w w1 c k self scope env g1 scene) h.1)
         (folds_all es w1 scope env ts types (scene_later p w w1 c k self scope env g1 scene) h.1) (λ w2 vs g2 fits. keeps_same (give (v ∷ vs)))))
 
-    folds_items : (ts : Trees) (w : World) (scope : List Binding) (env : Environment) (v : Value) (before type : Ty) → AreTypes scope → Scene p w c k self scope env → HaveItems p c scope before ts type
+    folds_items : (ts : Trees) (w : World) (scope : List Binding) (env : Environment) (v : Value) (before type : Ty) → AreTypes p scope → Scene p w c k self scope env → HaveItems p c scope before ts type
         → Keeps p b w (eval_items p calls self env v ts) (eval_items p' calls' self env v (fold_all p c scope ts))
     folds_items Last w scope env v before type types scene h = keeps_same (give v)
     folds_items (More e es) w scope env v before type types scene (t, has, have) =
         bind_keeps {Q = IsOf t} (eval_sound p typed calls b calls_sound c k self e w scope env t scene has) (folds e w scope env t types scene has) (λ w1 u g1 fit.
         folds_items es w1 scope env u t type types (scene_later p w w1 c k self scope env g1 scene) have)
 
-    folds_maybe : (o : MaybeTree) (w : World) (scope : List Binding) (env : Environment) (name : List ℕ) (bound : Ty) → AreTypes scope → Scene p w c k self scope env → HasInit p c scope bound o
+    folds_maybe : (o : MaybeTree) (w : World) (scope : List Binding) (env : Environment) (name : List ℕ) (bound : Ty) → AreTypes p scope → Scene p w c k self scope env → HasInit p c scope bound o
         → Keeps p b w (eval_init p calls self env name o) (eval_init p' calls' self env name (fold_maybe p c scope o))
     folds_maybe Without w scope env name bound types scene h = keeps_same (give (default_of name))
     folds_maybe (With e) w scope env name bound types scene (t, has, conforms) = folds e w scope env t types scene has
 
-    kept_branches : (cs : Cases) (w : World) (scope : List Binding) (env : Environment) (ts : List Ty) → AreTypes scope → Scene p w c k self scope env → HaveBranches p c scope cs ts → (d : ClassId) → d.0 < length p
+    kept_branches : (cs : Cases) (w : World) (scope : List Binding) (env : Environment) (ts : List Ty) → AreTypes p scope → Scene p w c k self scope env → HaveBranches p c scope cs ts → (d : ClassId) → d.0 < length p
         → KeptBranch p p' typed same_tables calls calls' b calls_sound keep w d (branch_of p calls self env cs (name_of p d)) (branch_of p' calls' self env (fold_cases p c scope cs) (name_of p d))
     kept_branches NoCase w scope env [] types scene h d d_within = tt
     kept_branches NoCase w scope env (t ∷ ts) types scene h d d_within = absurd h

@@ -7,7 +7,7 @@ use Rattle.cool_syntax.specs.declared.file_tree.Feature.TheVariants.{Attribute}
 use Rattle.cool_syntax.specs.declared.file_tree.Feature.TheVariants.{Method}
 use Rattle.cool_classes.specs.declared.class_id.ClassId.{ClassId}
 use Rattle.cool_classes.specs.Chains.{Class, features_of}
-use Rattle.cool_rules.specs.Scopes.{Binding}
+use Rattle.cool_rules.specs.Scopes.{AreTypes, Binding}
 use Rattle.cool_rules.specs.Typing.{HasType}
 use Rattle.cool_rules.specs.Typing.{FitsDeclared, IsTypedInit, formals_in_scope, attributes_in_scope}
 use Rattle.cool_rules.specs.TypedTables.{IsTypedTable}
@@ -41,7 +41,7 @@ FoldsFeature p c (Method m) = FoldsDeclared p c (formals_in_scope p m.formals) m
 FoldsFeature p c (Attribute a) = FoldsInit p c a.declared.name a.init
 
 module _ (p : List Class) (typed : IsTypedTable p) where
-  declared_folds : (c : ClassId) → c.0 < length p → (inner : List Binding) → AllByRecursion (λ (x : Binding). IsType p x.type) inner → (e : Tree) (declared : List ℕ) → FitsDeclared p c inner e declared → FoldsDeclared p c inner e declared
+  declared_folds : (c : ClassId) → c.0 < length p → (inner : List Binding) → AreTypes p inner → (e : Tree) (declared : List ℕ) → FitsDeclared p c inner e declared → FoldsDeclared p c inner e declared
   declared_folds c within inner inner_types e declared f =
       let same : chain_of p c ≡ f.chain = chain_by p c f.chain f.is_chain in
       let scope_same : inner ++ attributes_in_scope p (attributes_of p f.chain) ≡ inner ++ own_scope p c = ap (λ (ds : List ClassId). inner ++ attributes_in_scope p (attributes_of p ds)) (sym same) in

@@ -14,7 +14,7 @@ use Rattle.cool_syntax.specs.Tree as trees
 use Rattle.cool_syntax.specs.NodeLists.{nodes, root}
 use Rattle.cool_classes.specs.declared.class_id.Ty.{Ty}
 use Rattle.cool_rules.specs.NodeTypes.{node_types, part_types}
-use Rattle.cool_rules.specs.Scopes.{Binding}
+use Rattle.cool_rules.specs.Scopes.{AreTypes, Binding}
 use Rattle.cool_rules.specs.StaticTypes.{type_of}
 use Rattle.cool_rules.specs.Typing.{bool_type, int_type}
 use Rattle.cool_meaning.specs.Evaluation.{is_void}
@@ -23,7 +23,7 @@ use Rattle.cool_opt.specs.declared.place.Found.{Found}
 use Rattle.cool_opt.specs.declared.place.Placed.{Placed}
 use Rattle.cool_opt.specs.declared.setting.Setting.{Setting}
 use Rattle.cool_opt.specs.Folding.{constant_in, exactly, number_in, number_or, result, truth_in}
-use Rattle.cool_opt.specs.Settings.{HaveTypes, IsSound}
+use Rattle.cool_opt.specs.Settings.{IsSound}
 use Rattle.cool_opt.specs.Shrinking.{compared, computed, negated, shrunk, truth_or}
 use Rattle.cool_opt.specs.FoldedNodes.{value_of, number_constant, truth_constant, with_number, with_truth, with_type, Folds, HasTypes}
 use Rattle.cool_opt.proofs.NodesPlaced.{more_nodes}
@@ -122,7 +122,7 @@ module _ (s : Setting) (scope : List Binding) where
         (subst (λ (q : Option Truth). OnOk answer (after.types.held ≡ with_type mid.types.held start bool_type q)) same typed))
         (subst (λ (q : Option Truth). IfOk answer (λ f. f.constant ≡ truth_constant q)) same constant) last
 
-    pub assign_folds : IsSound s → HaveTypes s.table.now scope → (at : Place) (name copy : List ℕ) (a : Tree) (type : Ty)
+    pub assign_folds : IsSound s → AreTypes s.table.now scope → (at : Place) (name copy : List ℕ) (a : Tree) (type : Ty)
         (mid : Placed) (f : Found) (answer : Result Found E) → type ≡ type_of s.table.now s.class scope (trees.Assign at name a) → copy ≡ name
         → Folds {E = E} s scope a before mid (Ok f)
         → OnOk answer (after.nodes.items ≡ mid.nodes.items ++ node.Assign at copy f.id ∷ []) → OnOk answer (after.types.held ≡ mid.types.held ++ type ∷ [])

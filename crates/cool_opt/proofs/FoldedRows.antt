@@ -10,7 +10,7 @@ use Rattle.cool_classes.specs.declared.class_id.ClassId.{ClassId}
 use Rattle.cool_classes.specs.declared.class_id.Ty.{Ty}
 use Rattle.cool_classes.specs.Chains.{Class}
 use Rattle.cool_rules.specs.NodeTypes.{node_types, part_types}
-use Rattle.cool_rules.specs.Scopes.{Binding}
+use Rattle.cool_rules.specs.Scopes.{AreTypes, Binding}
 use Rattle.cool_rules.specs.Typing.{bool_type, int_type}
 use Rattle.cool_meaning.specs.Numbers.{fits}
 use Rattle.cool_meaning.specs.Values.{Int}
@@ -20,7 +20,7 @@ use Rattle.cool_opt.specs.declared.place.Placed.{Placed}
 use Rattle.cool_opt.specs.declared.setting.Setting.{Setting}
 use Rattle.cool_rules.specs.StaticTypes.{type_of}
 use Rattle.cool_opt.specs.Folding.{constant_in, number_or}
-use Rattle.cool_opt.specs.Settings.{HaveTypes, IsSound}
+use Rattle.cool_opt.specs.Settings.{IsSound}
 use Rattle.cool_opt.specs.Shrinking.{shrunk, truth_or}
 use Rattle.cool_opt.specs.FoldedNodes.{value_of, number_constant, truth_constant, with_number, with_truth, with_type, Folds, HasTypes}
 use Rattle.cool_opt.proofs.NodesPlaced.{number_placed, truth_placed, last_is_root}
@@ -80,7 +80,7 @@ module _ (s : Setting) (scope : List Binding) (t : Tree) (before after : Placed)
   failed e = record { constant = tt; id = tt; placed = tt; typed = λ even. tt }
 
   -- a node that stays, of the type that the tree has
-  pub stays_folds : {E : Type 0} (sound : IsSound s) → HaveTypes s.table.now scope → (type : Ty) → type ≡ type_of s.table.now s.class scope t
+  pub stays_folds : {E : Type 0} (sound : IsSound s) → AreTypes s.table.now scope → (type : Ty) → type ≡ type_of s.table.now s.class scope t
       → (whole : Tree) (o : Option Constant) → shrunk s.table.now s.class scope t ≡ whole → value_of o ≡ constant_in whole
       → (mid : Placed) (n : Node) (result : Result Found E)
       → mid.nodes.items ++ n ∷ [] ≡ before.nodes.items ++ nodes (length before.nodes.items) whole

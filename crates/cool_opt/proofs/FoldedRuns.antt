@@ -16,7 +16,7 @@ use Rattle.cool_classes.proofs.AttributesOfChains.{attributes_have}
 use Rattle.cool_classes.proofs.Climbs.{all_within}
 use Rattle.cool_rules.specs.Conformance.{class_of as class_meant}
 use Rattle.cool_rules.specs.Conformance.{IsType}
-use Rattle.cool_rules.specs.Scopes.{Binding}
+use Rattle.cool_rules.specs.Scopes.{AreTypes, Binding}
 use Rattle.cool_rules.specs.Typing.{HasType}
 use Rattle.cool_rules.specs.Typing.{FitsDeclared, IsTypedInit, formals_in_scope, attributes_in_scope}
 use Rattle.cool_classes.specs.LawfulTables.{MayInherit}
@@ -79,7 +79,7 @@ module _ (p : List Class) (typed : IsTypedTable p) where
   module _ (calls calls' : Calls) (b : ℕ) (sound : AllCallsSound p calls b) (keep : AllCallsKeep p calls calls' b) where
     -- an expression that a feature declares, folded in the scope of its class
     declared_keeps : (w : World) (c k : ClassId) (self : Value) (inner : List Binding) (env : Environment) (e : Tree) (declared : List ℕ) → c.0 < length p → k.0 < length p → MayInherit k → Below p k c → class_of self ≡ Some k
-        → Fits p w self k → AllByRecursion (λ (x : Binding). IsType p x.type) inner → (f : FitsDeclared p c inner e declared) → Holds w k (inner ++ attributes_in_scope p (attributes_of p f.chain)) env
+        → Fits p w self k → AreTypes p inner → (f : FitsDeclared p c inner e declared) → Holds w k (inner ++ attributes_in_scope p (attributes_of p f.chain)) env
         → Keeps p b w (eval p calls self env e) (eval (fold_table p) calls' self env (fold p c (inner ++ own_scope p c) e))
     declared_keeps w c k self inner env e declared c_within within may below is fit inner_types f holds =
         let same : chain_of p c ≡ f.chain = chain_by p c f.chain f.is_chain in

@@ -17,7 +17,7 @@ use Rattle.cool_classes.proofs.AlikeTables.{FindSame, flipped}
 use Rattle.cool_classes.proofs.ChainsOfTables.{chain_of}
 use Rattle.cool_rules.specs.Conformance.{IsType}
 use Rattle.cool_rules.specs.Fits.{weight_of, Fits}
-use Rattle.cool_rules.specs.Scopes.{Binding}
+use Rattle.cool_rules.specs.Scopes.{AreTypes, Binding}
 use Rattle.cool_rules.specs.TypedTables.{IsTypedTable}
 use Rattle.cool_rules.specs.Typing.{FitsDeclared, IsTypedInit, formals_in_scope, attributes_in_scope, HasType}
 use Rattle.cool_rules.specs.NodeTypes.{own_scope}
@@ -84,7 +84,7 @@ rest_lighter p (suc n) k (d ∷ ds) = rest_lighter p n (k + 1) ds
 -- Names, constants and places
 
 module _ (p : List Class) (typed : IsTypedTable p) (count : ℕ) (fits : Fits p count) where
-  declared_within : (c : ClassId) → c.0 < length p → (inner : List Binding) → AllByRecursion (λ (x : Binding). IsType p x.type) inner
+  declared_within : (c : ClassId) → c.0 < length p → (inner : List Binding) → AreTypes p inner
       → (e : Tree) (declared : List ℕ) → FitsDeclared p c inner e declared → IsTreeWithin count e
       → IsTreeWithin count (fold p c (inner ++ own_scope p c) e)
   declared_within c within inner inner_types e declared f h =

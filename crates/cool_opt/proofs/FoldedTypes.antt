@@ -15,7 +15,7 @@ use Rattle.cool_classes.specs.Chains.{Class, name_of}
 use Rattle.cool_classes.specs.Tables.{IsWholeTable}
 use Rattle.cool_rules.specs.Conformance.{IsType, Conforms, class_of}
 use Rattle.cool_rules.specs.Rules.{same_type}
-use Rattle.cool_rules.specs.Scopes.{Binding}
+use Rattle.cool_rules.specs.Scopes.{AreTypes, Binding}
 use Rattle.cool_rules.specs.Typing.{bool_type, int_type, object_type, with_name, branch_types, IsCall, HasType, HaveTypes, HaveItems, HasInit, HaveBranches}
 use Rattle.cool_rules.proofs.ChainsOfTables.{below_itself}
 use Rattle.cool_rules.proofs.RulesOfTables.{meant_is}
@@ -29,9 +29,6 @@ use Rattle.cool_rules.proofs.StaticTypesAreGiven.{type_is, class_there}
 use Rattle.lists.specs.Different.{AreDifferent}
 
 module _ (p : List Class) (whole : IsWholeTable p) (c : ClassId) (within : c.0 < length p) where
-  abbrev AreTypes : List Binding → Type 0
-  AreTypes scope = AllByRecursion (λ (b : Binding). IsType p b.type) scope
-
   -- The rows
 
   number_typed : (scope : List Binding) (t : Tree) (at : Place) (type : Ty) (o : Option ℤ) → type ≡ int_type → HasType p c scope t type → HasType p c scope (number_or t at o) type
@@ -74,7 +71,7 @@ module _ (p : List Class) (whole : IsWholeTable p) (c : ClassId) (within : c.0 <
   void_typed scope at a type None is h = h
   void_typed scope at a type (Some v) is h = is
 
-  taken_typed : (scope : List Binding) (e part : Tree) (t type : Ty) → AreTypes scope → HasType p c scope e type → HasType p c scope part t → HasType p c scope (taken_by e part (type_of p c scope part) (type_of p c scope e)) type
+  taken_typed : (scope : List Binding) (e part : Tree) (t type : Ty) → AreTypes p scope → HasType p c scope e type → HasType p c scope part t → HasType p c scope (taken_by e part (type_of p c scope part) (type_of p c scope e)) type
   taken_typed scope e part t type types h g = by (same_type (type_of p c scope part) (type_of p c scope e)) refl
     where
       by : (x : Truth) → same_type (type_of p c scope part) (type_of p c scope e) ≡ x → HasType p c scope (if x then part else e) type
@@ -82,7 +79,7 @@ module _ (p : List Class) (whole : IsWholeTable p) (c : ClassId) (within : c.0 <
           subst (λ (u : Ty). HasType p c scope part u) (sym (type_is p whole c within part scope t types g) ∙ same_types (type_of p c scope part) (type_of p c scope e) is ∙ type_is p whole c within e scope type types h) g
       by false is = h
 
-  if_typed : (scope : List Binding) (at : Place) (e y n : Tree) (t u type : Ty) (o : Option Truth) → AreTypes scope → HasType p c scope (trees.If at e y n) type → HasType p c scope y t → HasType p c scope n u
+  if_typed : (scope : List Binding) (at : Place) (e y n : Tree) (t u type : Ty) (o : Option Truth) → AreTypes p scope → HasType p c scope (trees.If at e y n) type → HasType p c scope y t → HasType p c scope n u
       → HasType p c scope (if_by p c scope at e y n o) type
   if_typed scope at e y n t u type None types h g k = h
   if_typed scope at e y n t u type (Some true) types h g k = taken_typed scope (trees.If at e y n) y t type types h g
@@ -105,7 +102,7 @@ module _ (p : List Class) (whole : IsWholeTable p) (c : ClassId) (within : c.0 <
   branches_same scope (CaseOf at name declared e cs) = ap (λ (xs : List (List ℕ)). declared.name ∷ xs) (branches_same scope cs)
 
   mutual
-    pub still_typed : (e : Tree) (scope : List Binding) (type : Ty) → AreTypes scope → HasType p c scope e type → HasType p c scope (fold p c scope e) type
+    pub still_typed : (e : Tree) (scope : List Binding) (type : Ty) → AreTypes p scope → HasType p c scope e type → HasType p c scope (fold p c scope e) type
     still_typed (trees.Id at name) scope type types h = h
     still_typed (trees.Int at n) scope type types h = h
     still_typed (trees.Str at bytes) scope type types h = h
@@ -142,21 +139,21 @@ module _ (p : List Class) (whole : IsWholeTable p) (c : ClassId) (within : c.0 <
     still_typed (trees.Compare at op a b) scope type types (t, u, has, has1, comparable, is) =
         compare_typed scope at op (fold p c scope a) (fold p c scope b) type is (t, u, still_typed a scope t types has, still_typed b scope u types has1, comparable, is)
 
-    all_typed : (es : Trees) (scope : List Binding) (given : List Ty) → AreTypes scope → HaveTypes p c scope es given → HaveTypes p c scope (fold_all p c scope es) given
+    all_typed : (es : Trees) (scope : List Binding) (given : List Ty) → AreTypes p scope → HaveTypes p c scope es given → HaveTypes p c scope (fold_all p c scope es) given
     all_typed Last scope [] types h = tt
     all_typed Last scope (t ∷ ts) types h = absurd h
     all_typed (More e es) scope [] types h = absurd h
     all_typed (More e es) scope (t ∷ ts) types h = (still_typed e scope t types h.0, all_typed es scope ts types h.1)
 
-    items_typed : (es : Trees) (scope : List Binding) (before type : Ty) → AreTypes scope → HaveItems p c scope before es type → HaveItems p c scope before (fold_all p c scope es) type
+    items_typed : (es : Trees) (scope : List Binding) (before type : Ty) → AreTypes p scope → HaveItems p c scope before es type → HaveItems p c scope before (fold_all p c scope es) type
     items_typed Last scope before type types h = h
     items_typed (More e es) scope before type types (t, has, have) = (t, still_typed e scope t types has, items_typed es scope t type types have)
 
-    init_typed : (o : MaybeTree) (scope : List Binding) (bound : Ty) → AreTypes scope → HasInit p c scope bound o → HasInit p c scope bound (fold_maybe p c scope o)
+    init_typed : (o : MaybeTree) (scope : List Binding) (bound : Ty) → AreTypes p scope → HasInit p c scope bound o → HasInit p c scope bound (fold_maybe p c scope o)
     init_typed Without scope bound types h = tt
     init_typed (With e) scope bound types (t, has, conforms) = (t, still_typed e scope t types has, conforms)
 
-    branches_typed : (cs : Cases) (scope : List Binding) (ts : List Ty) → AreTypes scope → HaveBranches p c scope cs ts → HaveBranches p c scope (fold_cases p c scope cs) ts
+    branches_typed : (cs : Cases) (scope : List Binding) (ts : List Ty) → AreTypes p scope → HaveBranches p c scope cs ts → HaveBranches p c scope (fold_cases p c scope cs) ts
     branches_typed NoCase scope [] types h = tt
     branches_typed NoCase scope (t ∷ ts) types h = absurd h
     branches_typed (CaseOf at name declared e cs) scope [] types h = absurd h

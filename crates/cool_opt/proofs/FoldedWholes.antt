@@ -17,14 +17,14 @@ use Rattle.cool_classes.specs.Chains.{name_of}
 use Rattle.cool_rules.specs.Conformance.{class_of}
 use Rattle.cool_rules.specs.NodeTypes.{types_of_all, types_of_cases, types_of_maybe}
 use Rattle.cool_rules.specs.Rules.{join_in, same_type, type_meant}
-use Rattle.cool_rules.specs.Scopes.{Binding}
+use Rattle.cool_rules.specs.Scopes.{AreTypes, Binding}
 use Rattle.cool_rules.specs.StaticTypes.{type_of}
 use Rattle.cool_rules.specs.Typing.{with_name}
 use Rattle.cool_opt.specs.declared.place.Found.{Found}
 use Rattle.cool_opt.specs.declared.place.Placed.{Placed}
 use Rattle.cool_opt.specs.declared.setting.Setting.{Setting}
 use Rattle.cool_opt.specs.Folding.{constant_in, is_redefined, truth_in}
-use Rattle.cool_opt.specs.Settings.{HaveTypes, IsSound}
+use Rattle.cool_opt.specs.Settings.{IsSound}
 use Rattle.cool_opt.specs.Shrinking.{shrunk, shrunk_all, shrunk_cases, shrunk_maybe, taken}
 use Rattle.cool_opt.specs.FoldedNodes.{Folds, FoldsAll, FoldsCases, FoldsMaybe, HasTypes}
 use Rattle.cool_opt.proofs.NodesPlaced.{more_nodes}
@@ -52,7 +52,7 @@ module _ (s : Setting) (scope : List Binding) where
   abbrev small_all : Trees → Trees
   small_all es = shrunk_all s.table.now s.class scope es
 
-  module _ {E : Type 0} (sound : IsSound s) (types : HaveTypes s.table.now scope) (before after : Placed) where
+  module _ {E : Type 0} (sound : IsSound s) (types : AreTypes s.table.now scope) (before after : Placed) where
     pub while_folds : (at : Place) (a b : Tree) (test body : NodeId) (type : Ty) (first second : Placed) (f g : Found) (answer : Result Found E)
         → type ≡ type_of s.table.now s.class scope (trees.While at a b) → test ≡ f.id → body ≡ g.id
         → Folds {E = E} s scope a before first (Ok f) → Folds {E = E} s scope b first second (Ok g)

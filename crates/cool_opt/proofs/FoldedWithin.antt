@@ -19,7 +19,7 @@ use Rattle.cool_classes.specs.Chains.{Class, name_of}
 use Rattle.cool_classes.specs.Tables.{IsWholeTable}
 use Rattle.cool_rules.specs.Conformance.{IsType, class_of}
 use Rattle.cool_rules.specs.Rules.{same_type}
-use Rattle.cool_rules.specs.Scopes.{Binding}
+use Rattle.cool_rules.specs.Scopes.{AreTypes, Binding}
 use Rattle.cool_rules.specs.Typing.{bool_type, int_type, object_type, with_name, HasType, HaveTypes, HaveItems, HasInit, HaveBranches}
 use Rattle.cool_rules.proofs.RulesOfTables.{meant_is}
 use Rattle.cool_rules.proofs.RulesDecided.{denotes_type}
@@ -108,9 +108,6 @@ module _ (files : ℕ) where
 
 module _ (files : ℕ) (p : List Class) (whole : IsWholeTable p) (names : (k : ClassId) → k.0 < length p → IsTypeName (name_of p k)) (c : ClassId)
     (within : c.0 < length p) where
-  abbrev AreTypes : List Binding → Type 0
-  AreTypes scope = AllByRecursion (λ (b : Binding). IsType p b.type) scope
-
   if_within : (scope : List Binding) (at : Place) (e y n : Tree) (o : Option Truth) → IsTreeWithin files (trees.If at e y n)
       → IsTreeWithin files (if_by p c scope at e y n o)
   if_within scope at e y n None h = h
@@ -130,7 +127,7 @@ module _ (files : ℕ) (p : List Class) (whole : IsWholeTable p) (names : (k : C
       by false = (h.0, h.1, (names k inside, h.0), h.2, h.3)
 
   mutual
-    pub folded_within : (e : Tree) (scope : List Binding) (type : Ty) → AreTypes scope → HasType p c scope e type → IsTreeWithin files e
+    pub folded_within : (e : Tree) (scope : List Binding) (type : Ty) → AreTypes p scope → HasType p c scope e type → IsTreeWithin files e
         → IsTreeWithin files (fold p c scope e)
     folded_within (trees.Id at name) scope type types t h = h
     folded_within (trees.Int at n) scope type types t h = h
@@ -178,24 +175,24 @@ module _ (files : ℕ) (p : List Class) (whole : IsWholeTable p) (names : (k : C
         compare_within files at op (fold p c scope a) (fold p c scope b)
         (placed, folded_within a scope t types has h, folded_within b scope u types has1 g)
 
-    all_within : (es : Trees) (scope : List Binding) (given : List Ty) → AreTypes scope → HaveTypes p c scope es given → AreTreesWithin files es
+    all_within : (es : Trees) (scope : List Binding) (given : List Ty) → AreTypes p scope → HaveTypes p c scope es given → AreTreesWithin files es
         → AreTreesWithin files (fold_all p c scope es)
     all_within Last scope given types have hs = tt
     all_within (More e es) scope [] types have hs = absurd have
     all_within (More e es) scope (t ∷ ts) types (has, have) (h, hs) = (folded_within e scope t types has h, all_within es scope ts types have hs)
 
-    items_within : (es : Trees) (scope : List Binding) (before type : Ty) → AreTypes scope → HaveItems p c scope before es type
+    items_within : (es : Trees) (scope : List Binding) (before type : Ty) → AreTypes p scope → HaveItems p c scope before es type
         → AreTreesWithin files es → AreTreesWithin files (fold_all p c scope es)
     items_within Last scope before type types have hs = tt
     items_within (More e es) scope before type types (t, has, have) (h, hs) =
         (folded_within e scope t types has h, items_within es scope t type types have hs)
 
-    init_within : (o : MaybeTree) (scope : List Binding) (bound : Ty) → AreTypes scope → HasInit p c scope bound o → IsMaybeWithin files o
+    init_within : (o : MaybeTree) (scope : List Binding) (bound : Ty) → AreTypes p scope → HasInit p c scope bound o → IsMaybeWithin files o
         → IsMaybeWithin files (fold_maybe p c scope o)
     init_within Without scope bound types has h = tt
     init_within (With e) scope bound types (t, has, conforms) h = folded_within e scope t types has h
 
-    branches_within : (cs : Cases) (scope : List Binding) (ts : List Ty) → AreTypes scope → HaveBranches p c scope cs ts
+    branches_within : (cs : Cases) (scope : List Binding) (ts : List Ty) → AreTypes p scope → HaveBranches p c scope cs ts
         → AreCasesWithin files cs → AreCasesWithin files (fold_cases p c scope cs)
     branches_within NoCase scope ts types have hs = tt
     branches_within (CaseOf at name declared e cs) scope [] types have hs = absurd have

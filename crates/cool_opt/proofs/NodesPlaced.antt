@@ -4,7 +4,7 @@ use Rattle.std.proofs.Math.Seq.{take-append_seam}
 use Rattle.cool_syntax.specs.declared.node.Node.{Node}
 use Rattle.cool_syntax.specs.declared.node.NodeId.{NodeId}
 use Rattle.cool_syntax.specs.declared.place.Place.{Place}
-use Rattle.cool_syntax.specs.Falls.{one_le_size}
+use Rattle.cool_syntax.proofs.TreesHaveNodes.{one_le_size}
 use Rattle.cool_syntax.specs.Tree.{Tree, tree_size}
 use Rattle.cool_syntax.specs.NodeLists.{nodes, root}
 use Rattle.cool_syntax.proofs.TreesOfLists.{length-nodes}

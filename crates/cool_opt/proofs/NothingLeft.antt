@@ -15,7 +15,7 @@ use Rattle.cool_classes.specs.Chains.{Class, name_of}
 use Rattle.cool_classes.specs.Tables.{IsWholeTable}
 use Rattle.cool_rules.specs.Conformance.{IsType, class_of}
 use Rattle.cool_rules.specs.Rules.{same_type}
-use Rattle.cool_rules.specs.Scopes.{Binding}
+use Rattle.cool_rules.specs.Scopes.{AreTypes, Binding}
 use Rattle.cool_rules.specs.Typing.{bool_type, int_type, object_type, with_name, HasType, HaveTypes, HaveItems, HasInit, HaveBranches}
 use Rattle.cool_rules.proofs.RulesOfTables.{meant_is}
 use Rattle.cool_rules.proofs.RulesDecided.{denotes_type}
@@ -28,9 +28,6 @@ use Rattle.cool_opt.specs.Foldable.{IsNoResult, IsNoNegation, AreNotNumbers, Are
 use Rattle.cool_opt.proofs.FoldedTypes.{still_typed}
 
 module _ (p : List Class) (whole : IsWholeTable p) (c : ClassId) (within : c.0 < length p) where
-  abbrev AreTypes : List Binding → Type 0
-  AreTypes scope = AllByRecursion (λ (b : Binding). IsType p b.type) scope
-
   -- The rows
 
   arith_done : (scope : List Binding) (at : Place) (op : ArithOp) (a b : Tree) → IsDone p c scope a → IsDone p c scope b → IsDone p c scope (arith_by at op a b (number_in (constant_in a)) (number_in (constant_in b)))
@@ -117,7 +114,7 @@ module _ (p : List Class) (whole : IsWholeTable p) (c : ClassId) (within : c.0 <
 
   mutual
     -- nothing is left to fold in a folded expression
-    pub is_done : (e : Tree) (scope : List Binding) (type : Ty) → AreTypes scope → HasType p c scope e type → IsDone p c scope (fold p c scope e)
+    pub is_done : (e : Tree) (scope : List Binding) (type : Ty) → AreTypes p scope → HasType p c scope e type → IsDone p c scope (fold p c scope e)
     is_done (trees.Id at name) scope type types h = tt
     is_done (trees.Int at n) scope type types h = tt
     is_done (trees.Str at bytes) scope type types h = tt
@@ -144,20 +141,20 @@ module _ (p : List Class) (whole : IsWholeTable p) (c : ClassId) (within : c.0 <
     is_done (trees.Arith at op a b) scope type types (has, has1, is) = arith_done scope at op (fold p c scope a) (fold p c scope b) (is_done a scope int_type types has) (is_done b scope int_type types has1)
     is_done (trees.Compare at op a b) scope type types (t, u, has, has1, comparable, is) = compare_done scope at op (fold p c scope a) (fold p c scope b) (is_done a scope t types has) (is_done b scope u types has1)
 
-    are_done : (es : Trees) (scope : List Binding) (given : List Ty) → AreTypes scope → HaveTypes p c scope es given → AreDone p c scope (fold_all p c scope es)
+    are_done : (es : Trees) (scope : List Binding) (given : List Ty) → AreTypes p scope → HaveTypes p c scope es given → AreDone p c scope (fold_all p c scope es)
     are_done Last scope given types h = tt
     are_done (More e es) scope [] types h = absurd h
     are_done (More e es) scope (t ∷ ts) types h = (is_done e scope t types h.0, are_done es scope ts types h.1)
 
-    items_done : (es : Trees) (scope : List Binding) (before type : Ty) → AreTypes scope → HaveItems p c scope before es type → AreDone p c scope (fold_all p c scope es)
+    items_done : (es : Trees) (scope : List Binding) (before type : Ty) → AreTypes p scope → HaveItems p c scope before es type → AreDone p c scope (fold_all p c scope es)
     items_done Last scope before type types h = tt
     items_done (More e es) scope before type types (t, has, have) = (is_done e scope t types has, items_done es scope t type types have)
 
-    init_done : (o : MaybeTree) (scope : List Binding) (bound : Ty) → AreTypes scope → HasInit p c scope bound o → IsMaybeDone p c scope (fold_maybe p c scope o)
+    init_done : (o : MaybeTree) (scope : List Binding) (bound : Ty) → AreTypes p scope → HasInit p c scope bound o → IsMaybeDone p c scope (fold_maybe p c scope o)
     init_done Without scope bound types h = tt
     init_done (With e) scope bound types (t, has, conforms) = is_done e scope t types has
 
-    branches_done : (cs : Cases) (scope : List Binding) (ts : List Ty) → AreTypes scope → HaveBranches p c scope cs ts → AreCasesDone p c scope (fold_cases p c scope cs)
+    branches_done : (cs : Cases) (scope : List Binding) (ts : List Ty) → AreTypes p scope → HaveBranches p c scope cs ts → AreCasesDone p c scope (fold_cases p c scope cs)
     branches_done NoCase scope ts types h = tt
     branches_done (CaseOf at name declared e cs) scope [] types h = absurd h
     branches_done (CaseOf at name declared e cs) scope (t ∷ ts) types ((d, other, denotes, has), have) = (

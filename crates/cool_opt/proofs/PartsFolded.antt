@@ -2,7 +2,7 @@
 use Rattle.std.proofs.Common.{◌≡◌, List, [], ◌∷◌, ◌++◌, length, Ok, refl, ◌∙◌}
 use Rattle.cool_syntax.specs.declared.node.NodeBranch.{NodeBranch}
 use Rattle.cool_syntax.specs.declared.node.NodeId.{NodeId}
-use Rattle.cool_syntax.specs.NodeLists.{nodes_of_all, nodes_of_cases, roots, branch_roots, tree_at}
+use Rattle.cool_syntax.specs.NodeLists.{nodes_of_all, nodes_of_cases, roots, branch_roots, tree_at, cases_of, trees_of}
 use Rattle.cool_rules.specs.NodeTypes.{node_types, types_of_all, types_of_cases}
 use Rattle.cool_rules.specs.Rules.{type_meant}
 use Rattle.cool_rules.specs.Scopes.{Binding}
@@ -12,7 +12,7 @@ use Rattle.cool_opt.specs.declared.place.Found.{Found}
 use Rattle.cool_opt.specs.declared.place.Placed.{Placed}
 use Rattle.cool_opt.specs.declared.setting.Setting.{Setting}
 use Rattle.cool_opt.specs.FoldedNodes.{Folds, HasTypes}
-use Rattle.cool_opt.specs.Settings.{cases_of, trees_of, typed_body}
+use Rattle.cool_opt.specs.Settings.{typed_body}
 use Rattle.cool_opt.specs.Shrinking.{shrunk, shrunk_all, shrunk_cases}
 use Rattle.cool_opt.proofs.NodesPlaced.{more_nodes}
 use Rattle.cool_opt.proofs.PartsPlaced.{branches_later, cases_later, ids_later, nodes_later}
@@ -21,23 +21,23 @@ use Rattle.cool_opt.proofs.TypesPlaced.{still_typed, types_later}
 -- The numbers found so far with those of the parts that are left are those of all parts; so it is with the nodes, and with the types.
 pub record SomeFolded (s : Setting) (scope : List Binding) (all left : List NodeId) (before now : Placed) (found : List NodeId) : Type 0 where
   pub parts : AreParts (typed_body s) scope left
-  pub ids : found ++ roots (length now.nodes.items) (shrunk_all s.table.now s.class scope (trees_of s left))
-      ≡ roots (length before.nodes.items) (shrunk_all s.table.now s.class scope (trees_of s all))
-  pub placed : now.nodes.items ++ nodes_of_all (length now.nodes.items) (shrunk_all s.table.now s.class scope (trees_of s left))
-      ≡ before.nodes.items ++ nodes_of_all (length before.nodes.items) (shrunk_all s.table.now s.class scope (trees_of s all))
+  pub ids : found ++ roots (length now.nodes.items) (shrunk_all s.table.now s.class scope (trees_of s.body.now left))
+      ≡ roots (length before.nodes.items) (shrunk_all s.table.now s.class scope (trees_of s.body.now all))
+  pub placed : now.nodes.items ++ nodes_of_all (length now.nodes.items) (shrunk_all s.table.now s.class scope (trees_of s.body.now left))
+      ≡ before.nodes.items ++ nodes_of_all (length before.nodes.items) (shrunk_all s.table.now s.class scope (trees_of s.body.now all))
   pub even : HasTypes before → HasTypes now
-  pub typed : HasTypes before → now.types.held ++ types_of_all s.table.now s.class scope (shrunk_all s.table.now s.class scope (trees_of s left))
-      ≡ before.types.held ++ types_of_all s.table.now s.class scope (shrunk_all s.table.now s.class scope (trees_of s all))
+  pub typed : HasTypes before → now.types.held ++ types_of_all s.table.now s.class scope (shrunk_all s.table.now s.class scope (trees_of s.body.now left))
+      ≡ before.types.held ++ types_of_all s.table.now s.class scope (shrunk_all s.table.now s.class scope (trees_of s.body.now all))
 
 pub record SomeBranchesFolded (s : Setting) (scope : List Binding) (all left : List NodeBranch) (before now : Placed) (found : List NodeBranch) : Type 0 where
   pub parts : AreBranches (typed_body s) scope left
-  pub branches : found ++ branch_roots (length now.nodes.items) (shrunk_cases s.table.now s.class scope (cases_of s left))
-      ≡ branch_roots (length before.nodes.items) (shrunk_cases s.table.now s.class scope (cases_of s all))
-  pub placed : now.nodes.items ++ nodes_of_cases (length now.nodes.items) (shrunk_cases s.table.now s.class scope (cases_of s left))
-      ≡ before.nodes.items ++ nodes_of_cases (length before.nodes.items) (shrunk_cases s.table.now s.class scope (cases_of s all))
+  pub branches : found ++ branch_roots (length now.nodes.items) (shrunk_cases s.table.now s.class scope (cases_of s.body.now left))
+      ≡ branch_roots (length before.nodes.items) (shrunk_cases s.table.now s.class scope (cases_of s.body.now all))
+  pub placed : now.nodes.items ++ nodes_of_cases (length now.nodes.items) (shrunk_cases s.table.now s.class scope (cases_of s.body.now left))
+      ≡ before.nodes.items ++ nodes_of_cases (length before.nodes.items) (shrunk_cases s.table.now s.class scope (cases_of s.body.now all))
   pub even : HasTypes before → HasTypes now
-  pub typed : HasTypes before → now.types.held ++ types_of_cases s.table.now s.class scope (shrunk_cases s.table.now s.class scope (cases_of s left))
-      ≡ before.types.held ++ types_of_cases s.table.now s.class scope (shrunk_cases s.table.now s.class scope (cases_of s all))
+  pub typed : HasTypes before → now.types.held ++ types_of_cases s.table.now s.class scope (shrunk_cases s.table.now s.class scope (cases_of s.body.now left))
+      ≡ before.types.held ++ types_of_cases s.table.now s.class scope (shrunk_cases s.table.now s.class scope (cases_of s.body.now all))
 
 module _ (s : Setting) (scope : List Binding) where
   -- with one part more
@@ -46,7 +46,7 @@ module _ (s : Setting) (scope : List Binding) where
       → SomeFolded s scope all left before next (found ++ f.id ∷ [])
   one_folded {E} all left id before now next found f h k =
       let t = shrunk s.table.now s.class scope (tree_at s.body.now id) in
-      let rest = shrunk_all s.table.now s.class scope (trees_of s left) in
+      let rest = shrunk_all s.table.now s.class scope (trees_of s.body.now left) in
       record {
         parts = h.parts.1;
         ids = ids_later found f.id (length now.nodes.items) (length next.nodes.items) t rest k.id
@@ -66,7 +66,7 @@ module _ (s : Setting) (scope : List Binding) where
   one_branch_folded {E} all left w before now next found f h k =
       let inner = with_name w.name (type_meant s.table.now w.declared.name) scope in
       let t = shrunk s.table.now s.class inner (tree_at s.body.now w.body) in
-      let rest = shrunk_cases s.table.now s.class scope (cases_of s left) in
+      let rest = shrunk_cases s.table.now s.class scope (cases_of s.body.now left) in
       record {
         parts = h.parts.1;
         branches = branches_later found w.at w.name w.declared f.id (length now.nodes.items) (length next.nodes.items) t rest k.id

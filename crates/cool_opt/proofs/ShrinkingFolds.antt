@@ -16,7 +16,7 @@ use Rattle.cool_classes.specs.Chains.{Class}
 use Rattle.cool_classes.specs.Tables.{IsWholeTable}
 use Rattle.cool_rules.specs.Conformance.{IsType, class_of}
 use Rattle.cool_rules.specs.Rules.{same_type, join_in}
-use Rattle.cool_rules.specs.Scopes.{Binding}
+use Rattle.cool_rules.specs.Scopes.{AreTypes, Binding}
 use Rattle.cool_rules.specs.Typing.{bool_type, int_type, object_type, with_name, HasType, HaveTypes, HaveItems, HasInit, HaveBranches}
 use Rattle.cool_rules.proofs.RulesOfTables.{meant_is}
 use Rattle.cool_rules.proofs.RulesDecided.{denotes_type}
@@ -71,9 +71,6 @@ part_row true part t = refl
 part_row false part t = refl
 
 module _ (p : List Class) (whole : IsWholeTable p) (c : ClassId) (within : c.0 < length p) where
-  abbrev AreTypes : List Binding → Type 0
-  AreTypes scope = AllByRecursion (λ (b : Binding). IsType p b.type) scope
-
   if_row : (scope : List Binding) (at : Place) (e y n : Tree) (t u : Ty) (o : Option Truth) → t ≡ type_of p c scope y → u ≡ type_of p c scope n
       → unwrap_or (taken o t u (join_in p c t u) y n) (trees.If at e y n) ≡ if_by p c scope at e y n o
   if_row scope at e y n t u None first second = refl
@@ -85,11 +82,11 @@ module _ (p : List Class) (whole : IsWholeTable p) (c : ClassId) (within : c.0 <
       ∙ (λ i. if same_type (second i) (join_in p c (first i) (second i)) then n else trees.If at e y n)
 
   -- the type of a part is that of what it is folded to
-  type_kept : (e : Tree) (scope : List Binding) (type : Ty) → AreTypes scope → HasType p c scope e type → type_of p c scope e ≡ type_of p c scope (fold p c scope e)
+  type_kept : (e : Tree) (scope : List Binding) (type : Ty) → AreTypes p scope → HasType p c scope e type → type_of p c scope e ≡ type_of p c scope (fold p c scope e)
   type_kept e scope type types h = type_is p whole c within e scope type types h ∙ sym (type_is p whole c within (fold p c scope e) scope type types (still_typed p whole c within e scope type types h))
 
   mutual
-    pub shrunk_is : (e : Tree) (scope : List Binding) (type : Ty) → AreTypes scope → HasType p c scope e type → shrunk p c scope e ≡ fold p c scope e
+    pub shrunk_is : (e : Tree) (scope : List Binding) (type : Ty) → AreTypes p scope → HasType p c scope e type → shrunk p c scope e ≡ fold p c scope e
     shrunk_is (trees.Id at name) scope type types h = refl
     shrunk_is (trees.Int at n) scope type types h = refl
     shrunk_is (trees.Str at bytes) scope type types h = refl
@@ -145,20 +142,20 @@ module _ (p : List Class) (whole : IsWholeTable p) (c : ClassId) (within : c.0 <
         let b = shrunk_is f scope u types has1 in
         (λ i. truth_or (trees.Compare at op (a i) (b i)) at (compared op (constant_in (a i)) (constant_in (b i)))) ∙ compare_row at op (fold p c scope e) (fold p c scope f)
 
-    all_shrunk : (es : Trees) (scope : List Binding) (given : List Ty) → AreTypes scope → HaveTypes p c scope es given → shrunk_all p c scope es ≡ fold_all p c scope es
+    all_shrunk : (es : Trees) (scope : List Binding) (given : List Ty) → AreTypes p scope → HaveTypes p c scope es given → shrunk_all p c scope es ≡ fold_all p c scope es
     all_shrunk Last scope given types h = refl
     all_shrunk (More e es) scope [] types h = absurd h
     all_shrunk (More e es) scope (t ∷ ts) types h = let a = shrunk_is e scope t types h.0 in let b = all_shrunk es scope ts types h.1 in λ i. More (a i) (b i)
 
-    items_shrunk : (es : Trees) (scope : List Binding) (before type : Ty) → AreTypes scope → HaveItems p c scope before es type → shrunk_all p c scope es ≡ fold_all p c scope es
+    items_shrunk : (es : Trees) (scope : List Binding) (before type : Ty) → AreTypes p scope → HaveItems p c scope before es type → shrunk_all p c scope es ≡ fold_all p c scope es
     items_shrunk Last scope before type types h = refl
     items_shrunk (More e es) scope before type types (t, has, have) = let a = shrunk_is e scope t types has in let b = items_shrunk es scope t type types have in λ i. More (a i) (b i)
 
-    init_shrunk : (o : MaybeTree) (scope : List Binding) (bound : Ty) → AreTypes scope → HasInit p c scope bound o → shrunk_maybe p c scope o ≡ fold_maybe p c scope o
+    init_shrunk : (o : MaybeTree) (scope : List Binding) (bound : Ty) → AreTypes p scope → HasInit p c scope bound o → shrunk_maybe p c scope o ≡ fold_maybe p c scope o
     init_shrunk Without scope bound types h = refl
     init_shrunk (With e) scope bound types (t, has, conforms) = let a = shrunk_is e scope t types has in λ i. With (a i)
 
-    branches_shrunk : (cs : Cases) (scope : List Binding) (ts : List Ty) → AreTypes scope → HaveBranches p c scope cs ts → shrunk_cases p c scope cs ≡ fold_cases p c scope cs
+    branches_shrunk : (cs : Cases) (scope : List Binding) (ts : List Ty) → AreTypes p scope → HaveBranches p c scope cs ts → shrunk_cases p c scope cs ≡ fold_cases p c scope cs
     branches_shrunk NoCase scope ts types h = refl
     branches_shrunk (CaseOf at name declared e cs) scope [] types h = absurd h
     branches_shrunk (CaseOf at name declared e cs) scope (t ∷ ts) types ((d, other, denotes, has), have) =

@@ -14,7 +14,7 @@ use Rattle.cool_classes.specs.Tables.{IsWholeTable}
 use Rattle.cool_rules.specs.Conformance.{IsType, class_of}
 use Rattle.cool_rules.specs.Meant.{joined, type_of_call}
 use Rattle.cool_rules.specs.Rules.{same_type, join_in, type_meant}
-use Rattle.cool_rules.specs.Scopes.{Binding}
+use Rattle.cool_rules.specs.Scopes.{AreTypes, Binding}
 use Rattle.cool_rules.specs.StaticTypes.{type_of, last_type_of, cases_type_of}
 use Rattle.cool_rules.specs.Typing.{bool_type, int_type, object_type, with_name}
 use Rattle.cool_rules.proofs.RulesDecided.{same_types}
@@ -25,9 +25,6 @@ use Rattle.cool_opt.specs.Folding.{constant_in, number_in, truth_in, number_or, 
 use Rattle.cool_opt.specs.Shrinking.{computed, negated, compared, truth_or, taken, shrunk, shrunk_all, shrunk_cases}
 
 module _ (p : List Class) (whole : IsWholeTable p) (c : ClassId) (within : c.0 < length p) where
-  abbrev AreTypes : List Binding → Type 0
-  AreTypes scope = AllByRecursion (λ (b : Binding). IsType p b.type) scope
-
   -- The rows
 
   number_type : (scope : List Binding) (t : Tree) (at : Place) (o : Option ℤ) → type_of p c scope t ≡ int_type
@@ -81,7 +78,7 @@ module _ (p : List Class) (whole : IsWholeTable p) (c : ClassId) (within : c.0 <
   -- Expressions
 
   mutual
-    pub shrunk_type : (e : Tree) (scope : List Binding) → AreTypes scope → type_of p c scope (shrunk p c scope e) ≡ type_of p c scope e
+    pub shrunk_type : (e : Tree) (scope : List Binding) → AreTypes p scope → type_of p c scope (shrunk p c scope e) ≡ type_of p c scope e
     shrunk_type (trees.Id at name) scope types = refl
     shrunk_type (trees.Int at n) scope types = refl
     shrunk_type (trees.Str at bytes) scope types = refl
@@ -120,14 +117,14 @@ module _ (p : List Class) (whole : IsWholeTable p) (c : ClassId) (within : c.0 <
         truth_type scope (trees.Compare at op (shrunk p c scope a) (shrunk p c scope b)) at
         (compared op (constant_in (shrunk p c scope a)) (constant_in (shrunk p c scope b))) refl
 
-    last_type : (es : Trees) (scope : List Binding) (before : Ty) → AreTypes scope
+    last_type : (es : Trees) (scope : List Binding) (before : Ty) → AreTypes p scope
         → last_type_of p c scope before (shrunk_all p c scope es) ≡ last_type_of p c scope before es
     last_type Last scope before types = refl
     last_type (More e es) scope before types =
         ap (λ (t : Ty). last_type_of p c scope t (shrunk_all p c scope es)) (shrunk_type e scope types)
         ∙ last_type es scope (type_of p c scope e) types
 
-    cases_type : (cs : Cases) (scope : List Binding) (join : Option Ty) → AreTypes scope
+    cases_type : (cs : Cases) (scope : List Binding) (join : Option Ty) → AreTypes p scope
         → cases_type_of p c scope join (shrunk_cases p c scope cs) ≡ cases_type_of p c scope join cs
     cases_type NoCase scope join types = refl
     cases_type (CaseOf at name declared e cs) scope join types =

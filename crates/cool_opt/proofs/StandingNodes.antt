@@ -6,7 +6,7 @@ use Rattle.std.proofs.lemmas.Option.{same_Some}
 use Rattle.cool_syntax.specs.declared.node.Node.{Node}
 use Rattle.cool_syntax.specs.declared.node.NodeId.{NodeId}
 use Rattle.cool_syntax.specs.Tree.{Tree}
-use Rattle.cool_syntax.specs.NodeLists.{nodes, tree_at}
+use Rattle.cool_syntax.specs.NodeLists.{nodes, tree_at, tree_of_node}
 use Rattle.cool_classes.specs.declared.class_id.Ty.{Ty}
 use Rattle.cool_rules.specs.Scopes.{Binding}
 use Rattle.cool_rules.specs.StaticTypes.{type_of}
@@ -17,14 +17,14 @@ use Rattle.cool_opt.specs.declared.place.Placed.{Placed}
 use Rattle.cool_opt.specs.declared.setting.Setting.{Setting}
 use Rattle.cool_opt.specs.FoldedNodes.{Folds, FoldsNode, FoldsPart}
 use Rattle.cool_opt.specs.PlacedForms.{IsTypeOf}
-use Rattle.cool_opt.specs.Settings.{tree_of_node, typed_body, IsStanding}
+use Rattle.cool_opt.specs.Settings.{typed_body, IsStanding}
 
 module _ (s : Setting) (scope : List Binding) (id : NodeId) where
   -- the type that the column has for a node
   pub type_got : (n : Node) (type : Ty) → slice_get s.types.now id.0 ≡ Some type → IsStanding s scope id n → IsTypeOf s scope n type
   type_got n type got h = record {
     types = h.types;
-    type = same_Some type (type_of s.table.now s.class scope (tree_of_node s n)) (sym got ∙ h.type);
+    type = same_Some type (type_of s.table.now s.class scope (tree_of_node s.body.now n)) (sym got ∙ h.type);
   }
 
   -- the type that it has for a part
@@ -34,7 +34,7 @@ module _ (s : Setting) (scope : List Binding) (id : NodeId) where
 
 -- the expression at a number is that of the node there
 pub node_folds : {E : Type 0} (s : Setting) (id : NodeId) (n : Node) (before after : Placed) (result : Result Found E)
-    → slice_get (nodes 0 s.body.now) id.0 ≡ Some n → tree_at s.body.now id ≡ tree_of_node s n → FoldsNode s id n before after result
+    → slice_get (nodes 0 s.body.now) id.0 ≡ Some n → tree_at s.body.now id ≡ tree_of_node s.body.now n → FoldsNode s id n before after result
     → FoldsPart s id before after result
 node_folds s id n before after result there tree folds = λ scope types part.
     subst (λ (t : Tree). Folds s scope t before after result) (sym tree)

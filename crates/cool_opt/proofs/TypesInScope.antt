@@ -8,15 +8,15 @@ use Rattle.cool_classes.specs.Features.{attributes_of}
 use Rattle.cool_classes.specs.Tables.{IsWholeTable}
 use Rattle.cool_rules.specs.Conformance.{IsType}
 use Rattle.cool_rules.specs.NodeTypes.{own_scope}
-use Rattle.cool_rules.specs.Scopes.{Binding}
+use Rattle.cool_rules.specs.Scopes.{AreTypes, Binding}
 use Rattle.cool_rules.proofs.TypesAreTypes.{attributes_are_types}
 use Rattle.lists.proofs.AllItems.{all_append}
 
 module _ (p : List Class) (whole : IsWholeTable p) (c : ClassId) where
-  pub own_typed : AllByRecursion (λ (b : Binding). IsType p b.type) (own_scope p c)
+  pub own_typed : AreTypes p (own_scope p c)
   own_typed = attributes_are_types p whole (attributes_of p (chain p c))
 
   -- with names inside of the class
-  pub scope_typed : (inner : List Binding) → AllByRecursion (λ (b : Binding). IsType p b.type) inner
-      → AllByRecursion (λ (b : Binding). IsType p b.type) (inner ++ own_scope p c)
+  pub scope_typed : (inner : List Binding) → AreTypes p inner
+      → AreTypes p (inner ++ own_scope p c)
   scope_typed inner types = all_append (λ (b : Binding). IsType p b.type) inner (own_scope p c) types own_typed

@@ -7,11 +7,11 @@ use Rattle.cool_syntax.specs.declared.node.NodeBranch.{NodeBranch}
 use Rattle.cool_syntax.specs.declared.node.NodeId.{NodeId}
 use Rattle.cool_syntax.specs.declared.place.Place.{Place}
 use Rattle.cool_syntax.specs.Tree.{Tree, Trees, MaybeTree, Cases}
-use Rattle.cool_syntax.specs.NodeLists.{nodes, nodes_of_all, nodes_of_maybe, nodes_of_cases, root, roots, root_of_maybe, branch_roots, tree_at}
+use Rattle.cool_syntax.specs.NodeLists.{nodes, nodes_of_all, nodes_of_maybe, nodes_of_cases, root, roots, root_of_maybe, branch_roots, tree_at, cases_of, maybe_tree_of, tree_of_node, trees_of}
 use Rattle.cool_classes.specs.declared.class_id.Ty.{Ty}
 use Rattle.cool_meaning.specs.Values.{Value, Int, Bool, Str}
 use Rattle.cool_rules.specs.NodeTypes.{node_types, types_of_all, types_of_maybe, types_of_cases}
-use Rattle.cool_rules.specs.Scopes.{Binding}
+use Rattle.cool_rules.specs.Scopes.{AreTypes, Binding}
 use Rattle.cool_rules.specs.TypedParts.{AreBranches, AreParts, IsPart, MayBePart}
 use Rattle.cool_opt.specs.declared.constant.Constant.{Constant}
 use Rattle.cool_opt.specs.declared.constant.Constant.TheVariants.{Number, Text, Truth as TruthOf}
@@ -19,7 +19,7 @@ use Rattle.cool_opt.specs.declared.place.Found.{Found}
 use Rattle.cool_opt.specs.declared.place.Placed.{Placed}
 use Rattle.cool_opt.specs.declared.setting.Setting.{Setting}
 use Rattle.cool_opt.specs.Folding.{constant_in, word_of}
-use Rattle.cool_opt.specs.Settings.{cases_of, maybe_tree_of, tree_of_node, trees_of, typed_body, HaveTypes, IsStanding}
+use Rattle.cool_opt.specs.Settings.{typed_body, IsStanding}
 use Rattle.cool_opt.specs.Shrinking.{shrunk, shrunk_all, shrunk_maybe, shrunk_cases}
 
 -- the value that a constant is
@@ -80,20 +80,20 @@ pub record FoldsCases {E : Type 0} (s : Setting) (scope : List Binding) (cs : Ca
 -- so it is with all names in scope with which these parts, or this node, stand in the body
 abbrev pub FoldsPart : {E : Type 0} → Setting → NodeId → Placed → Placed → Result Found E → Type 0
 FoldsPart s id before after result =
-    (scope : List Binding) → HaveTypes s.table.now scope → IsPart (typed_body s) scope id → Folds s scope (tree_at s.body.now id) before after result
+    (scope : List Binding) → AreTypes s.table.now scope → IsPart (typed_body s) scope id → Folds s scope (tree_at s.body.now id) before after result
 
 abbrev pub FoldsParts : {E : Type 0} → Setting → List NodeId → Placed → Placed → Result (Vec NodeId) E → Type 0
 FoldsParts s ids before after result =
-    (scope : List Binding) → HaveTypes s.table.now scope → AreParts (typed_body s) scope ids → FoldsAll s scope (trees_of s ids) before after result
+    (scope : List Binding) → AreTypes s.table.now scope → AreParts (typed_body s) scope ids → FoldsAll s scope (trees_of s.body.now ids) before after result
 
 abbrev pub MayFoldPart : {E : Type 0} → Setting → Option NodeId → Placed → Placed → Result (Option NodeId) E → Type 0
 MayFoldPart s o before after result =
-    (scope : List Binding) → HaveTypes s.table.now scope → MayBePart (typed_body s) scope o → FoldsMaybe s scope (maybe_tree_of s o) before after result
+    (scope : List Binding) → AreTypes s.table.now scope → MayBePart (typed_body s) scope o → FoldsMaybe s scope (maybe_tree_of s.body.now o) before after result
 
 abbrev pub FoldsBranches : {E : Type 0} → Setting → List NodeBranch → Placed → Placed → Result (Vec NodeBranch) E → Type 0
 FoldsBranches s branches before after result =
-    (scope : List Binding) → HaveTypes s.table.now scope → AreBranches (typed_body s) scope branches
-    → FoldsCases s scope (cases_of s branches) before after result
+    (scope : List Binding) → AreTypes s.table.now scope → AreBranches (typed_body s) scope branches
+    → FoldsCases s scope (cases_of s.body.now branches) before after result
 
 abbrev pub FoldsNode : {E : Type 0} → Setting → NodeId → Node → Placed → Placed → Result Found E → Type 0
-FoldsNode s id n before after result = (scope : List Binding) → IsStanding s scope id n → Folds s scope (tree_of_node s n) before after result
+FoldsNode s id n before after result = (scope : List Binding) → IsStanding s scope id n → Folds s scope (tree_of_node s.body.now n) before after result

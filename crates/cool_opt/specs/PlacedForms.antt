@@ -7,13 +7,13 @@ use Rattle.cool_syntax.specs.declared.node.Node.{Node}
 use Rattle.cool_syntax.specs.declared.node.Node.TheVariants.{Dispatch, StaticDispatch, If, While, Block, Let, Case}
 use Rattle.cool_syntax.specs.declared.node.NodeBranch.{NodeBranch}
 use Rattle.cool_syntax.specs.declared.node.NodeId.{NodeId}
-use Rattle.cool_syntax.specs.NodeLists.{tree_at}
+use Rattle.cool_syntax.specs.NodeLists.{tree_at, cases_of, maybe_tree_of, tree_of_node, trees_of}
 use Rattle.cool_syntax.specs.Tree.{Tree, Trees, MaybeTree, Cases}
 use Rattle.cool_classes.specs.declared.class_id.ClassId.{ClassId}
 use Rattle.cool_classes.specs.declared.class_id.Ty.{Ty}
 use Rattle.cool_rules.specs.Conformance.{class_of}
 use Rattle.cool_rules.specs.Rules.{join_in, type_meant}
-use Rattle.cool_rules.specs.Scopes.{Binding}
+use Rattle.cool_rules.specs.Scopes.{AreTypes, Binding}
 use Rattle.cool_rules.specs.StaticTypes.{type_of}
 use Rattle.cool_rules.specs.Typing.{with_name}
 use Rattle.cool_opt.specs.declared.place.Found.{Found}
@@ -22,7 +22,6 @@ use Rattle.cool_opt.specs.declared.setting.Setting.{Setting}
 use Rattle.cool_opt.specs.Folding.{constant_in, truth_in}
 use Rattle.cool_opt.specs.FoldedNodes.{Folds, FoldsAll, FoldsCases, FoldsMaybe}
 use Rattle.cool_opt.specs.Forms.{operand, left_operand, right_operand}
-use Rattle.cool_opt.specs.Settings.{cases_of, maybe_tree_of, tree_of_node, trees_of, HaveTypes}
 use Rattle.cool_opt.specs.Shrinking.{shrunk, taken}
 
 -- the nodes of a tree, and of trees, came after those before, and this was found of it
@@ -40,15 +39,15 @@ AreCasesFolded s scope cs before after branches = FoldsCases {E = AllocError} s 
 
 -- the type is that of what the node makes, with these names in scope
 pub record IsTypeOf (s : Setting) (scope : List Binding) (n : Node) (found : Ty) : Type 0 where
-  pub types : HaveTypes s.table.now scope
-  pub type : found ≡ type_of s.table.now s.class scope (tree_of_node s n)
+  pub types : AreTypes s.table.now scope
+  pub type : found ≡ type_of s.table.now s.class scope (tree_of_node s.body.now n)
 
 -- an assignment or an operator with one operand, whose nodes begin at this number
 abbrev pub PlacesUnary : Setting → ℕ → Node → Ty → Found → Placed → Placed → Result Found AllocError → Type 0
 PlacesUnary s start n type part placed after result =
     (scope : List Binding) (before : Placed) → IsTypeOf s scope n type → start ≡ length before.nodes.items
     → IsFolded s scope (tree_at s.body.now (operand n)) before placed part
-    → Folds s scope (tree_of_node s n) before after result
+    → Folds s scope (tree_of_node s.body.now n) before after result
 
 -- an operator with two operands, whose nodes begin at this number
 abbrev pub PlacesBinary : Setting → ℕ → Node → Found → Found → Placed → Placed → Result Found AllocError → Type 0
@@ -56,20 +55,20 @@ PlacesBinary s start n left right placed after result =
     (scope : List Binding) (before between : Placed) → start ≡ length before.nodes.items
     → IsFolded s scope (tree_at s.body.now (left_operand n)) before between left
     → IsFolded s scope (tree_at s.body.now (right_operand n)) between placed right
-    → Folds s scope (tree_of_node s n) before after result
+    → Folds s scope (tree_of_node s.body.now n) before after result
 
 -- a loop, by the numbers of its parts
 abbrev pub PlacesLoop : Setting → Node → Ty → NodeId → NodeId → Placed → Placed → Result Found AllocError → Type 0
 PlacesLoop s (While at a b) type test body placed after result =
     (scope : List Binding) (before between : Placed) (f g : Found) → IsTypeOf s scope (While at a b) type → test ≡ f.id → body ≡ g.id
     → IsFolded s scope (tree_at s.body.now a) before between f → IsFolded s scope (tree_at s.body.now b) between placed g
-    → Folds s scope (tree_of_node s (While at a b)) before after result
+    → Folds s scope (tree_of_node s.body.now (While at a b)) before after result
 PlacesLoop s _ type test body placed after result = Unit {0}
 
 abbrev pub PlacesBlock : Setting → Node → Ty → Vec NodeId → Placed → Placed → Result Found AllocError → Type 0
 PlacesBlock s (Block at ids) type items placed after result =
-    (scope : List Binding) (before : Placed) → IsTypeOf s scope (Block at ids) type → AreFolded s scope (trees_of s ids) before placed items
-    → Folds s scope (tree_of_node s (Block at ids)) before after result
+    (scope : List Binding) (before : Placed) → IsTypeOf s scope (Block at ids) type → AreFolded s scope (trees_of s.body.now ids) before placed items
+    → Folds s scope (tree_of_node s.body.now (Block at ids)) before after result
 PlacesBlock s _ type items placed after result = Unit {0}
 
 -- a conditional that stays, by the numbers of its parts
@@ -84,24 +83,24 @@ PlacesConditional s (If at a b c) type test one other placed after result =
     (join_in s.table.now s.class (type_of s.table.now s.class scope (tree_at s.body.now b))
     (type_of s.table.now s.class scope (tree_at s.body.now c)))
     b c ≡ None
-    → Folds s scope (tree_of_node s (If at a b c)) before after result
+    → Folds s scope (tree_of_node s.body.now (If at a b c)) before after result
 PlacesConditional s _ type test one other placed after result = Unit {0}
 
 -- a `let`, by the numbers of its initial value and its body
 abbrev pub PlacesLet : Setting → Node → Ty → Option NodeId → NodeId → Placed → Placed → Result Found AllocError → Type 0
 PlacesLet s (Let at name declared o a) type init body placed after result =
     (scope : List Binding) (before between : Placed) (f : Found) → IsTypeOf s scope (Let at name declared o a) type → body ≡ f.id
-    → IsMaybeFolded s scope (maybe_tree_of s o) before between init
+    → IsMaybeFolded s scope (maybe_tree_of s.body.now o) before between init
     → IsFolded s (with_name name (type_meant s.table.now declared.name) scope) (tree_at s.body.now a) between placed f
-    → Folds s scope (tree_of_node s (Let at name declared o a)) before after result
+    → Folds s scope (tree_of_node s.body.now (Let at name declared o a)) before after result
 PlacesLet s _ type init body placed after result = Unit {0}
 
 -- a `case`, by the number of its value
 abbrev pub PlacesCase : Setting → Node → Ty → NodeId → Vec NodeBranch → Placed → Placed → Result Found AllocError → Type 0
 PlacesCase s (Case at a bs) type value branches placed after result =
     (scope : List Binding) (before between : Placed) (f : Found) → IsTypeOf s scope (Case at a bs) type → value ≡ f.id
-    → IsFolded s scope (tree_at s.body.now a) before between f → AreCasesFolded s scope (cases_of s bs) between placed branches
-    → Folds s scope (tree_of_node s (Case at a bs)) before after result
+    → IsFolded s scope (tree_at s.body.now a) before between f → AreCasesFolded s scope (cases_of s.body.now bs) between placed branches
+    → Folds s scope (tree_of_node s.body.now (Case at a bs)) before after result
 PlacesCase s _ type value branches placed after result = Unit {0}
 
 -- a dispatch, by the class and the number of its receiver
@@ -109,13 +108,13 @@ abbrev pub PlacesDispatch : Setting → Node → Ty → ClassId → NodeId → V
 PlacesDispatch s (Dispatch at a name ids) type class object args placed after result =
     (scope : List Binding) (before between : Placed) (f : Found) → IsTypeOf s scope (Dispatch at a name ids) type
     → class ≡ class_of s.class (type_of s.table.now s.class scope (tree_at s.body.now a)) → object ≡ f.id
-    → IsFolded s scope (tree_at s.body.now a) before between f → AreFolded s scope (trees_of s ids) between placed args
-    → Folds s scope (tree_of_node s (Dispatch at a name ids)) before after result
+    → IsFolded s scope (tree_at s.body.now a) before between f → AreFolded s scope (trees_of s.body.now ids) between placed args
+    → Folds s scope (tree_of_node s.body.now (Dispatch at a name ids)) before after result
 PlacesDispatch s _ type class object args placed after result = Unit {0}
 
 abbrev pub PlacesStaticDispatch : Setting → Node → Ty → NodeId → Vec NodeId → Placed → Placed → Result Found AllocError → Type 0
 PlacesStaticDispatch s (StaticDispatch at a class name ids) type object args placed after result =
     (scope : List Binding) (before between : Placed) (f : Found) → IsTypeOf s scope (StaticDispatch at a class name ids) type → object ≡ f.id
-    → IsFolded s scope (tree_at s.body.now a) before between f → AreFolded s scope (trees_of s ids) between placed args
-    → Folds s scope (tree_of_node s (StaticDispatch at a class name ids)) before after result
+    → IsFolded s scope (tree_at s.body.now a) before between f → AreFolded s scope (trees_of s.body.now ids) between placed args
+    → Folds s scope (tree_of_node s.body.now (StaticDispatch at a class name ids)) before after result
 PlacesStaticDispatch s _ type object args placed after result = Unit {0}

@@ -3,10 +3,10 @@
 ghost use Rattle.std.specs.Prelude.{◌≡◌, ◌+◌, ◌-◌, ◌<◌, ◌≤◌, ◌^◌, length, OnOk};
 ghost use Rattle.std.specs.List.{AllByRecursion};
 ghost use Rattle.cool_syntax.specs.NodeGroups.{IsLeaf};
-ghost use Rattle.cool_syntax.specs.NodeLists.{tree_at};
+ghost use Rattle.cool_syntax.specs.NodeLists.{tree_at, trees_of};
 ghost use Rattle.cool_syntax.specs.Tree.{tree_size, trees_size};
 ghost use Rattle.cool_opt.specs.FoldedNodes.{FoldsNode, FoldsPart, FoldsParts};
-ghost use Rattle.cool_opt.specs.Settings.{trees_of, IsSound};
+ghost use Rattle.cool_opt.specs.Settings.{IsSound};
 
 use crate::constant::Constant;
 use crate::fold_binding::{fold_case, fold_let};
@@ -120,10 +120,10 @@ pub(crate) fn fold_all<'a>(
     requires items { AllByRecursion (λ item. item.0 < end.0) items.now }
     requires sound { IsSound setting.now }
     requires below { end.0 < tree_size setting.now.body.now }
-    requires room { length placed.old.nodes.items + trees_size (trees_of setting.now items.now) < 2 ^ 32 - 1 }
-    requires types { length placed.old.types.held + trees_size (trees_of setting.now items.now) ≤ placed.old.types.room }
-    ensures few { OnOk result (length placed.new.nodes.items ≤ length placed.old.nodes.items + trees_size (trees_of setting.now items.now)) }
-    ensures types { OnOk result (length placed.new.types.held + placed.old.types.room ≤ length placed.old.types.held + trees_size (trees_of setting.now items.now) + placed.new.types.room) }
+    requires room { length placed.old.nodes.items + trees_size (trees_of setting.now.body.now items.now) < 2 ^ 32 - 1 }
+    requires types { length placed.old.types.held + trees_size (trees_of setting.now.body.now items.now) ≤ placed.old.types.room }
+    ensures few { OnOk result (length placed.new.nodes.items ≤ length placed.old.nodes.items + trees_size (trees_of setting.now.body.now items.now)) }
+    ensures types { OnOk result (length placed.new.types.held + placed.old.types.room ≤ length placed.old.types.held + trees_size (trees_of setting.now.body.now items.now) + placed.new.types.room) }
     ensures folded { FoldsParts setting.now items.now placed.old placed.new result }
 {
     let mut ids = Vec::new(setting.alloc);

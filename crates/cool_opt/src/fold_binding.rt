@@ -2,11 +2,11 @@
 
 ghost use Rattle.std.specs.Prelude.{◌≡◌, ◌+◌, ◌-◌, ◌<◌, ◌≤◌, ◌^◌, length, IfSome, OnOk};
 ghost use Rattle.std.specs.List.{AllByRecursion};
-ghost use Rattle.cool_syntax.specs.NodeLists.{HasPartsBelow};
+ghost use Rattle.cool_syntax.specs.NodeLists.{HasPartsBelow, cases_of, maybe_tree_of, tree_of_node};
 ghost use Rattle.cool_syntax.specs.Tree.{cases_size, maybe_size, tree_size};
 ghost use Rattle.cool_opt.specs.FoldedNodes.{FoldsBranches, FoldsNode, MayFoldPart};
 ghost use Rattle.cool_opt.specs.Forms.{IsCase, IsLet};
-ghost use Rattle.cool_opt.specs.Settings.{tree_of_node, maybe_tree_of, cases_of, IsSound};
+ghost use Rattle.cool_opt.specs.Settings.{IsSound};
 
 use crate::expression::fold;
 use crate::place::{Found, Placed};
@@ -28,10 +28,10 @@ pub(crate) fn fold_let<'a>(
     requires parts { HasPartsBelow id.0 node.now }
     requires sound { IsSound setting.now }
     requires below { id.0 < tree_size setting.now.body.now }
-    requires room { length placed.old.nodes.items + tree_size (tree_of_node setting.now node.now) < 2 ^ 32 - 1 }
-    requires types { length placed.old.types.held + tree_size (tree_of_node setting.now node.now) ≤ placed.old.types.room }
-    ensures few { OnOk result (length placed.new.nodes.items ≤ length placed.old.nodes.items + tree_size (tree_of_node setting.now node.now)) }
-    ensures types { OnOk result (length placed.new.types.held + placed.old.types.room ≤ length placed.old.types.held + tree_size (tree_of_node setting.now node.now) + placed.new.types.room) }
+    requires room { length placed.old.nodes.items + tree_size (tree_of_node setting.now.body.now node.now) < 2 ^ 32 - 1 }
+    requires types { length placed.old.types.held + tree_size (tree_of_node setting.now.body.now node.now) ≤ placed.old.types.room }
+    ensures few { OnOk result (length placed.new.nodes.items ≤ length placed.old.nodes.items + tree_size (tree_of_node setting.now.body.now node.now)) }
+    ensures types { OnOk result (length placed.new.types.held + placed.old.types.room ≤ length placed.old.types.held + tree_size (tree_of_node setting.now.body.now node.now) + placed.new.types.room) }
     ensures folded { FoldsNode setting.now id node.now placed.old placed.new result }
 {
     match node {
@@ -55,10 +55,10 @@ fn fold_option<'a>(
     requires init { IfSome init (λ value. value.0 < end.0) }
     requires sound { IsSound setting.now }
     requires below { end.0 < tree_size setting.now.body.now }
-    requires room { length placed.old.nodes.items + maybe_size (maybe_tree_of setting.now init) < 2 ^ 32 - 1 }
-    requires types { length placed.old.types.held + maybe_size (maybe_tree_of setting.now init) ≤ placed.old.types.room }
-    ensures few { OnOk result (length placed.new.nodes.items ≤ length placed.old.nodes.items + maybe_size (maybe_tree_of setting.now init)) }
-    ensures types { OnOk result (length placed.new.types.held + placed.old.types.room ≤ length placed.old.types.held + maybe_size (maybe_tree_of setting.now init) + placed.new.types.room) }
+    requires room { length placed.old.nodes.items + maybe_size (maybe_tree_of setting.now.body.now init) < 2 ^ 32 - 1 }
+    requires types { length placed.old.types.held + maybe_size (maybe_tree_of setting.now.body.now init) ≤ placed.old.types.room }
+    ensures few { OnOk result (length placed.new.nodes.items ≤ length placed.old.nodes.items + maybe_size (maybe_tree_of setting.now.body.now init)) }
+    ensures types { OnOk result (length placed.new.types.held + placed.old.types.room ≤ length placed.old.types.held + maybe_size (maybe_tree_of setting.now.body.now init) + placed.new.types.room) }
     ensures folded { MayFoldPart setting.now init placed.old placed.new result }
 {
     match init {
@@ -80,10 +80,10 @@ pub(crate) fn fold_case<'a>(
     requires parts { HasPartsBelow id.0 node.now }
     requires sound { IsSound setting.now }
     requires below { id.0 < tree_size setting.now.body.now }
-    requires room { length placed.old.nodes.items + tree_size (tree_of_node setting.now node.now) < 2 ^ 32 - 1 }
-    requires types { length placed.old.types.held + tree_size (tree_of_node setting.now node.now) ≤ placed.old.types.room }
-    ensures few { OnOk result (length placed.new.nodes.items ≤ length placed.old.nodes.items + tree_size (tree_of_node setting.now node.now)) }
-    ensures types { OnOk result (length placed.new.types.held + placed.old.types.room ≤ length placed.old.types.held + tree_size (tree_of_node setting.now node.now) + placed.new.types.room) }
+    requires room { length placed.old.nodes.items + tree_size (tree_of_node setting.now.body.now node.now) < 2 ^ 32 - 1 }
+    requires types { length placed.old.types.held + tree_size (tree_of_node setting.now.body.now node.now) ≤ placed.old.types.room }
+    ensures few { OnOk result (length placed.new.nodes.items ≤ length placed.old.nodes.items + tree_size (tree_of_node setting.now.body.now node.now)) }
+    ensures types { OnOk result (length placed.new.types.held + placed.old.types.room ≤ length placed.old.types.held + tree_size (tree_of_node setting.now.body.now node.now) + placed.new.types.room) }
     ensures folded { FoldsNode setting.now id node.now placed.old placed.new result }
 {
     match node {
@@ -112,10 +112,10 @@ fn fold_branches<'a>(
     requires branches { AllByRecursion (λ branch. branch.body.0 < end.0) branches.now }
     requires sound { IsSound setting.now }
     requires below { end.0 < tree_size setting.now.body.now }
-    requires room { length placed.old.nodes.items + cases_size (cases_of setting.now branches.now) < 2 ^ 32 - 1 }
-    requires types { length placed.old.types.held + cases_size (cases_of setting.now branches.now) ≤ placed.old.types.room }
-    ensures few { OnOk result (length placed.new.nodes.items ≤ length placed.old.nodes.items + cases_size (cases_of setting.now branches.now)) }
-    ensures types { OnOk result (length placed.new.types.held + placed.old.types.room ≤ length placed.old.types.held + cases_size (cases_of setting.now branches.now) + placed.new.types.room) }
+    requires room { length placed.old.nodes.items + cases_size (cases_of setting.now.body.now branches.now) < 2 ^ 32 - 1 }
+    requires types { length placed.old.types.held + cases_size (cases_of setting.now.body.now branches.now) ≤ placed.old.types.room }
+    ensures few { OnOk result (length placed.new.nodes.items ≤ length placed.old.nodes.items + cases_size (cases_of setting.now.body.now branches.now)) }
+    ensures types { OnOk result (length placed.new.types.held + placed.old.types.room ≤ length placed.old.types.held + cases_size (cases_of setting.now.body.now branches.now) + placed.new.types.room) }
     ensures folded { FoldsBranches setting.now branches.now placed.old placed.new result }
 {
     let mut folded = Vec::new(setting.alloc);

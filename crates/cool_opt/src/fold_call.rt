@@ -2,11 +2,11 @@
 
 ghost use Rattle.std.specs.Prelude.{◌≡◌, ◌+◌, ◌-◌, ◌<◌, ◌≤◌, ◌^◌, length, OnOk};
 ghost use Rattle.std.specs.List.{AllByRecursion};
-ghost use Rattle.cool_syntax.specs.NodeLists.{HasPartsBelow};
+ghost use Rattle.cool_syntax.specs.NodeLists.{HasPartsBelow, tree_of_node, trees_of};
 ghost use Rattle.cool_syntax.specs.Tree.{tree_size, trees_size};
 ghost use Rattle.cool_opt.specs.FoldedNodes.{FoldsNode, FoldsParts};
 ghost use Rattle.cool_opt.specs.Forms.{IsDispatch, IsStaticDispatch};
-ghost use Rattle.cool_opt.specs.Settings.{tree_of_node, trees_of, IsSound};
+ghost use Rattle.cool_opt.specs.Settings.{IsSound};
 
 use crate::expression::{fold, fold_all};
 use crate::place::{Found, Placed};
@@ -30,10 +30,10 @@ pub(crate) fn fold_dispatch<'a>(
     requires parts { HasPartsBelow id.0 node.now }
     requires sound { IsSound setting.now }
     requires below { id.0 < tree_size setting.now.body.now }
-    requires room { length placed.old.nodes.items + tree_size (tree_of_node setting.now node.now) < 2 ^ 32 - 1 }
-    requires types { length placed.old.types.held + tree_size (tree_of_node setting.now node.now) ≤ placed.old.types.room }
-    ensures few { OnOk result (length placed.new.nodes.items ≤ length placed.old.nodes.items + tree_size (tree_of_node setting.now node.now)) }
-    ensures types { OnOk result (length placed.new.types.held + placed.old.types.room ≤ length placed.old.types.held + tree_size (tree_of_node setting.now node.now) + placed.new.types.room) }
+    requires room { length placed.old.nodes.items + tree_size (tree_of_node setting.now.body.now node.now) < 2 ^ 32 - 1 }
+    requires types { length placed.old.types.held + tree_size (tree_of_node setting.now.body.now node.now) ≤ placed.old.types.room }
+    ensures few { OnOk result (length placed.new.nodes.items ≤ length placed.old.nodes.items + tree_size (tree_of_node setting.now.body.now node.now)) }
+    ensures types { OnOk result (length placed.new.types.held + placed.old.types.room ≤ length placed.old.types.held + tree_size (tree_of_node setting.now.body.now node.now) + placed.new.types.room) }
     ensures folded { FoldsNode setting.now id node.now placed.old placed.new result }
 {
     match node {
@@ -68,10 +68,10 @@ pub(crate) fn fold_static<'a>(
     requires parts { HasPartsBelow id.0 node.now }
     requires sound { IsSound setting.now }
     requires below { id.0 < tree_size setting.now.body.now }
-    requires room { length placed.old.nodes.items + tree_size (tree_of_node setting.now node.now) < 2 ^ 32 - 1 }
-    requires types { length placed.old.types.held + tree_size (tree_of_node setting.now node.now) ≤ placed.old.types.room }
-    ensures few { OnOk result (length placed.new.nodes.items ≤ length placed.old.nodes.items + tree_size (tree_of_node setting.now node.now)) }
-    ensures types { OnOk result (length placed.new.types.held + placed.old.types.room ≤ length placed.old.types.held + tree_size (tree_of_node setting.now node.now) + placed.new.types.room) }
+    requires room { length placed.old.nodes.items + tree_size (tree_of_node setting.now.body.now node.now) < 2 ^ 32 - 1 }
+    requires types { length placed.old.types.held + tree_size (tree_of_node setting.now.body.now node.now) ≤ placed.old.types.room }
+    ensures few { OnOk result (length placed.new.nodes.items ≤ length placed.old.nodes.items + tree_size (tree_of_node setting.now.body.now node.now)) }
+    ensures types { OnOk result (length placed.new.types.held + placed.old.types.room ≤ length placed.old.types.held + tree_size (tree_of_node setting.now.body.now node.now) + placed.new.types.room) }
     ensures folded { FoldsNode setting.now id node.now placed.old placed.new result }
 {
     match node {
@@ -97,10 +97,10 @@ fn fold_args<'a>(
     requires args { AllByRecursion (λ item. item.0 < end.0) args.now }
     requires sound { IsSound setting.now }
     requires below { end.0 < tree_size setting.now.body.now }
-    requires room { length placed.old.nodes.items + trees_size (trees_of setting.now args.now) < 2 ^ 32 - 1 }
-    requires types { length placed.old.types.held + trees_size (trees_of setting.now args.now) ≤ placed.old.types.room }
-    ensures few { OnOk result (length placed.new.nodes.items ≤ length placed.old.nodes.items + trees_size (trees_of setting.now args.now)) }
-    ensures types { OnOk result (length placed.new.types.held + placed.old.types.room ≤ length placed.old.types.held + trees_size (trees_of setting.now args.now) + placed.new.types.room) }
+    requires room { length placed.old.nodes.items + trees_size (trees_of setting.now.body.now args.now) < 2 ^ 32 - 1 }
+    requires types { length placed.old.types.held + trees_size (trees_of setting.now.body.now args.now) ≤ placed.old.types.room }
+    ensures few { OnOk result (length placed.new.nodes.items ≤ length placed.old.nodes.items + trees_size (trees_of setting.now.body.now args.now)) }
+    ensures types { OnOk result (length placed.new.types.held + placed.old.types.room ≤ length placed.old.types.held + trees_size (trees_of setting.now.body.now args.now) + placed.new.types.room) }
     ensures folded { FoldsParts setting.now args.now placed.old placed.new result }
 {
     fold_all(setting, placed, end, args)

@@ -1,13 +1,13 @@
 //! Folding loops, blocks and conditionals.
 
 ghost use Rattle.std.specs.Prelude.{◌≡◌, ◌+◌, ◌-◌, ◌<◌, ◌≤◌, ◌^◌, length, slice_get, if◌then◌else◌, None, OnOk, Some};
-ghost use Rattle.cool_syntax.specs.NodeLists.{HasPartsBelow};
+ghost use Rattle.cool_syntax.specs.NodeLists.{HasPartsBelow, tree_of_node};
 ghost use Rattle.cool_syntax.specs.Tree.{tree_size};
 ghost use Rattle.cool_classes.specs.declared.class_id.Ty.{Ty as StaticType};
 ghost use Rattle.cool_rules.specs.Rules.{same_type};
 ghost use Rattle.cool_opt.specs.FoldedNodes.{FoldsNode};
 ghost use Rattle.cool_opt.specs.Forms.{IsBlock, IsConditional, IsLoop};
-ghost use Rattle.cool_opt.specs.Settings.{tree_of_node, IsSound};
+ghost use Rattle.cool_opt.specs.Settings.{IsSound};
 ghost use Rattle.cool_opt.specs.Shrinking.{taken};
 
 use crate::constant::truth_in;
@@ -32,10 +32,10 @@ pub(crate) fn fold_while<'a>(
     requires parts { HasPartsBelow id.0 node.now }
     requires sound { IsSound setting.now }
     requires below { id.0 < tree_size setting.now.body.now }
-    requires room { length placed.old.nodes.items + tree_size (tree_of_node setting.now node.now) < 2 ^ 32 - 1 }
-    requires types { length placed.old.types.held + tree_size (tree_of_node setting.now node.now) ≤ placed.old.types.room }
-    ensures few { OnOk result (length placed.new.nodes.items ≤ length placed.old.nodes.items + tree_size (tree_of_node setting.now node.now)) }
-    ensures types { OnOk result (length placed.new.types.held + placed.old.types.room ≤ length placed.old.types.held + tree_size (tree_of_node setting.now node.now) + placed.new.types.room) }
+    requires room { length placed.old.nodes.items + tree_size (tree_of_node setting.now.body.now node.now) < 2 ^ 32 - 1 }
+    requires types { length placed.old.types.held + tree_size (tree_of_node setting.now.body.now node.now) ≤ placed.old.types.room }
+    ensures few { OnOk result (length placed.new.nodes.items ≤ length placed.old.nodes.items + tree_size (tree_of_node setting.now.body.now node.now)) }
+    ensures types { OnOk result (length placed.new.types.held + placed.old.types.room ≤ length placed.old.types.held + tree_size (tree_of_node setting.now.body.now node.now) + placed.new.types.room) }
     ensures folded { FoldsNode setting.now id node.now placed.old placed.new result }
 {
     match node {
@@ -61,10 +61,10 @@ pub(crate) fn fold_block<'a>(
     requires parts { HasPartsBelow id.0 node.now }
     requires sound { IsSound setting.now }
     requires below { id.0 < tree_size setting.now.body.now }
-    requires room { length placed.old.nodes.items + tree_size (tree_of_node setting.now node.now) < 2 ^ 32 - 1 }
-    requires types { length placed.old.types.held + tree_size (tree_of_node setting.now node.now) ≤ placed.old.types.room }
-    ensures few { OnOk result (length placed.new.nodes.items ≤ length placed.old.nodes.items + tree_size (tree_of_node setting.now node.now)) }
-    ensures types { OnOk result (length placed.new.types.held + placed.old.types.room ≤ length placed.old.types.held + tree_size (tree_of_node setting.now node.now) + placed.new.types.room) }
+    requires room { length placed.old.nodes.items + tree_size (tree_of_node setting.now.body.now node.now) < 2 ^ 32 - 1 }
+    requires types { length placed.old.types.held + tree_size (tree_of_node setting.now.body.now node.now) ≤ placed.old.types.room }
+    ensures few { OnOk result (length placed.new.nodes.items ≤ length placed.old.nodes.items + tree_size (tree_of_node setting.now.body.now node.now)) }
+    ensures types { OnOk result (length placed.new.types.held + placed.old.types.room ≤ length placed.old.types.held + tree_size (tree_of_node setting.now.body.now node.now) + placed.new.types.room) }
     ensures folded { FoldsNode setting.now id node.now placed.old placed.new result }
 {
     match node {
@@ -90,10 +90,10 @@ pub(crate) fn fold_if<'a>(
     requires parts { HasPartsBelow id.0 node.now }
     requires sound { IsSound setting.now }
     requires below { id.0 < tree_size setting.now.body.now }
-    requires room { length placed.old.nodes.items + tree_size (tree_of_node setting.now node.now) < 2 ^ 32 - 1 }
-    requires types { length placed.old.types.held + tree_size (tree_of_node setting.now node.now) ≤ placed.old.types.room }
-    ensures few { OnOk result (length placed.new.nodes.items ≤ length placed.old.nodes.items + tree_size (tree_of_node setting.now node.now)) }
-    ensures types { OnOk result (length placed.new.types.held + placed.old.types.room ≤ length placed.old.types.held + tree_size (tree_of_node setting.now node.now) + placed.new.types.room) }
+    requires room { length placed.old.nodes.items + tree_size (tree_of_node setting.now.body.now node.now) < 2 ^ 32 - 1 }
+    requires types { length placed.old.types.held + tree_size (tree_of_node setting.now.body.now node.now) ≤ placed.old.types.room }
+    ensures few { OnOk result (length placed.new.nodes.items ≤ length placed.old.nodes.items + tree_size (tree_of_node setting.now.body.now node.now)) }
+    ensures types { OnOk result (length placed.new.types.held + placed.old.types.room ≤ length placed.old.types.held + tree_size (tree_of_node setting.now.body.now node.now) + placed.new.types.room) }
     ensures folded { FoldsNode setting.now id node.now placed.old placed.new result }
 {
     let start = placed.nodes.len();

@@ -2,10 +2,10 @@
 
 ghost use Rattle.std.specs.Prelude.{◌≡◌, ◌+◌, ◌-◌, ◌<◌, ◌≤◌, ◌^◌, length, OnOk};
 ghost use Rattle.cool_syntax.specs.NodeGroups.{IsBinary, IsUnary};
-ghost use Rattle.cool_syntax.specs.NodeLists.{HasPartsBelow};
+ghost use Rattle.cool_syntax.specs.NodeLists.{HasPartsBelow, tree_of_node};
 ghost use Rattle.cool_syntax.specs.Tree.{tree_size};
 ghost use Rattle.cool_opt.specs.FoldedNodes.{FoldsNode};
-ghost use Rattle.cool_opt.specs.Settings.{tree_of_node, IsSound};
+ghost use Rattle.cool_opt.specs.Settings.{IsSound};
 
 use crate::expression::fold;
 use crate::form::{left_operand, operand, right_operand};
@@ -28,10 +28,10 @@ pub(crate) fn fold_unary<'a>(
     requires parts { HasPartsBelow id.0 node.now }
     requires sound { IsSound setting.now }
     requires below { id.0 < tree_size setting.now.body.now }
-    requires room { length placed.old.nodes.items + tree_size (tree_of_node setting.now node.now) < 2 ^ 32 - 1 }
-    requires types { length placed.old.types.held + tree_size (tree_of_node setting.now node.now) ≤ placed.old.types.room }
-    ensures few { OnOk result (length placed.new.nodes.items ≤ length placed.old.nodes.items + tree_size (tree_of_node setting.now node.now)) }
-    ensures types { OnOk result (length placed.new.types.held + placed.old.types.room ≤ length placed.old.types.held + tree_size (tree_of_node setting.now node.now) + placed.new.types.room) }
+    requires room { length placed.old.nodes.items + tree_size (tree_of_node setting.now.body.now node.now) < 2 ^ 32 - 1 }
+    requires types { length placed.old.types.held + tree_size (tree_of_node setting.now.body.now node.now) ≤ placed.old.types.room }
+    ensures few { OnOk result (length placed.new.nodes.items ≤ length placed.old.nodes.items + tree_size (tree_of_node setting.now.body.now node.now)) }
+    ensures types { OnOk result (length placed.new.types.held + placed.old.types.room ≤ length placed.old.types.held + tree_size (tree_of_node setting.now.body.now node.now) + placed.new.types.room) }
     ensures folded { FoldsNode setting.now id node.now placed.old placed.new result }
 {
     let start = placed.nodes.len();
@@ -52,10 +52,10 @@ pub(crate) fn fold_binary<'a>(
     requires parts { HasPartsBelow id.0 node.now }
     requires sound { IsSound setting.now }
     requires below { id.0 < tree_size setting.now.body.now }
-    requires room { length placed.old.nodes.items + tree_size (tree_of_node setting.now node.now) < 2 ^ 32 - 1 }
-    requires types { length placed.old.types.held + tree_size (tree_of_node setting.now node.now) ≤ placed.old.types.room }
-    ensures few { OnOk result (length placed.new.nodes.items ≤ length placed.old.nodes.items + tree_size (tree_of_node setting.now node.now)) }
-    ensures types { OnOk result (length placed.new.types.held + placed.old.types.room ≤ length placed.old.types.held + tree_size (tree_of_node setting.now node.now) + placed.new.types.room) }
+    requires room { length placed.old.nodes.items + tree_size (tree_of_node setting.now.body.now node.now) < 2 ^ 32 - 1 }
+    requires types { length placed.old.types.held + tree_size (tree_of_node setting.now.body.now node.now) ≤ placed.old.types.room }
+    ensures few { OnOk result (length placed.new.nodes.items ≤ length placed.old.nodes.items + tree_size (tree_of_node setting.now.body.now node.now)) }
+    ensures types { OnOk result (length placed.new.types.held + placed.old.types.room ≤ length placed.old.types.held + tree_size (tree_of_node setting.now.body.now node.now) + placed.new.types.room) }
     ensures folded { FoldsNode setting.now id node.now placed.old placed.new result }
 {
     let start = placed.nodes.len();

@@ -1,12 +1,11 @@
 -- What is left of a file's tokens comes to the same outcome, and no tokens are the file without classes.
-use Rattle.std.proofs.Common.{◌≡◌, ◌≢◌, ℕ, ◌+◌, ◌<◌, ◌≤◌, List, [], ◌∷◌, length, drop, get_or, Option, Some, refl, sym, ◌∙◌, ap}
-use Rattle.std.proofs.lemmas.List.{drop_more, drop_all}
+use Rattle.std.proofs.Common.{◌≡◌, ℕ, ◌+◌, ◌<◌, List, [], ◌∷◌, length, drop, get_or, Option, Some, refl, ◌∙◌, ap}
+use Rattle.std.proofs.lemmas.List.{drop_more}
 use Rattle.cool_syntax.specs.declared.place.Place.{Place}
 use Rattle.cool_syntax.specs.declared.token.Token.{Token}
 use Rattle.cool_syntax.specs.declared.file_tree.ClassDef.{ClassDef}
 use Rattle.cool_parser.specs.declared.mode.Mode.{Mode}
-use Rattle.cool_parser.specs.declared.mode.Mode.TheVariants as mode
-use Rattle.cool_parser.specs.Machine.{Context, State, step, outcome, finish, parsed, Whole, Unexpected}
+use Rattle.cool_parser.specs.Machine.{Context, State, step, outcome, parsed, Whole, Unexpected}
 
 -- where the last token stood plays no part as long as a state is there
 pub any_place : (at other : Place) (s : State) (ts : List Token) (end : Place) → outcome at (Some s) ts end ≡ outcome other (Some s) ts end
@@ -20,20 +19,6 @@ pub more : (ts : List Token) (i : ℕ) (d : Token) (c : Context) (m : Mode) (o :
 more ts i d c m o at end h e =
     ap (λ xs. outcome at (Some (record { context = c; mode = m })) xs end) (drop_more ts i d h)
     ∙ ap (λ x. outcome (get_or ts i d).at x (drop (i + 1) ts) end) e
-
--- a file ends between its classes alone
-pub unfinished : (c : Context) (m : Mode) (end : Place) → m ≢ mode.File → finish c m end ≡ Unexpected end
-unfinished c mode.File end h = absurd (h refl)
-unfinished c _ end h = refl
-
--- a file that ends between its classes is whole
-pub finished : (ts : List Token) (i : ℕ) (c : Context) (m : Mode) (end : Place) (classes : List ClassDef) → length ts ≤ i → m ≡ mode.File → classes ≡ c.classes
-    → outcome end (Some (record { context = c; mode = m })) (drop i ts) end ≡ parsed ts end → parsed ts end ≡ Whole classes
-finished ts i c m end classes h f k e =
-    sym e
-    ∙ ap (λ xs. outcome end (Some (record { context = c; mode = m })) xs end) (drop_all i ts h)
-    ∙ ap (λ n. finish c n end) f
-    ∙ ap Whole (sym k)
 
 -- no tokens are the file without classes
 pub empty_whole : (ts : List Token) (end : Place) (classes : List ClassDef) → parsed ts end ≡ Whole classes → ts ≡ [] → classes ≡ []

@@ -8,6 +8,9 @@ use Rattle.cool_syntax.specs.ConcreteTrees.{Classes}
 use Rattle.cool_syntax.specs.PlainTrees.{plain_file}
 use Rattle.cool_syntax.specs.Bare.{nowhere}
 use Rattle.cool_syntax.specs.Grammar.{Parses, BeginsFile, IsUnexpected}
+use Rattle.cool_parser.specs.declared.fault.ParseError.{ParseError}
+use Rattle.cool_parser.specs.declared.fault.ParseError.TheVariants.{Memory, Fault}
+use Rattle.cool_parser.specs.Answers.{IsFault, IsFaultAt, IsOutcome}
 use Rattle.cool_parser.specs.Laws.{HasTree}
 use Rattle.cool_parser.specs.Machine as machine
 use Rattle.cool_parser.specs.Machine.{Outcome, Whole, Unexpected, outcome, parsed}
@@ -186,6 +189,21 @@ whole_or_fault tokens end at classes e u = let same : Whole classes ≡ Unexpect
 -- the fault is the only one
 pub fault_only : (tokens : List Token) (end at other : Place) → parsed tokens end ≡ Unexpected at → IsUnexpected tokens end other → at ≡ other
 fault_only tokens end at other e u = let same : Unexpected at ≡ Unexpected other = sym e ∙ exact tokens end other u in cc
+
+-- an error tells the first fault
+pub error_tells : (tokens : List Token) (end : Place) (error : ParseError) → IsOutcome (parsed tokens end) error → IsFault tokens end error
+error_tells tokens end (Fault f) o = stops tokens end f.at o
+error_tells tokens end Memory o = tt
+
+-- tokens that are a file want memory alone
+pub error_or_whole : (tokens : List Token) (end : Place) (error : ParseError) (classes : List ClassDef) → IsOutcome (parsed tokens end) error → Parses tokens classes → error ≡ Memory
+error_or_whole tokens end (Fault f) classes o p = fault_or_whole tokens end f.at classes o p
+error_or_whole tokens end Memory classes o p = refl
+
+-- an error is at the first fault, or want of memory
+pub error_only : (tokens : List Token) (end at : Place) (error : ParseError) → IsOutcome (parsed tokens end) error → IsUnexpected tokens end at → IsFaultAt at error
+error_only tokens end at (Fault f) o u = fault_only tokens end f.at at o u
+error_only tokens end at Memory o u = tt
 
 -- tokens that are a file have no fault
 pub file_or_fault : (tokens : List Token) (end at : Place) (classes : List ClassDef) → Parses tokens classes → IsUnexpected tokens end at → ⊥

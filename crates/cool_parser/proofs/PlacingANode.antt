@@ -10,7 +10,7 @@ use Rattle.cool_syntax.specs.Tree as trees
 use Rattle.cool_syntax.specs.NodeLists.{root, roots, branch_roots, nodes, nodes_of_all, nodes_of_cases, HasPartsBelow, IsPostorder}
 use Rattle.cool_syntax.proofs.TreesOfLists.{length-nodes_of_all}
 use Rattle.cool_parser.specs.Waiting.{option_parts, Holds}
-use Rattle.cool_syntax.specs.Falls.{one_le_size}
+use Rattle.cool_syntax.proofs.TreesHaveNodes.{one_le_size}
 
 -- the parts of a node, in order
 abbrev pub node_parts : Node → List NodeId

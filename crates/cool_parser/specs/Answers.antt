@@ -5,6 +5,7 @@ use Rattle.cool_syntax.specs.declared.token.Token.{Token}
 use Rattle.cool_syntax.specs.Grammar.{IsUnexpected}
 use Rattle.cool_parser.specs.declared.fault.ParseError.{ParseError}
 use Rattle.cool_parser.specs.declared.fault.ParseError.TheVariants.{Memory, Fault}
+use Rattle.cool_parser.specs.Machine.{Outcome, Unexpected}
 
 -- a fault is the first one of the tokens; want of memory tells nothing
 abbrev pub IsFault : List Token → Place → ParseError → Type 0
@@ -15,3 +16,8 @@ IsFault tokens end Memory = Unit {0}
 abbrev pub IsFaultAt : Place → ParseError → Type 0
 IsFaultAt at (Fault f) = f.at ≡ at
 IsFaultAt at Memory = Unit {0}
+
+-- a fault where the machine stops, or want of memory
+abbrev pub IsOutcome : Outcome → ParseError → Type 0
+IsOutcome o (Fault f) = o ≡ Unexpected f.at
+IsOutcome o Memory = Unit {0}

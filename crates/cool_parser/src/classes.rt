@@ -6,12 +6,12 @@ ghost use Rattle.cool_parser.specs.declared.mode.Mode.TheVariants as mode;
 ghost use Rattle.cool_parser.specs.Machine as machine;
 ghost use Rattle.cool_parser.specs.Machine.{moved};
 
+use crate::boxed::Boxed;
 use crate::item::{Item, OpenClass, OpenMethod, Variable};
 use crate::mode::{Mode, Purpose};
 use crate::parser::{Next, Parser};
 use cool_syntax::{
-    AttributeDef, ClassDef, Feature, Key, Listed, MethodDef, Name, Place, Sign, Token, TokenKind,
-    TypeRef,
+    ClassDef, Feature, Key, Listed, MethodDef, Name, Place, Sign, Token, TokenKind, TypeRef,
 };
 
 impl Parser {
@@ -30,14 +30,14 @@ impl Parser {
     pub(crate) fn open_class(&mut self, name: Name, at: Place, parent: Option<TypeRef>) -> Next
         ensures same { IfOk result (λ m. moved self.new m ≡ machine.open_class self.old name at parent) }
     {
-        let features = Listed::new(Vec::new(self.alloc));
+        let class = OpenClass {
+            name,
+            at,
+            parent,
+            features: Listed::new(Vec::new(self.alloc)),
+        };
         Ok(Some(Mode::Features {
-            class: OpenClass {
-                name,
-                at,
-                parent,
-                features,
-            },
+            class: Boxed::new(self.alloc, class)?,
         }))
     }
 
@@ -56,7 +56,7 @@ impl Parser {
     }
 
     /// A feature, or the end of the class, is due.
-    pub(crate) fn features(&mut self, class: OpenClass, token: &Token) -> Next
+    pub(crate) fn features(&mut self, class: Boxed<OpenClass>, token: &Token) -> Next
         ensures same { IfOk result (λ m. moved self.new m ≡ machine.features self.old class token.now.kind token.now.at) }
     {
         match &token.kind {
@@ -71,9 +71,10 @@ impl Parser {
     }
 
     /// A class is whole.
-    fn whole_class(&mut self, class: OpenClass) -> Next
+    fn whole_class(&mut self, class: Boxed<OpenClass>) -> Next
         ensures same { IfOk result (λ m. moved self.new m ≡ machine.class_end self.old class) }
     {
+        let class = class.into_inner();
         self.classes.push(ClassDef {
             name: class.name,
             at: class.at,
@@ -86,7 +87,7 @@ impl Parser {
     /// The name of a feature has been read.
     pub(crate) fn feature_name(
         &mut self,
-        class: OpenClass,
+        class: Boxed<OpenClass>,
         name: Name,
         at: Place,
         token: &Token,
@@ -153,7 +154,7 @@ impl Parser {
     /// The name and the type of an attribute have been read.
     pub(crate) fn attribute_end(
         &mut self,
-        mut class: OpenClass,
+        class: Boxed<OpenClass>,
         variable: Variable,
         token: &Token,
     ) -> Next
@@ -161,32 +162,22 @@ impl Parser {
     {
         match token.kind {
             TokenKind::Sign(Sign::Arrow) => self.wait(Item::AttributeInit { class, variable }),
-            TokenKind::Sign(Sign::Semi) => {
-                class.features.push(Feature::Attribute(AttributeDef {
-                    name: variable.name,
-                    at: variable.at,
-                    declared: variable.declared,
-                    init: None,
-                }))?;
-                Ok(Some(Mode::Features { class }))
-            }
+            TokenKind::Sign(Sign::Semi) => Ok(Some(Mode::Features {
+                class: class.with_feature(variable.attribute(None))?,
+            })),
             _ => Ok(None),
         }
     }
 
     /// The value of an attribute has been read: it is all nodes so far.
-    pub(crate) fn attribute(&mut self, mut class: OpenClass, variable: Variable) -> Next
+    pub(crate) fn attribute(&mut self, class: Boxed<OpenClass>, variable: Variable) -> Next
         requires postorder { IsPostorder self.old.nodes }
         ensures same { IfOk result (λ m. moved self.new m ≡ machine.attribute_done class variable self.old) }
     {
         let init = Some(self.body());
-        class.features.push(Feature::Attribute(AttributeDef {
-            name: variable.name,
-            at: variable.at,
-            declared: variable.declared,
-            init,
-        }))?;
-        Ok(Some(Mode::Features { class }))
+        Ok(Some(Mode::Features {
+            class: class.with_feature(variable.attribute(init))?,
+        }))
     }
 
     /// The body of a method has been read: it is all nodes so far.
@@ -195,20 +186,22 @@ impl Parser {
         ensures same { IfOk result (λ m. moved self.new m ≡ machine.method_done method returned self.old) }
     {
         let OpenMethod {
-            mut class,
+            class,
             name,
             at,
             formals,
         } = method;
         let body = self.body();
-        class.features.push(Feature::Method(MethodDef {
+        let feature = Feature::Method(MethodDef {
             name,
             at,
             formals,
             result: returned,
             body,
-        }))?;
-        Ok(Some(Mode::MethodEnd { class }))
+        });
+        Ok(Some(Mode::MethodEnd {
+            class: class.with_feature(feature)?,
+        }))
     }
 
     /// A class, or the end of the file, is due.
@@ -251,7 +244,7 @@ impl Parser {
     }
 
     /// The closing brace of a class has been read.
-    pub(crate) fn class_end(&mut self, class: OpenClass, token: &Token) -> Next
+    pub(crate) fn class_end(&mut self, class: Boxed<OpenClass>, token: &Token) -> Next
         ensures same { IfOk result (λ m. moved self.new m ≡ machine.step self.old (mode.ClassEnd class) token.now.kind token.now.at) }
     {
         match token.kind {
@@ -289,7 +282,7 @@ impl Parser {
     }
 
     /// The closing brace of a method has been read.
-    pub(crate) fn method_end(&mut self, class: OpenClass, token: &Token) -> Next
+    pub(crate) fn method_end(&mut self, class: Boxed<OpenClass>, token: &Token) -> Next
         ensures same { IfOk result (λ m. moved self.new m ≡ machine.step self.old (mode.MethodEnd class) token.now.kind token.now.at) }
     {
         match token.kind {

@@ -7,6 +7,7 @@ ghost use Rattle.cool_parser.specs.Machine as machine;
 ghost use Rattle.cool_parser.specs.Machine.{moved};
 ghost use Rattle.cool_parser.specs.Waiting.{Good};
 
+use crate::boxed::Boxed;
 use crate::item::{Call, Item, OpenCase, OpenClass, OpenMethod, Variable};
 use crate::mode::{Mode, Purpose};
 use crate::parser::{Next, Parser};
@@ -224,7 +225,7 @@ impl Parser {
     /// `variable <- ..;`
     pub(crate) fn attribute_init(
         &mut self,
-        class: OpenClass,
+        class: Boxed<OpenClass>,
         variable: Variable,
         kind: &TokenKind,
         operand: NodeId,

@@ -2,11 +2,15 @@
 
 ghost use Rattle.std.specs.Prelude.{◌≡◌, IfOk};
 ghost use Rattle.std.specs.Option.{is_some};
+ghost use Rattle.cool_syntax.specs.declared.file_tree.Feature.TheVariants as feature;
 ghost use Rattle.cool_syntax.specs.declared.node.NodeId.{NodeId};
 ghost use Rattle.cool_parser.specs.Machine as machine;
 
+use crate::boxed::Boxed;
 use crate::operator::{Infix, Prefix};
-use cool_syntax::{Feature, Formal, Listed, Name, Node, NodeBranch, NodeId, Place, TypeRef};
+use cool_syntax::{
+    AttributeDef, Body, Feature, Formal, Listed, Name, Node, NodeBranch, NodeId, Place, TypeRef,
+};
 use std::alloc::AllocError;
 
 /// A name and its declared type: a formal, an attribute, or a variable of a `let` or of a branch.
@@ -29,7 +33,7 @@ pub(crate) struct OpenClass {
 /// A method up to its formals so far.
 #[derive(Drop)]
 pub(crate) struct OpenMethod {
-    pub(crate) class: OpenClass,
+    pub(crate) class: Boxed<OpenClass>,
     pub(crate) name: Name,
     pub(crate) at: Place,
     pub(crate) formals: Listed<Formal>,
@@ -133,9 +137,23 @@ pub(crate) enum Item {
     },
     /// `variable <- ..;`
     AttributeInit {
-        class: OpenClass,
+        class: Boxed<OpenClass>,
         variable: Variable,
     },
+}
+
+impl Variable {
+    /// The attribute of this name and type, with this value.
+    pub(crate) fn attribute(self, init: Option<Body>) -> Feature
+        ensures { result ≡ feature.Attribute (record { name = self.name; at = self.at; declared = self.declared; init = init }) }
+    {
+        Feature::Attribute(AttributeDef {
+            name: self.name,
+            at: self.at,
+            declared: self.declared,
+            init,
+        })
+    }
 }
 
 impl Call {
@@ -164,6 +182,16 @@ impl Call {
                 args,
             },
         }
+    }
+}
+
+impl Boxed<OpenClass> {
+    /// With one more feature. `Err` comes only for want of memory, and lets the class and the feature go.
+    pub(crate) fn with_feature(mut self, feature: Feature) -> Result<Boxed<OpenClass>, AllocError>
+        ensures { IfOk result (λ boxed. boxed ≡ machine.with_feature feature self) }
+    {
+        self.inner.features.push(feature)?;
+        Ok(self)
     }
 }
 

@@ -4,6 +4,7 @@
 //! `specs/Machine.antt` is the parser as a function on lists, to which the code is proved equal.
 #![tactic(auto)]
 
+mod boxed;
 mod classes;
 mod declarations;
 mod endings;
@@ -16,6 +17,7 @@ mod operands;
 mod operator;
 mod parser;
 mod parsing;
+mod reading;
 mod stack;
 mod step;
 

@@ -1,12 +1,13 @@
 //! What the parser has just read, and so what may come next.
 
+use crate::boxed::Boxed;
 use crate::item::{Call, OpenCase, OpenClass, OpenMethod, Variable};
 use cool_syntax::{Listed, Name, NodeId, Place, TypeRef};
 
 /// What a name and its declared type are for.
 #[derive(Drop)]
 pub(crate) enum Purpose {
-    Attribute(OpenClass),
+    Attribute(Boxed<OpenClass>),
     Formal(OpenMethod),
     Let,
     Branch(OpenCase),
@@ -37,15 +38,15 @@ pub(crate) enum Mode {
     },
     /// `class name { features ..`
     Features {
-        class: OpenClass,
+        class: Boxed<OpenClass>,
     },
     /// `class name { features } ..`
     ClassEnd {
-        class: OpenClass,
+        class: Boxed<OpenClass>,
     },
     /// `name ..`, of a feature
     FeatureName {
-        class: OpenClass,
+        class: Boxed<OpenClass>,
         name: Name,
         at: Place,
     },
@@ -72,11 +73,11 @@ pub(crate) enum Mode {
     },
     /// `name(formals) : result { body } ..`
     MethodEnd {
-        class: OpenClass,
+        class: Boxed<OpenClass>,
     },
     /// `name : declared ..`, of an attribute
     AttributeEnd {
-        class: OpenClass,
+        class: Boxed<OpenClass>,
         variable: Variable,
     },
     /// `..`, a name and its declared type

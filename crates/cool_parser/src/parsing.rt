@@ -10,16 +10,16 @@ ghost use Rattle.cool_syntax.specs.declared.place.Place.{Place};
 ghost use Rattle.cool_syntax.specs.declared.file_tree.ClassDef.{ClassDef};
 ghost use Rattle.cool_syntax.specs.Grammar.{Parses, IsUnexpected};
 ghost use Rattle.cool_syntax.specs.WrittenTrees.{AreClassesWritable};
-ghost use Rattle.cool_parser.specs.Answers.{IsFault, IsFaultAt};
+ghost use Rattle.cool_parser.specs.Answers.{IsFault, IsFaultAt, IsOutcome};
+ghost use Rattle.cool_parser.specs.Machine.{parsed, Whole};
 ghost use Rattle.cool_syntax.specs.FeatureSizes.{IsBoundedClass};
 ghost use Rattle.cool_syntax.specs.TreesWithinLimits.{AreClassesWithin};
 ghost use Rattle.cool_syntax.specs.Weights.{classes_weight};
 
 use crate::fault::{ParseError, ParseFault};
-use crate::mode::Mode;
-use crate::parser::Parser;
-use cool_syntax::{FileTree, Key, Place, Sign, Token, TokenKind};
-use std::alloc::{AllocError, Global};
+use crate::reading::Reading;
+use cool_syntax::{ClassDef, FileTree, Listed, Place, Token};
+use std::alloc::Global;
 
 /// The tree of a file, by its tokens (Cool manual, section 11). `file` is its position in the command, from 0, and `end` the place of
 /// its end; there are at most 1,048,576 tokens.
@@ -42,61 +42,18 @@ pub fn parse(alloc: Global, file: u32, tokens: &[Token], end: Place) -> Result<F
     ensures writable { IfOk result (λ tree. AreClassesWritable tree.classes) }
     ensures empty { tokens.now ≡ [] → MatchResult result (λ tree. tree.classes ≡ []) (λ error. error ≡ Memory) }
 {
-    let mut parser = Parser::new(alloc);
-    let mut mode = Mode::File;
-    for i in 0..tokens.len() {
-        let token = &tokens[i];
-        parser.make_room(&mode, &tokens[i..])?;
-        match parser.step(mode, token)? {
-            Some(next) => mode = next,
-            None => return Err(ParseError::Fault(ParseFault { at: token.at })),
-        }
-    }
-    match mode {
-        Mode::File => Ok(FileTree {
-            file,
-            classes: parser.classes,
-        }),
-        _ => Err(ParseError::Fault(ParseFault { at: end })),
+    match classes_of(alloc, tokens, end) {
+        Ok(classes) => Ok(FileTree { file, classes }),
+        Err(error) => Err(error),
     }
 }
 
-impl Parser {
-    /// Takes memory for the nodes of a feature, where one may begin: no tree has more nodes than tokens.
-    fn make_room(&mut self, mode: &Mode, rest: &[Token]) -> Result<(), AllocError>
-        requires nodes { length self.old.nodes < 2 ^ 31 }
-        requires tokens { length rest.now ≤ MOST_SOURCE_BYTES }
-        ensures same { self.new ≡ self.old }
-    {
-        match mode {
-            Mode::Features { .. } => self.pool.reserve(feature_length(rest)),
-            _ => Ok(()),
-        }
-    }
-}
-
-/// How many tokens there are up to the end of a feature: its semicolon, or a brace that closes the class.
-fn feature_length(tokens: &[Token]) -> u32
+/// The classes of a file, by its tokens: what the machine makes of them.
+fn classes_of(alloc: Global, tokens: &[Token], end: Place) -> Result<Listed<ClassDef>, ParseError>
     requires { length tokens.now ≤ MOST_SOURCE_BYTES }
-    ensures { result ≤ length tokens.now }
+    ensures { MatchResult result (λ classes. parsed tokens.now end ≡ Whole classes) (IsOutcome (parsed tokens.now end)) }
 {
-    let mut depth: u32 = 0;
-    for i in 0..tokens.len() {
-        match tokens[i].kind {
-            TokenKind::Sign(Sign::LBrace) | TokenKind::Key(Key::Case) => depth += 1,
-            TokenKind::Sign(Sign::RBrace) | TokenKind::Key(Key::Esac) => {
-                if depth == 0 {
-                    return i as u32;
-                }
-                depth -= 1;
-            }
-            TokenKind::Sign(Sign::Semi) => {
-                if depth == 0 {
-                    return i as u32 + 1;
-                }
-            }
-            _ => {}
-        }
-    }
-    tokens.len() as u32
+    let mut reading = Reading::new(alloc);
+    reading.read(tokens, end)?;
+    Ok(reading.into_classes())
 }

@@ -4,7 +4,6 @@
 //! in a column. Memory is asked for ahead, so that what follows cannot run out of it.
 #![tactic(auto)]
 
-mod boxed;
 mod column;
 mod pool;
 

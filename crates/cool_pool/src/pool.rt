@@ -3,11 +3,9 @@
 ghost use Rattle.std.specs.Prelude.{◌≡◌, ◌+◌, ◌<◌, ◌≤◌, [], ◌∷◌, ◌++◌, Some, length, IfOk, IfErr, IsOk, OnOk, OnErr, suc};
 ghost use Rattle.std.specs.List.{slice_get};
 ghost use Rattle.cool_syntax.specs.Tree.{Tree};
-ghost use Rattle.cool_syntax.specs.View.{tree};
 ghost use Rattle.cool_syntax.specs.NodeLists.{nodes as nodes_of, at_id, grown, made, HasPartsBelow, IsPostorder};
 
-use crate::boxed::boxed;
-use cool_syntax::{Body, Expr, Node, NodeId};
+use cool_syntax::{Body, Node, NodeId};
 use std::alloc::{AllocError, Global};
 use std::marker::Model;
 use std::mem::replace;
@@ -99,16 +97,6 @@ impl Pool {
         ensures parts { HasPartsBelow id.0 result.now }
     {
         &self.nodes[id.0 as usize]
-    }
-
-    /// The tree at this number, as an expression in memory of its own. `Err` comes only for want of memory.
-    ///
-    /// It calls itself once for each level of the tree, so it takes stack in proportion to the depth.
-    pub fn tree(&self, alloc: Global, id: NodeId) -> Result<Expr, AllocError>
-        requires below { id.0 < length self.now.nodes }
-        ensures { IfOk result (λ e. tree e ≡ at_id (grown [] self.now.nodes) id) }
-    {
-        boxed(alloc, self, id)
     }
 
     /// The body of all nodes, which are the list of a tree. It takes no memory, and the pool is empty afterwards, with no

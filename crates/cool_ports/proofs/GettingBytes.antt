@@ -34,10 +34,6 @@ got_more before mid after bytes rest piece later h s e = record {
   got = e ∙ ap (λ held. appended held piece) h.got ∙ appended-appended before h.front piece;
 }
 
--- where no byte is still to come, all came
-pub got_all : (before after : Option (List ℕ)) (bytes : List ℕ) → GotUpTo before bytes [] after → after ≡ appended before bytes
-got_all before after bytes h = h.got ∙ ap (appended before) (sym (append-nil h.front) ∙ sym h.cut)
-
 -- a prefix of a piece, after the pieces before it, is a prefix of all
 pub got_prefix : (before mid after : Option (List ℕ)) (bytes rest piece later : List ℕ) → GotUpTo before bytes rest mid → piece ++ later ≡ rest → GotPrefix mid piece after → GotPrefix before bytes after
 got_prefix before mid after bytes rest piece later h s (more, p) = (

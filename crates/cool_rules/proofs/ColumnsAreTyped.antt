@@ -22,7 +22,7 @@ use Rattle.cool_rules.specs.Conformance.{IsType}
 use Rattle.cool_rules.specs.NodeTypes.{node_types, part_types, types_of_all, types_of_maybe, types_of_cases, own_scope, initial_types, feature_types}
 use Rattle.cool_rules.specs.NodeScopes.{node_scopes, part_scopes, scopes_of_all, scopes_of_maybe, scopes_of_cases, feature_scope, expression_of, IsTypedEntry, AreTypedColumns}
 use Rattle.cool_rules.specs.Rules.{type_meant}
-use Rattle.cool_rules.specs.Scopes.{Binding}
+use Rattle.cool_rules.specs.Scopes.{AreTypes, Binding}
 use Rattle.cool_rules.specs.StaticTypes.{type_of}
 use Rattle.cool_rules.specs.TypedTables.{IsTypedTable}
 use Rattle.cool_rules.specs.Typing.{HasType, HaveTypes, HaveItems, HasInit, HaveBranches, FitsDeclared, IsTypedInit, IsTypedFeature, bool_type, int_type, object_type, with_name, attributes_in_scope, formals_in_scope}
@@ -32,9 +32,6 @@ use Rattle.cool_rules.proofs.TypesAreTypes.{meant_is_type, formals_are_types, at
 use Rattle.lists.proofs.AllItems.{all_append}
 
 module _ (p : List Class) (whole : IsWholeTable p) (c : ClassId) (within : c.0 < length p) where
-  abbrev AreTypes : List Binding → Type 0
-  AreTypes scope = AllByRecursion (λ (b : Binding). IsType p b.type) scope
-
   -- expressions have these types, each with names in scope of its own
   abbrev EachHas : List (List Binding) → List Tree → List Ty → Type 0
   EachHas [] [] [] = Unit {0}
@@ -64,7 +61,7 @@ module _ (p : List Class) (whole : IsWholeTable p) (c : ClassId) (within : c.0 <
   at_place (s ∷ ss) (t ∷ ts) (u ∷ us) h (suc k) d less = at_place ss ts us h.1 k d (omega arith)
 
   -- an expression after its parts
-  with_own : (t : Tree) (ps : List Tree) (scope : List Binding) (type : Ty) → AreTypes scope → HasType p c scope t type → EachHas (part_scopes p scope t) ps (part_types p c scope t)
+  with_own : (t : Tree) (ps : List Tree) (scope : List Binding) (type : Ty) → AreTypes p scope → HasType p c scope t type → EachHas (part_scopes p scope t) ps (part_types p c scope t)
       → EachHas (node_scopes p scope t) (ps ++ t ∷ []) (node_types p c scope t)
   with_own t ps scope type types has h =
       both (part_scopes p scope t) ps (part_types p c scope t) (scope ∷ []) (t ∷ []) (type_of p c scope t ∷ []) h
@@ -77,7 +74,7 @@ module _ (p : List Class) (whole : IsWholeTable p) (c : ClassId) (within : c.0 <
       subst (λ (u : Ty). HasType p c (with_name name u scope) t type) (type_meant_is p declared bound whole.table denotes) has
 
   mutual
-    each_has : (t : Tree) (scope : List Binding) (type : Ty) → AreTypes scope → HasType p c scope t type → EachHas (node_scopes p scope t) (parts t) (node_types p c scope t)
+    each_has : (t : Tree) (scope : List Binding) (type : Ty) → AreTypes p scope → HasType p c scope t type → EachHas (node_scopes p scope t) (parts t) (node_types p c scope t)
     each_has (trees.Assign at name e) scope type types h = with_own (trees.Assign at name e) (parts e) scope type types h (each_has e scope type types h.2)
     each_has (trees.Dispatch at e name es) scope type types h =
         with_own (trees.Dispatch at e name es) (parts e ++ parts_of_all es) scope type types h
@@ -117,22 +114,22 @@ module _ (p : List Class) (whole : IsWholeTable p) (c : ClassId) (within : c.0 <
     each_has (trees.Str at bytes) scope type types h = with_own (trees.Str at bytes) [] scope type types h tt
     each_has (trees.Bool at value) scope type types h = with_own (trees.Bool at value) [] scope type types h tt
 
-    all_have : (es : Trees) (scope : List Binding) (ts : List Ty) → AreTypes scope → HaveTypes p c scope es ts → EachHas (scopes_of_all p scope es) (parts_of_all es) (types_of_all p c scope es)
+    all_have : (es : Trees) (scope : List Binding) (ts : List Ty) → AreTypes p scope → HaveTypes p c scope es ts → EachHas (scopes_of_all p scope es) (parts_of_all es) (types_of_all p c scope es)
     all_have Last scope ts types h = tt
     all_have (More e es) scope [] types h = absurd h
     all_have (More e es) scope (t ∷ ts) types h =
         both (node_scopes p scope e) (parts e) (node_types p c scope e) (scopes_of_all p scope es) (parts_of_all es) (types_of_all p c scope es) (each_has e scope t types h.0) (all_have es scope ts types h.1)
 
-    items_have : (es : Trees) (scope : List Binding) (before type : Ty) → AreTypes scope → HaveItems p c scope before es type → EachHas (scopes_of_all p scope es) (parts_of_all es) (types_of_all p c scope es)
+    items_have : (es : Trees) (scope : List Binding) (before type : Ty) → AreTypes p scope → HaveItems p c scope before es type → EachHas (scopes_of_all p scope es) (parts_of_all es) (types_of_all p c scope es)
     items_have Last scope before type types h = tt
     items_have (More e es) scope before type types h =
         both (node_scopes p scope e) (parts e) (node_types p c scope e) (scopes_of_all p scope es) (parts_of_all es) (types_of_all p c scope es) (each_has e scope h.0 types h.1) (items_have es scope h.0 type types h.2)
 
-    init_has : (o : MaybeTree) (scope : List Binding) (bound : Ty) → AreTypes scope → HasInit p c scope bound o → EachHas (scopes_of_maybe p scope o) (parts_of_maybe o) (types_of_maybe p c scope o)
+    init_has : (o : MaybeTree) (scope : List Binding) (bound : Ty) → AreTypes p scope → HasInit p c scope bound o → EachHas (scopes_of_maybe p scope o) (parts_of_maybe o) (types_of_maybe p c scope o)
     init_has Without scope bound types h = tt
     init_has (With e) scope bound types h = each_has e scope h.0 types h.1
 
-    branches_have : (cs : Cases) (scope : List Binding) (ts : List Ty) → AreTypes scope → HaveBranches p c scope cs ts → EachHas (scopes_of_cases p scope cs) (parts_of_cases cs) (types_of_cases p c scope cs)
+    branches_have : (cs : Cases) (scope : List Binding) (ts : List Ty) → AreTypes p scope → HaveBranches p c scope cs ts → EachHas (scopes_of_cases p scope cs) (parts_of_cases cs) (types_of_cases p c scope cs)
     branches_have NoCase scope ts types h = tt
     branches_have (CaseOf at name declared e cs) scope [] types h = absurd h
     branches_have (CaseOf at name declared e cs) scope (t ∷ ts) types ((d, other, denotes, has), have) =
@@ -141,7 +138,7 @@ module _ (p : List Class) (whole : IsWholeTable p) (c : ClassId) (within : c.0 <
         (each_has e inner t (meant_is_type p whole declared.name, types) (within_name name declared.name (IsClass d) t scope e denotes has)) (branches_have cs scope ts types have)
 
   -- the entry of a node of a typed expression
-  entry_typed : (e : Tree) (scope : List Binding) (type : Ty) → AreTypes scope → HasType p c scope e type → (id : NodeId) → id.0 < tree_size e → IsTypedEntry p c scope e (node_types p c scope e) id
+  entry_typed : (e : Tree) (scope : List Binding) (type : Ty) → AreTypes p scope → HasType p c scope e type → (id : NodeId) → id.0 < tree_size e → IsTypedEntry p c scope e (node_types p c scope e) id
   entry_typed e scope type types has id less =
       let found = at_place (node_scopes p scope e) (parts e) (node_types p c scope e) (each_has e scope type types has) id.0 (trees.Int nowhere 0) (omega (arith, length-parts e)) in
       record {
@@ -153,7 +150,7 @@ module _ (p : List Class) (whole : IsWholeTable p) (c : ClassId) (within : c.0 <
       }
 
   -- that of a feature
-  declared_typed : (inner : List Binding) (e : Tree) (declared : List ℕ) → AreTypes inner → FitsDeclared p c inner e declared → (id : NodeId) → id.0 < tree_size e
+  declared_typed : (inner : List Binding) (e : Tree) (declared : List ℕ) → AreTypes p inner → FitsDeclared p c inner e declared → (id : NodeId) → id.0 < tree_size e
       → IsTypedEntry p c (inner ++ own_scope p c) e (node_types p c (inner ++ own_scope p c) e) id
   declared_typed inner e declared types f id less =
       let same : f.chain ≡ chain p c = chain_unique p (Some c) f.chain (chain p c) f.is_chain (chain_is p c whole.table within) in

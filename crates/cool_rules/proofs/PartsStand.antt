@@ -10,7 +10,7 @@ use Rattle.cool_syntax.specs.declared.node.NodeId.{NodeId}
 use Rattle.cool_syntax.specs.Tree.{Tree, Trees, MaybeTree, Cases, Last, More, Without, With, NoCase, CaseOf, tree_size, maybe_size}
 use Rattle.cool_syntax.specs.Tree as trees
 use Rattle.cool_syntax.specs.Bare.{nowhere}
-use Rattle.cool_syntax.specs.Falls.{one_le_size}
+use Rattle.cool_syntax.proofs.TreesHaveNodes.{one_le_size}
 use Rattle.cool_syntax.specs.NodeLists.{root, root_of_maybe, roots, branch_roots, nodes, nodes_of_all, nodes_of_maybe, nodes_of_cases, grown, made, tree_at, all_trees}
 use Rattle.cool_syntax.proofs.TreesOfLists.{parts, length-parts, length-nodes, length-nodes_of_maybe, grown-nodes, all_trees-parts, tree_of-nodes}
 use Rattle.cool_syntax.proofs.TreesAtNumbers.{grown-keeps}

@@ -18,7 +18,7 @@ use Rattle.cool_classes.proofs.ChainsOfTables.{chain_is}
 use Rattle.cool_classes.proofs.Climbs.{chain_unique}
 use Rattle.cool_rules.specs.Conformance.{IsType, Conforms, class_of}
 use Rattle.cool_rules.specs.Rules.{join_in, type_meant, method_of}
-use Rattle.cool_rules.specs.Scopes.{Binding, found}
+use Rattle.cool_rules.specs.Scopes.{AreTypes, Binding, found}
 use Rattle.cool_rules.specs.Meant.{joined, method_in}
 use Rattle.cool_rules.specs.StaticTypes.{type_of, last_type_of, cases_type_of}
 use Rattle.cool_rules.specs.Typing.{object_type, type_in_scope, with_name, IsImplementation, IsCall, IsJoinOfAll, IsJoinOfBranches, result_on, HasType, HaveItems, HaveBranches}
@@ -45,9 +45,6 @@ covers_with x t scope seen covers = λ name u is. by name u (bytes_eq x name) is
     by name u false is more = more is
 
 module _ (p : List Class) (whole : IsWholeTable p) (c : ClassId) (within : c.0 < length p) where
-  abbrev AreTypes : List Binding → Type 0
-  AreTypes scope = AllByRecursion (λ (b : Binding). IsType p b.type) scope
-
   -- Joins
 
   conforms_on : (t u v : Ty) → Conforms p c t u → Conforms p c u v → Conforms p c t v
@@ -87,7 +84,7 @@ module _ (p : List Class) (whole : IsWholeTable p) (c : ClassId) (within : c.0 <
       ∙ one_type p whole c other.join j (conforming_type p whole c t other.join within h.0 other.all.all.0) (conforming_type p whole c t j within h.0 is.all.0)
       (other.all.least j is.all) (is.least other.join other.all.all)
 
-  branch_types : (cs : Cases) (scope : List Binding) (ts : List Ty) → AreTypes scope → HaveBranches p c scope cs ts → AllByRecursion (IsType p) ts
+  branch_types : (cs : Cases) (scope : List Binding) (ts : List Ty) → AreTypes p scope → HaveBranches p c scope cs ts → AllByRecursion (IsType p) ts
   branch_types NoCase scope [] types h = tt
   branch_types NoCase scope (t ∷ ts) types h = absurd h
   branch_types (CaseOf at name declared e cs) scope [] types h = absurd h
@@ -128,7 +125,7 @@ module _ (p : List Class) (whole : IsWholeTable p) (c : ClassId) (within : c.0 <
 
   mutual
     -- the type of an expression, also in a scope that gives the names more types
-    pub type_is_in : (e : Tree) (scope seen : List Binding) (type : Ty) → AreTypes scope → Covers scope seen → HasType p c scope e type → type_of p c seen e ≡ type
+    pub type_is_in : (e : Tree) (scope seen : List Binding) (type : Ty) → AreTypes p scope → Covers scope seen → HasType p c scope e type → type_of p c seen e ≡ type
     type_is_in (trees.Id at name) scope seen type types covers h = named_is scope seen name type covers h
     type_is_in (trees.Int at n) scope seen type types covers h = sym h
     type_is_in (trees.Str at bytes) scope seen type types covers h = sym h
@@ -161,12 +158,12 @@ module _ (p : List Class) (whole : IsWholeTable p) (c : ClassId) (within : c.0 <
     type_is_in (trees.Arith at op a b) scope seen type types covers (has, has1, is) = sym is
     type_is_in (trees.Compare at op a b) scope seen type types covers (t, u, has, has1, comparable, is) = sym is
 
-    last_is : (es : Trees) (scope seen : List Binding) (last before type : Ty) → AreTypes scope → Covers scope seen → last ≡ before → HaveItems p c scope before es type
+    last_is : (es : Trees) (scope seen : List Binding) (last before type : Ty) → AreTypes p scope → Covers scope seen → last ≡ before → HaveItems p c scope before es type
         → last_type_of p c seen last es ≡ type
     last_is Last scope seen last before type types covers same is = same ∙ sym is
     last_is (More e es) scope seen last before type types covers same (t, has, have) = last_is es scope seen (type_of p c seen e) t type types covers (type_is_in e scope seen t types covers has) have
 
-    cases_are : (cs : Cases) (scope seen : List Binding) (join : Option Ty) (ts : List Ty) → AreTypes scope → Covers scope seen → HaveBranches p c scope cs ts
+    cases_are : (cs : Cases) (scope seen : List Binding) (join : Option Ty) (ts : List Ty) → AreTypes p scope → Covers scope seen → HaveBranches p c scope cs ts
         → cases_type_of p c seen join cs ≡ folded p c join ts
     cases_are NoCase scope seen join [] types covers h = refl
     cases_are NoCase scope seen join (t ∷ ts) types covers h = absurd h
@@ -177,5 +174,5 @@ module _ (p : List Class) (whole : IsWholeTable p) (c : ClassId) (within : c.0 <
         ∙ cases_are cs scope seen (Some (joined p c join t)) ts types covers have
 
   -- the type of an expression
-  pub type_is : (e : Tree) (scope : List Binding) (type : Ty) → AreTypes scope → HasType p c scope e type → type_of p c scope e ≡ type
+  pub type_is : (e : Tree) (scope : List Binding) (type : Ty) → AreTypes p scope → HasType p c scope e type → type_of p c scope e ≡ type
   type_is e scope type types has = type_is_in e scope scope type types (λ name t is. is) has

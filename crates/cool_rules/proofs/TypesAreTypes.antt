@@ -16,7 +16,7 @@ use Rattle.cool_rules.specs.Conformance.{class_of, IsType}
 use Rattle.cool_rules.specs.Meant.{joined, method_in, type_of_call}
 use Rattle.cool_rules.specs.NodeTypes.{node_types, part_types, types_of_all, types_of_maybe, types_of_cases}
 use Rattle.cool_rules.specs.Rules.{join_in, type_meant, type_of_name}
-use Rattle.cool_rules.specs.Scopes.{Binding}
+use Rattle.cool_rules.specs.Scopes.{AreTypes, Binding}
 use Rattle.cool_rules.specs.StaticTypes.{type_of, last_type_of, cases_type_of}
 use Rattle.cool_rules.specs.Typing.{type_in_scope, with_name, object_type, result_on, attributes_in_scope, formals_in_scope}
 use Rattle.cool_rules.proofs.RulesDecided.{named_denotes, denotes_type, join_is, conforming_type}
@@ -24,9 +24,6 @@ use Rattle.cool_rules.proofs.TypesOfMethods.{basic_there, in_scope}
 use Rattle.lists.proofs.AllItems.{all_append}
 
 module _ (p : List Class) (whole : IsWholeTable p) where
-  abbrev AreTypes : List Binding → Type 0
-  AreTypes scope = AllByRecursion (λ (b : Binding). IsType p b.type) scope
-
   -- what a name means
   pub meant_is_type : (name : List ℕ) → IsType p (type_meant p name)
   unfolding type_meant
@@ -37,17 +34,17 @@ module _ (p : List Class) (whole : IsWholeTable p) where
       by (Some t) e = denotes_type p whole name t (named_denotes p whole name t e)
 
   -- formals and attributes
-  pub formals_are_types : (fs : List Formal) → AreTypes (formals_in_scope p fs)
+  pub formals_are_types : (fs : List Formal) → AreTypes p (formals_in_scope p fs)
   formals_are_types [] = tt
   formals_are_types (f ∷ fs) = (meant_is_type f.declared.name, formals_are_types fs)
 
-  pub attributes_are_types : (rs : List AttributeRef) → AreTypes (attributes_in_scope p rs)
+  pub attributes_are_types : (rs : List AttributeRef) → AreTypes p (attributes_in_scope p rs)
   attributes_are_types [] = tt
   attributes_are_types (r ∷ rs) = (meant_is_type (attribute_type p r), attributes_are_types rs)
 
   module _ (c : ClassId) (within : c.0 < length p) where
     -- names, calls and joins
-    named : (scope : List Binding) (name : List ℕ) → AreTypes scope → IsType p (unwrap_or (type_in_scope scope name) object_type)
+    named : (scope : List Binding) (name : List ℕ) → AreTypes p scope → IsType p (unwrap_or (type_in_scope scope name) object_type)
     named scope name h = by (type_in_scope scope name) refl
       where
         by : (o : Option Ty) → type_in_scope scope name ≡ o → IsType p (unwrap_or o object_type)
@@ -70,7 +67,7 @@ module _ (p : List Class) (whole : IsWholeTable p) where
 
     mutual
       -- the type of an expression
-      pub type_is_type : (t : Tree) (scope : List Binding) → AreTypes scope → IsType p (type_of p c scope t)
+      pub type_is_type : (t : Tree) (scope : List Binding) → AreTypes p scope → IsType p (type_of p c scope t)
       type_is_type (trees.Assign at name t) scope h = type_is_type t scope h
       type_is_type (trees.Dispatch at t name ts) scope h = call_is_type (class_of c (type_of p c scope t)) (type_of p c scope t) name (type_is_type t scope h)
       type_is_type (trees.StaticDispatch at t class name ts) scope h = call_is_type (class_of c (type_meant p class.name)) (type_of p c scope t) name (type_is_type t scope h)
@@ -90,11 +87,11 @@ module _ (p : List Class) (whole : IsWholeTable p) where
       type_is_type (trees.Str at bytes) scope h = basic_there p whole 4 (omega arith)
       type_is_type (trees.Bool at value) scope h = basic_there p whole 3 (omega arith)
 
-      last_is_type : (ts : Trees) (scope : List Binding) (last : Ty) → AreTypes scope → IsType p last → IsType p (last_type_of p c scope last ts)
+      last_is_type : (ts : Trees) (scope : List Binding) (last : Ty) → AreTypes p scope → IsType p last → IsType p (last_type_of p c scope last ts)
       last_is_type Last scope last h g = g
       last_is_type (More t ts) scope last h g = last_is_type ts scope (type_of p c scope t) h (type_is_type t scope h)
 
-      branches_are_types : (cs : Cases) (scope : List Binding) (join : Option Ty) → AreTypes scope → IsType p (unwrap_or join object_type) → IsType p (unwrap_or (cases_type_of p c scope join cs) object_type)
+      branches_are_types : (cs : Cases) (scope : List Binding) (join : Option Ty) → AreTypes p scope → IsType p (unwrap_or join object_type) → IsType p (unwrap_or (cases_type_of p c scope join cs) object_type)
       branches_are_types NoCase scope join h g = g
       branches_are_types (CaseOf at name declared t cs) scope join h g =
           let inner = type_is_type t (with_name name (type_meant p declared.name) scope) (meant_is_type declared.name, h) in
@@ -105,11 +102,11 @@ module _ (p : List Class) (whole : IsWholeTable p) where
     both xs ys h g = all_append (IsType p) xs ys h g
 
     -- the type of a node after those of its parts
-    with_own : (t : Tree) (scope : List Binding) → AreTypes scope → AllByRecursion (IsType p) (part_types p c scope t) → AllByRecursion (IsType p) (node_types p c scope t)
+    with_own : (t : Tree) (scope : List Binding) → AreTypes p scope → AllByRecursion (IsType p) (part_types p c scope t) → AllByRecursion (IsType p) (node_types p c scope t)
     with_own t scope h g = both (part_types p c scope t) (type_of p c scope t ∷ []) g (type_is_type t scope h, tt)
 
     mutual
-      parts_are_types : (t : Tree) (scope : List Binding) → AreTypes scope → AllByRecursion (IsType p) (part_types p c scope t)
+      parts_are_types : (t : Tree) (scope : List Binding) → AreTypes p scope → AllByRecursion (IsType p) (part_types p c scope t)
       parts_are_types (trees.Assign at name t) scope h = with_own t scope h (parts_are_types t scope h)
       parts_are_types (trees.Dispatch at t name ts) scope h = both (node_types p c scope t) (types_of_all p c scope ts) (with_own t scope h (parts_are_types t scope h)) (all_are_types ts scope h)
       parts_are_types (trees.StaticDispatch at t class name ts) scope h = both (node_types p c scope t) (types_of_all p c scope ts) (with_own t scope h (parts_are_types t scope h)) (all_are_types ts scope h)
@@ -134,20 +131,20 @@ module _ (p : List Class) (whole : IsWholeTable p) where
       parts_are_types (trees.Str at bytes) scope h = tt
       parts_are_types (trees.Bool at value) scope h = tt
 
-      all_are_types : (ts : Trees) (scope : List Binding) → AreTypes scope → AllByRecursion (IsType p) (types_of_all p c scope ts)
+      all_are_types : (ts : Trees) (scope : List Binding) → AreTypes p scope → AllByRecursion (IsType p) (types_of_all p c scope ts)
       all_are_types Last scope h = tt
       all_are_types (More t ts) scope h = both (node_types p c scope t) (types_of_all p c scope ts) (with_own t scope h (parts_are_types t scope h)) (all_are_types ts scope h)
 
-      maybe_are_types : (o : MaybeTree) (scope : List Binding) → AreTypes scope → AllByRecursion (IsType p) (types_of_maybe p c scope o)
+      maybe_are_types : (o : MaybeTree) (scope : List Binding) → AreTypes p scope → AllByRecursion (IsType p) (types_of_maybe p c scope o)
       maybe_are_types Without scope h = tt
       maybe_are_types (With t) scope h = with_own t scope h (parts_are_types t scope h)
 
-      cases_are_types : (cs : Cases) (scope : List Binding) → AreTypes scope → AllByRecursion (IsType p) (types_of_cases p c scope cs)
+      cases_are_types : (cs : Cases) (scope : List Binding) → AreTypes p scope → AllByRecursion (IsType p) (types_of_cases p c scope cs)
       cases_are_types NoCase scope h = tt
       cases_are_types (CaseOf at name declared t cs) scope h =
           let inner = with_own t (with_name name (type_meant p declared.name) scope) (meant_is_type declared.name, h) (parts_are_types t (with_name name (type_meant p declared.name) scope) (meant_is_type declared.name, h)) in
           both (node_types p c (with_name name (type_meant p declared.name) scope) t) (types_of_cases p c scope cs) inner (cases_are_types cs scope h)
 
     -- the types of the nodes of an expression
-    pub types_are_types : (t : Tree) (scope : List Binding) → AreTypes scope → AllByRecursion (IsType p) (node_types p c scope t)
+    pub types_are_types : (t : Tree) (scope : List Binding) → AreTypes p scope → AllByRecursion (IsType p) (node_types p c scope t)
     types_are_types t scope h = with_own t scope h (parts_are_types t scope h)

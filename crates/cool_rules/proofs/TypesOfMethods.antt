@@ -19,13 +19,13 @@ use Rattle.cool_classes.specs.Chains.{Class, class_number, nothing, name_of, fea
 use Rattle.cool_classes.specs.Features.{formals_of, result_of, formals_in, result_in, HasMethod, IsMethod}
 use Rattle.cool_classes.specs.Tables.{basic_classes, IsTyped, IsClassName, IsTypeName, IsWholeTable}
 use Rattle.cool_rules.specs.Conformance.{IsType}
-use Rattle.cool_rules.specs.Scopes.{Binding, found}
+use Rattle.cool_rules.specs.Scopes.{AreTypes, Binding, found}
 use Rattle.cool_rules.specs.Typing.{HasType, HaveItems, HaveBranches, IsJoinOfBranches, type_in_scope, result_on, with_name, object_type}
 use Rattle.cool_rules.proofs.RulesDecided.{denotes_type, conforming_type}
 use Rattle.lists.proofs.AllItems.{all_get}
 
 -- a name that is found has the type of its binding
-found_type : (p : List Class) (scope : List Binding) (name : List ℕ) (t : Ty) → AllByRecursion (λ (b : Binding). IsType p b.type) scope → found scope name ≡ Some t → IsType p t
+found_type : (p : List Class) (scope : List Binding) (name : List ℕ) (t : Ty) → AreTypes p scope → found scope name ≡ Some t → IsType p t
 found_type p [] name t h e = absurd (cc)
 found_type p (b ∷ scope) name t h e = by (bytes_eq b.name name) e (found_type p scope name t h.1)
   where
@@ -95,7 +95,7 @@ module _ (p : List Class) (whole : IsWholeTable p) where
   -- Types of expressions
 
   module _ (c : ClassId) (within : c.0 < length p) where
-    pub in_scope : (scope : List Binding) (name : List ℕ) (t : Ty) → AllByRecursion (λ (b : Binding). IsType p b.type) scope → type_in_scope scope name ≡ Some t → IsType p t
+    pub in_scope : (scope : List Binding) (name : List ℕ) (t : Ty) → AreTypes p scope → type_in_scope scope name ≡ Some t → IsType p t
     in_scope scope name t h e = by (bytes_eq name (codes "self")) e
       where
         by : (x : Bool) → (if x then Some SelfType else found scope name) ≡ Some t → IsType p t
@@ -110,7 +110,7 @@ module _ (p : List Class) (whole : IsWholeTable p) where
     call_type receiver SelfType t h g e = subst (IsType p) (sym e) h
 
     mutual
-      pub expression_type : (e : Tree) (scope : List Binding) (t : Ty) → AllByRecursion (λ (b : Binding). IsType p b.type) scope → HasType p c scope e t → IsType p t
+      pub expression_type : (e : Tree) (scope : List Binding) (t : Ty) → AreTypes p scope → HasType p c scope e t → IsType p t
       expression_type (trees.Id at name) scope t s h = in_scope scope name t s h
       expression_type (trees.Int at n) scope t s h = basic_type 2 (omega arith) t h
       expression_type (trees.Str at bytes) scope t s h = basic_type 4 (omega arith) t h
@@ -133,11 +133,11 @@ module _ (p : List Class) (whole : IsWholeTable p) where
       expression_type (trees.Arith at op a b) scope t s (has, has1, is) = basic_type 2 (omega arith) t is
       expression_type (trees.Compare at op a b) scope t s (u, v, has, has1, comparable, is) = basic_type 3 (omega arith) t is
 
-      items_type : (es : Trees) (scope : List Binding) (before t : Ty) → AllByRecursion (λ (b : Binding). IsType p b.type) scope → IsType p before → HaveItems p c scope before es t → IsType p t
+      items_type : (es : Trees) (scope : List Binding) (before t : Ty) → AreTypes p scope → IsType p before → HaveItems p c scope before es t → IsType p t
       items_type Last scope before t s h is = subst (IsType p) (sym is) h
       items_type (More e es) scope before t s h (u, has, have) = items_type es scope u t s (expression_type e scope u s has) have
 
-      branches_type : (cs : Cases) (scope : List Binding) (ts : List Ty) (t : Ty) → AllByRecursion (λ (b : Binding). IsType p b.type) scope → HaveBranches p c scope cs ts → IsJoinOfBranches p c ts t → IsType p t
+      branches_type : (cs : Cases) (scope : List Binding) (ts : List Ty) (t : Ty) → AreTypes p scope → HaveBranches p c scope cs ts → IsJoinOfBranches p c ts t → IsType p t
       branches_type NoCase scope [] t s h join = basic_type 0 (omega arith) t join
       branches_type NoCase scope (u ∷ ts) t s h join = absurd h
       branches_type (CaseOf at name declared e cs) scope [] t s h join = absurd h

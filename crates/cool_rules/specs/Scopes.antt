@@ -1,12 +1,19 @@
 -- The names in scope: bindings of names to types, the latest first (the Cool manual, section 12).
 use Rattle.std.specs.Prelude.{◌≡◌, ℕ, List, [], ◌∷◌, ◌++◌, codes, bytes_eq, if◌then◌else◌, Option, Some, None, refl}
+use Rattle.std.specs.List.{AllByRecursion}
 use Rattle.cool_classes.specs.declared.class_id.Ty.{Ty}
 use Rattle.cool_classes.specs.declared.class_id.Ty.TheVariants.{SelfType}
+use Rattle.cool_classes.specs.Chains.{Class}
+use Rattle.cool_rules.specs.Conformance.{IsType}
 use Rattle.cool_rules.specs.declared.scope.Entry.{Entry}
 
 pub record Binding : Type 0 where
   pub name : List ℕ
   pub type : Ty
+
+-- the types of names in scope are types of the table
+abbrev pub AreTypes : List Class → List Binding → Type 0
+AreTypes p scope = AllByRecursion (λ b. IsType p b.type) scope
 
 -- the type that the latest binding of a name gives
 abbrev pub found : List Binding → List ℕ → Option Ty

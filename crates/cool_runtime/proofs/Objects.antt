@@ -54,9 +54,6 @@ module _ (w : World) where
   pub same_word : (m m' : Bytes) (gp sp a : ℕ) → Same m m' gp sp → a + 4 ≤ gp → word m' a ≡ word m a
   same_word m m' gp sp a same room = word_equal m m' a (λ q from to. same.below q (omega arith))
 
-  pub same_stack : (m m' : Bytes) (gp sp a : ℕ) → Same m m' gp sp → sp ≤ a → word m' a ≡ word m a
-  same_stack m m' gp sp a same room = word_equal m m' a (λ q from to. same.over q (omega arith))
-
   pub same_then : (m m1 m2 : Bytes) (gp gp1 sp sp1 : ℕ) → gp ≤ gp1 → sp1 ≤ sp → Same m m1 gp sp → Same m1 m2 gp1 sp1 → Same m m2 gp sp
   same_then m m1 m2 gp gp1 sp sp1 le ge a b = record {
     below = λ q h. b.below q (omega arith) ∙ a.below q h;

@@ -87,9 +87,6 @@ bne rs rt = instruction_line (Plain (BranchTwo two.Bne rs rt (pos 1)))
 abbrev pub bgez : ℕ → Line
 bgez rs = instruction_line (Plain (BranchOne one.Bgez rs (pos 1)))
 
-abbrev pub bgtz : ℕ → Line
-bgtz rs = instruction_line (Plain (BranchOne one.Bgtz rs (pos 1)))
-
 -- HI and LO
 
 abbrev pub mult : ℕ → ℕ → Line

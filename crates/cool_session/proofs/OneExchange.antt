@@ -49,10 +49,6 @@ one_fresh now base n m (fresh.signed_anew old other) (fresh.edited old' k same d
 one_fresh now base n m (fresh.edited old k same d) (fresh.signed_anew old' other) = absurd (other same)
 one_fresh now base n m (fresh.edited old k same d) (fresh.edited old' j same' e) = one_differ _ _ _ _ k j d e refl refl
 
-base_is : (a b : List ClassSignature) (fs gs : List (List TokenKind)) → a ≡ b → fs ≡ gs
-    → ◌≡◌ {A = Base} (record { signatures = a; features = fs }) (record { signatures = b; features = gs })
-base_is a b fs gs p q = rw (p, q) refl
-
 one_types : (files : List (List ℕ)) (base : Option Base) (n m : ℕ) (b c : Option Base) → Types files base n b → Types files base m c
     → (n ≡ m) × (b ≡ c)
 one_types files base n m b c (fresh.typed now k t f) (fresh.typed now' j t' f') =

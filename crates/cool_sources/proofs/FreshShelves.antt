@@ -33,10 +33,10 @@ module _ (shelf : ShelfUse) (names : List (List ℕ)) (asked_none : shelf.asked_
 
   pub were_unread : AreUnread shelf names → WereUnread names shelf.asked_after shelf.gave_after
   were_unread (inl (many, unused)) = inl (many, unused.asked ∙ asked_none)
-  were_unread (inr (few, stop)) = inr (omega (
+  were_unread (inr (few, (name, fault, stop))) = inr (omega (
     arith,
-    ap length (stop.asked ∙ ap (λ (xs : List (List ℕ)). xs ++ (stop.front ++ stop.name ∷ [])) asked_none),
-    length_push stop.front stop.name,
+    ap length (stop.asked ∙ ap (λ (xs : List (List ℕ)). xs ++ (stop.front ++ name ∷ [])) asked_none),
+    length_push stop.front name,
     held_each shelf.files stop.front stop.contents stop.held,
     ap length (stop.gave ∙ ap (λ (xs : List (List ℕ)). xs ++ stop.contents) gave_none),
   ))

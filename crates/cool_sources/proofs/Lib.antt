@@ -1,3 +1,3 @@
-mod FilesRead
+pub mod FilesRead
 pub mod FreshShelves
 pub mod NotesTold

@@ -6,34 +6,49 @@ use Rattle.cool_ports.specs.Counts.{Rose}
 use Rattle.cool_ports.specs.ShelfFiles.{FileMap, IsMissing, IsLonger, AreHeld}
 use Rattle.cool_sources.specs.Devices.{ShelfUse, IsUnused}
 use Rattle.cool_sources.specs.declared.status.Status.{Status}
-use Rattle.cool_sources.specs.declared.status.Status.TheVariants.{Done, Refused, Usage, WriteFault, Memory, FileFault}
+use Rattle.cool_sources.specs.declared.status.Status.TheVariants as statuses
+use Rattle.cool_sources.specs.declared.reading.ReadError.{ReadError}
+use Rattle.cool_sources.specs.declared.reading.ReadError.TheVariants.{Memory, Refused}
+use Rattle.cool_ports.specs.declared.shelf.ShelfFault.{ShelfFault}
+use Rattle.cool_ports.specs.declared.shelf.ShelfFault.TheVariants as faults
 
--- why the shelf refuses the file of this name, which may have so many bytes: it is missing, or longer, or was not read
-abbrev pub IsCause : Option FileMap → ℕ → ℕ → List ℕ → ℕ → Type 0
-IsCause files before after name most = IsMissing files name before after ⊎ (IsLonger files name most before after ⊎ Rose before after)
+-- why the shelf refuses a file of this name that may have so many bytes
+abbrev pub IsCause : Option FileMap → ℕ → ℕ → List ℕ → ℕ → ShelfFault → Type 0
+IsCause files before after name most faults.Missing = IsMissing files name before after
+IsCause files before after name most faults.Failed = Rose before after
+IsCause files before after name most faults.TooLarge = IsLonger files name most before after
+IsCause files before after name most faults.Memory = ⊥
 
--- The files in front of one were read, and the shelf, which was last asked for that one, refuses it.
-pub record IsStop (shelf : ShelfUse) (names : List (List ℕ)) : Type 0 where
+-- The files in front of the one of this name were read, which have so many bytes at most; and the shelf, which was last asked for that one, refuses it.
+pub record IsRefusedAt (shelf : ShelfUse) (names : List (List ℕ)) (most : ℕ) (name : List ℕ) (fault : ShelfFault) : Type 0 where
   pub front : List (List ℕ)
-  pub name : List ℕ
   pub rest : List (List ℕ)
   pub contents : List (List ℕ)
   pub stands : names ≡ front ++ name ∷ rest
   pub held : AreHeld shelf.files front contents
   pub asked : shelf.asked_after ≡ shelf.asked_before ++ (front ++ name ∷ [])
   pub gave : shelf.gave_after ≡ shelf.gave_before ++ contents
-  pub within : total contents ≤ MOST_SOURCE_BYTES
-  pub cause : IsCause shelf.files shelf.faults_before shelf.faults_after name (MOST_SOURCE_BYTES - total contents)
+  pub within : total contents ≤ most
+  pub cause : IsCause shelf.files shelf.faults_before shelf.faults_after name (most - total contents) fault
+
+-- where the reading of files stops
+abbrev pub IsStop : ShelfUse → List (List ℕ) → ℕ → ReadError → Type 0
+IsStop shelf names most Memory = Unit {0}
+IsStop shelf names most (Refused name fault) = IsRefusedAt shelf names most name.now fault
+
+-- the shelf refuses one of the files
+abbrev pub IsRefused : ShelfUse → List (List ℕ) → ℕ → Type 0
+IsRefused shelf names most = (name : List ℕ) × (fault : ShelfFault) × IsRefusedAt shelf names most name fault
 
 -- the files of these names are too many, and none was asked for, or one of them was refused
 abbrev pub AreUnread : ShelfUse → List (List ℕ) → Type 0
-AreUnread shelf names = ((MOST_FILES < length names) × IsUnused shelf) ⊎ ((length names ≤ MOST_FILES) × IsStop shelf names)
+AreUnread shelf names = ((MOST_FILES < length names) × IsUnused shelf) ⊎ ((length names ≤ MOST_FILES) × IsRefused shelf names MOST_SOURCE_BYTES)
 
 -- why there is nothing to write of the files of these names
 abbrev pub IsUntold : ShelfUse → List (List ℕ) → Status → Type 0
-IsUntold shelf names Usage = (names ≡ []) × IsUnused shelf
-IsUntold shelf names FileFault = AreUnread shelf names
-IsUntold shelf names Memory = Unit {0}
-IsUntold shelf names Done = ⊥
-IsUntold shelf names Refused = ⊥
-IsUntold shelf names WriteFault = ⊥
+IsUntold shelf names statuses.Usage = (names ≡ []) × IsUnused shelf
+IsUntold shelf names statuses.FileFault = AreUnread shelf names
+IsUntold shelf names statuses.Memory = Unit {0}
+IsUntold shelf names statuses.Done = ⊥
+IsUntold shelf names statuses.Refused = ⊥
+IsUntold shelf names statuses.WriteFault = ⊥

@@ -10,5 +10,5 @@ mod reading;
 mod status;
 
 pub use command_line::{Call, call_of};
-pub use reading::read_files;
+pub use reading::{ReadError, byte_count, read_files, read_sources};
 pub use status::{Status, tell};

@@ -1,7 +1,6 @@
 pub mod ComparingLists
 pub mod ParsedTreesAreWritable
-mod PartsAreSmaller
 pub mod PartsStandBefore
 pub mod TreesAtNumbers
+pub mod TreesHaveNodes
 pub mod TreesOfLists
-mod WrittenTreesAreParsed

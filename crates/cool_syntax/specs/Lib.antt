@@ -1,10 +1,8 @@
 pub mod Bare
 pub mod ConcreteTrees
-pub mod Falls
 pub mod FaultOrder
 pub mod FeatureSizes
 pub mod Grammar
-pub mod Groups
 pub mod Lexemes
 pub mod LexicalStructure
 pub mod Limits
@@ -18,6 +16,5 @@ pub mod TokenFacts
 pub mod Tree
 pub mod TreeCode
 pub mod TreesWithinLimits
-pub mod View
 pub mod Weights
 pub mod WrittenTrees

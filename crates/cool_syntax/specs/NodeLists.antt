@@ -122,6 +122,19 @@ all_trees t = grown [] (nodes 0 t)
 abbrev pub tree_at : Tree → NodeId → Tree
 tree_at t id = at_id (all_trees t) id
 
+-- the trees that parts of a body stand for: of a node, of numbers, of a number that may be missing, and of branches
+abbrev pub tree_of_node : Tree → Node → Tree
+tree_of_node body n = made (all_trees body) n
+
+abbrev pub trees_of : Tree → List NodeId → Trees
+trees_of body ids = of_list (map (at_id (all_trees body)) ids)
+
+abbrev pub maybe_tree_of : Tree → Option NodeId → MaybeTree
+maybe_tree_of body id = of_option (option_map (at_id (all_trees body)) id)
+
+abbrev pub cases_of : Tree → List NodeBranch → Cases
+cases_of body branches = of_twigs (map (twig_at (all_trees body)) branches)
+
 -- the parts of the node have numbers below this one
 abbrev pub HasPartsBelow : ℕ → Node → Type 0
 HasPartsBelow k (node.Assign at name a) = a.0 < k

@@ -5,38 +5,26 @@
 #![tactic(auto)]
 
 mod body;
-mod comparison;
-mod copy;
-mod expr;
 mod file_tree;
 mod lexical;
 mod listed;
 mod node;
 mod operator;
-mod parts;
 mod place;
 mod text;
 mod token;
-mod token_list;
 mod type_ref;
-mod written;
-mod written_file;
 
 pub use body::Body;
-pub use comparison::{same_expr, same_name};
-pub use copy::copy_expr;
-pub use expr::{Branch, Expr};
 pub use file_tree::{AttributeDef, ClassDef, Feature, FileTree, Formal, MethodDef};
 pub use lexical::LexKind;
 pub use listed::Listed;
 pub use node::{Node, NodeBranch, NodeId};
 pub use operator::{ArithOp, CompareOp};
-pub use parts::{Branches, Child, Exprs};
 pub use place::Place;
-pub use text::{Bytes, Name};
+pub use text::{Bytes, Name, same_name};
 pub use token::{Key, Sign, Token, TokenKind};
 pub use type_ref::TypeRef;
-pub use written_file::tokens_of;
 
 /// The most source files of a command.
 pub const MOST_FILES: usize = 64;

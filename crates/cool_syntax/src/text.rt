@@ -1,6 +1,6 @@
 //! Names and string constants: bytes of their own, which contracts see as lists.
 
-ghost use Rattle.std.specs.Prelude.{◌≡◌, ◌≤◌, length, IfOk};
+ghost use Rattle.std.specs.Prelude.{◌≡◌, ◌≤◌, ◌↔◌, length, IfOk, IsTrue};
 ghost use Rattle.cool_syntax.specs.Spellings.{IsSpelled, spelled};
 ghost use Rattle.cool_syntax.specs.declared.text.TheConstants.{MOST_SHORT_NAME};
 
@@ -119,6 +119,13 @@ impl Name {
             Spelling::Long(bytes) => bytes.as_slice(),
         }
     }
+}
+
+/// Whether two names are one.
+pub fn same_name(a: &Name, b: &Name) -> bool
+    ensures same { IsTrue result ↔ (a.now ≡ b.now) }
+{
+    a.as_slice() == b.as_slice()
 }
 
 /// A name of few bytes.

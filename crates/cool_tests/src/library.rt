@@ -3,11 +3,12 @@
 
 ghost use Rattle.std.specs.Prelude.{◌≡◌, ◌<◌, [], length};
 
+use cool_expr::{Expr, boxed_tree, copy_expr, same_expr, tokens_of};
 use cool_lexer::lex;
 use cool_parser::parse;
 use cool_pool::{Column, Pool};
 use cool_runtime::{Routine, routine};
-use cool_syntax::{Expr, Node, NodeId, Place, copy_expr, same_expr, tokens_of};
+use cool_syntax::{Node, NodeId, Place};
 use std::alloc::{AllocError, Global};
 use std::test::Fail;
 
@@ -40,7 +41,7 @@ fn is_copied(alloc: Global, tree: &Expr) -> Result<bool, AllocError> {
 fn is_copied_at(alloc: Global, pool: &Pool, id: NodeId) -> Result<bool, AllocError>
     requires { id.0 < length pool.now.nodes }
 {
-    match pool.tree(alloc, id) {
+    match boxed_tree(alloc, pool, id) {
         Ok(tree) => is_copied(alloc, &tree),
         Err(AllocError) => Err(AllocError),
     }

@@ -1,5 +1,5 @@
 -- Names of files are short texts: their bytes are those of characters, and none is 0.
-use Rattle.std.proofs.Common.{◌≡◌, ℕ, ◌<◌, ◌≤◌, Bool, true, false, List, [], ◌∷◌, ◌++◌, refl, subst, arith}
+use Rattle.std.proofs.Common.{◌≡◌, ℕ, ◌<◌, ◌≤◌, Bool, true, false, List, [], ◌∷◌, refl, subst, arith}
 use Rattle.std.specs.Prelude.{◌||◌, String, string_bytes, cond, not, ◌==◌, encode_utf8_all, nat_le, nat_lt, length}
 use Rattle.std.specs.List.{AllByRecursion, list_all, list_any}
 use Rattle.std.specs.Char.{encode_utf8, IsScalar}

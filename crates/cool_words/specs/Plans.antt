@@ -13,6 +13,7 @@ use Rattle.cool_words.specs.Numbers.{IsWithin, number_in}
 use Rattle.cool_words.specs.declared.command_word.CommandWord.{CommandWord}
 use Rattle.cool_words.specs.declared.command_word.CommandWord.TheVariants.{Check, Asm, Build, Run, Eval, Exec, Debug, Big, Session}
 use Rattle.cool_words.specs.declared.plan.RunLimits.{RunLimits}
+use Rattle.cool_words.specs.declared.plan.RunPlan.{RunPlan}
 use Rattle.cool_words.specs.declared.plan.Plan.{Plan}
 use Rattle.cool_words.specs.declared.plan.Plan.TheVariants as plan
 use Rattle.cool_words.specs.declared.names.TheConstants.{MOST_NAME_BYTES}
@@ -23,12 +24,21 @@ use Rattle.cool_words.specs.declared.words_error.WordsError.TheVariants.{Usage}
 abbrev pub words_of : List (String Global) → List Text
 words_of = map string_bytes
 
+-- what `run` is asked, where names are lists of bytes: the names of the files, the limits, and whether the folded program is compiled
+pub record RunAsked : Type 0 where
+  pub names : List Text
+  pub limits : RunLimits
+  pub fold : Bool
+
+abbrev pub run_asked : RunPlan → RunAsked
+run_asked p = record { names = words_of p.files.items; limits = p.limits; fold = p.fold }
+
 -- what a command line asks for, where names are lists of bytes
 pub data Asked : Type 0 where
   check : List Text → Asked
   asm : List Text → Asked
   build : List Text → Asked
-  run : List Text → RunLimits → (fold : Bool) → Asked
+  run : RunAsked → Asked
   eval : List Text → ℕ → Asked
   exec : Text → RunLimits → Asked
   debug : Text → List Text → RunLimits → Asked
@@ -39,7 +49,7 @@ abbrev pub asked_by : Plan → Asked
 asked_by (plan.Check files) = check (words_of files.items)
 asked_by (plan.Asm files) = asm (words_of files.items)
 asked_by (plan.Build files) = build (words_of files.items)
-asked_by (plan.Run files limits fold) = run (words_of files.items) limits fold
+asked_by (plan.Run p) = run (run_asked p)
 asked_by (plan.Eval files steps) = eval (words_of files.items) steps
 asked_by (plan.Exec file limits) = exec (string_bytes file) limits
 asked_by (plan.Debug script files limits) = debug (string_bytes script) (words_of files.items) limits
@@ -115,7 +125,7 @@ asked_of Check rows = option_map check (files_in rows)
 asked_of Asm rows = option_map asm (files_in rows)
 asked_of Build rows = option_map build (files_in rows)
 asked_of Run rows =
-    option_and_then (λ files. option_map (λ limits. run files limits (is_set (codes "fold") rows)) (limits_in rows)) (files_in rows)
+    option_and_then (λ files. option_map (λ limits. run (record { names = files; limits = limits; fold = is_set (codes "fold") rows })) (limits_in rows)) (files_in rows)
 asked_of Eval rows = option_and_then (λ files. option_map (eval files) (steps_in rows)) (files_in rows)
 asked_of Exec rows = option_and_then (λ file. option_map (exec file) (limits_in rows)) (file_in (codes "FILE") rows)
 asked_of Debug rows =
@@ -144,17 +154,17 @@ on_literals = tt
 abbrev limits : ℕ → RunLimits
 limits heap_kib = record usual_limits { heap_kib = heap_kib }
 
-run_with_heap : plan_of (codes "run" ∷ codes "--heap=64" ∷ codes "hello.cl" ∷ []) ≡ Some (run (codes "hello.cl" ∷ []) (limits 64) false)
+run_with_heap : plan_of (codes "run" ∷ codes "--heap=64" ∷ codes "hello.cl" ∷ []) ≡ Some (run (record { names = codes "hello.cl" ∷ []; limits = limits 64; fold = false }))
 unfolding on_literals
 run_with_heap = refl
 
 run_of_two : plan_of (codes "run" ∷ codes "a.cl" ∷ codes "--heap" ∷ codes "0064" ∷ codes "b.cl" ∷ [])
-    ≡ Some (run (codes "a.cl" ∷ codes "b.cl" ∷ []) (limits 64) false)
+    ≡ Some (run (record { names = codes "a.cl" ∷ codes "b.cl" ∷ []; limits = limits 64; fold = false }))
 unfolding on_literals
 run_of_two = refl
 
 run_with_fold : plan_of (codes "run" ∷ codes "a.cl" ∷ codes "--fold" ∷ codes "--heap" ∷ codes "64" ∷ codes "b.cl" ∷ [])
-    ≡ Some (run (codes "a.cl" ∷ codes "b.cl" ∷ []) (limits 64) true)
+    ≡ Some (run (record { names = codes "a.cl" ∷ codes "b.cl" ∷ []; limits = limits 64; fold = true }))
 unfolding on_literals
 run_with_fold = refl
 
@@ -285,7 +295,7 @@ abbrev pub IsWithinBounds : Plan → Type 0
 IsWithinBounds (plan.Check files) = HasFileNames (words_of files.items)
 IsWithinBounds (plan.Asm files) = HasFileNames (words_of files.items)
 IsWithinBounds (plan.Build files) = HasFileNames (words_of files.items)
-IsWithinBounds (plan.Run files limits fold) = HasFileNames (words_of files.items) × IsBounded limits
+IsWithinBounds (plan.Run p) = HasFileNames (words_of p.files.items) × IsBounded p.limits
 IsWithinBounds (plan.Eval files steps) = HasFileNames (words_of files.items) × IsWithin 1 most_steps steps
 IsWithinBounds (plan.Exec file limits) = (is_file_name (string_bytes file) ≡ true) × IsBounded limits
 IsWithinBounds (plan.Debug script files limits) = (is_file_name (string_bytes script) ≡ true) × HasFileNames (words_of files.items) × IsBounded limits

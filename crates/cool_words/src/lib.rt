@@ -13,6 +13,6 @@ mod words_error;
 
 pub use command_word::CommandWord;
 pub use names::MOST_NAME_BYTES;
-pub use plan::{Plan, RunLimits, USUAL_LIMITS};
+pub use plan::{Plan, RunLimits, RunPlan, USUAL_LIMITS};
 pub use reading::read_words;
 pub use words_error::WordsError;

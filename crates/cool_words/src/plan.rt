@@ -18,6 +18,17 @@ pub const USUAL_LIMITS: RunLimits = RunLimits {
     steps: 1_000_000_000,
 };
 
+/// What `run` is asked. Names are those of files, as the words have them.
+#[derive(Drop)]
+pub struct RunPlan {
+    /// The files of the program.
+    pub files: Vec<String>,
+    /// The limits of its run.
+    pub limits: RunLimits,
+    /// Whether the folded program is compiled.
+    pub fold: bool,
+}
+
 /// What a command line asks for. Names are those of files, as the words have them.
 #[derive(Drop)]
 pub enum Plan {
@@ -25,12 +36,8 @@ pub enum Plan {
     Check {
         files: Vec<String>,
     },
-    /// To compile the files, or with `fold` the folded program of them, and run that within the limits.
-    Run {
-        files: Vec<String>,
-        limits: RunLimits,
-        fold: bool,
-    },
+    /// To compile the files, or the folded program of them, and run that within the limits.
+    Run(RunPlan),
     /// To evaluate the program that the files are, with so many steps.
     Eval {
         files: Vec<String>,

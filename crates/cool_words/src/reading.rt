@@ -8,7 +8,7 @@ ghost use Rattle.cool_words.specs.Plans.{Answers, HasFileNames, IsBounded, IsWit
 use crate::command_word::{CommandWord, command_of};
 use crate::names::{are_file_names, copy_names, is_file_name};
 use crate::numbers::read_number;
-use crate::{Plan, RunLimits, USUAL_LIMITS, WordsError};
+use crate::{Plan, RunLimits, RunPlan, USUAL_LIMITS, WordsError};
 use clap::ArgMatches;
 use clap::error::ErrorKind;
 use std::alloc::Global;
@@ -85,11 +85,11 @@ fn read_matches(
         CommandWord::Build => Ok(Plan::Build {
             files: files_of(alloc, matches)?,
         }),
-        CommandWord::Run => Ok(Plan::Run {
+        CommandWord::Run => Ok(Plan::Run(RunPlan {
             files: files_of(alloc, matches)?,
             limits: limits_of(matches)?,
             fold: is_set(matches, "fold"),
-        }),
+        })),
         CommandWord::Eval => Ok(Plan::Eval {
             files: files_of(alloc, matches)?,
             steps: steps_of(matches)?,

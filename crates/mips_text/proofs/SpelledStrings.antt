@@ -41,9 +41,6 @@ pub raw_known : (bytes : List ℕ) → all_known false (raw bytes) ≡ true
 raw_known [] = refl
 raw_known (b ∷ bytes) = known_by b (raw bytes) (letter_of b) ∙ raw_known bytes
 
-plain_letter : (b : ℕ) → letter false b ≡ b
-plain_letter b = refl
-
 unescaped_by : (b : ℕ) (more : List ℕ) → Letter b → unescaped false (letter_text b ++ more) ≡ b ∷ unescaped false more
 unescaped_by b more (escape c e k l i) = ap (λ t. unescaped false (t ++ more)) e ∙ ap (λ x. x ∷ unescaped false more) l
 unescaped_by b more (itself e q s n) = ap (λ t. unescaped false (t ++ more)) e ∙ ap (λ (t : Bool). if t then unescaped true more else b ∷ unescaped false more) s

@@ -7,11 +7,11 @@ use Rattle.std.specs.List.{AllByRecursion}
 use Rattle.cool_syntax.specs.declared.node.Node.{Node}
 use Rattle.cool_syntax.specs.declared.node.NodeBranch.{NodeBranch}
 use Rattle.cool_syntax.specs.Tree.{Tree, cases_size, of_twigs}
-use Rattle.cool_syntax.specs.NodeLists.{all_trees, made, tree_at, twig_at, HasPartsBelow}
+use Rattle.cool_syntax.specs.NodeLists.{all_trees, made, tree_at, twig_at, HasPartsBelow, cases_of, maybe_tree_of}
 use Rattle.cool_syntax.specs.TreesWithinLimits.{IsTreeWithin}
 use Rattle.cool_classes.specs.declared.class_id.Ty.TheVariants.{Class as IsClass}
 use Rattle.cool_rules.specs.NodeTypes.{types_of_cases}
-use Rattle.cool_check.specs.Checks.{maybe_tree_of, cases_of, nodes_typed, parts_typed}
+use Rattle.cool_check.specs.Checks.{nodes_typed, parts_typed}
 use Rattle.cool_check.specs.Contexts.{context}
 use Rattle.cool_check.specs.Faults.{IsPlacedError}
 use Rattle.cool_check.proofs.ColumnsOfParts.{on_ok, own_added, let_added, branch_added}
@@ -106,7 +106,7 @@ binding::type_of_binding-returns-in_ok-bound-in-Let-clause-column t c =
     let meant = bound_meant (context s) n.at n.name n.declared c.in_ok-given-in-Let.given c.in_ok-bound-in-Let.bound c.in_ok-bound-in-Let.ensures.typed in
     subst (λ (x : Node). OnOk c.type_within.result (c.type_within.new.types.held ≡ c.args.types.now.held ++ parts_typed s o (made (all_trees s.body.now) x))) (sym n.is)
     (on_ok c.type_within.result
-    (let_added s.table.now s.class s.attributes.now o c.type_of_option.new.locals n.at n.name n.declared (maybe_tree_of s n.init) (tree_at s.body.now n.body) c.in_ok-bound-in-Let.bound
+    (let_added s.table.now s.class s.attributes.now o c.type_of_option.new.locals n.at n.name n.declared (maybe_tree_of s.body.now n.init) (tree_at s.body.now n.body) c.in_ok-bound-in-Let.bound
     c.args.types.now.held c.type_of_option.new.types.held c.type_within.new.types.held meant c.in_ok-given-in-Let.ensures.scope c.in_ok-given-in-Let.ensures.column)
     c.type_within.ensures.column)
 
@@ -122,11 +122,11 @@ binding::type_of_branches-loop-branch-preserved t c =
       scope = search rules;
       joined = search rules;
       walked = first_of (search rules, grind (arith, common_steps), grind (arith, elements), grind (arith, moves), grind (arith, pieces));
-      column = branch_added s.table.now s.class s.attributes.now o c.loop-branch.locals w.at w.name w.declared (tree_at s.body.now w.body) (cases_of s left) (IsClass class) c.loop-branch.types.held c.type_within.new.types.held
+      column = branch_added s.table.now s.class s.attributes.now o c.loop-branch.locals w.at w.name w.declared (tree_at s.body.now w.body) (cases_of s.body.now left) (IsClass class) c.loop-branch.types.held c.type_within.new.types.held
           meant c.loop-branch.invariant.scope c.in_ok-found.ensures.column
           ∙ sym (ap (λ (ws : List NodeBranch). c.loop-branch.types.held ++ types_of_cases s.table.now s.class (o ++ s.attributes.now) (of_twigs (map (twig_at (all_trees s.body.now)) ws)))
           (drop_one c.args.branches.now c.loop-branch.branch-index w (omega arith) c.branch-item.is))
           ∙ c.loop-branch.invariant.column;
-      room = omega (arith, c.in_ok-found.ensures.room, ap (λ (ws : List NodeBranch). cases_size (cases_of s ws)) (drop_one c.args.branches.now c.loop-branch.branch-index w (omega arith) c.branch-item.is), c.loop-branch.invariant.room);
+      room = omega (arith, c.in_ok-found.ensures.room, ap (λ (ws : List NodeBranch). cases_size (cases_of s.body.now ws)) (drop_one c.args.branches.now c.loop-branch.branch-index w (omega arith) c.branch-item.is), c.loop-branch.invariant.room);
       below = first_of (search rules, grind (arith, common_steps), grind (arith, elements), grind (arith, moves), grind (arith, pieces));
     }

@@ -1,7 +1,7 @@
 use Rattle.std.proofs.Common.{◌≡◌, List, ℕ, [], refl, sym, ap, ◌∙◌, false, arith}
 use Rattle.std.specs.Prelude.{Err, string_bytes}
 use Rattle.cool_ports.proofs.InputsInParts.{took_nothing, leaves_same}
-use Rattle.cool_words.specs.{declared.plan.RunLimits.{RunLimits}, Plans.{plan_of}}
+use Rattle.cool_words.specs.{declared.plan.RunLimits.{RunLimits}, Plans.{RunAsked, plan_of}}
 use Rattle.cool_driver.specs.CommandLine.{asked_for, words_of}
 use Rattle.cool_ports.proofs.AskedNames.{asked_none}
 use Rattle.cool_driver.proofs.{DevicesOfCalls.{got_nothing}, EndsByCommand.{command_ends, usage_ends, short_ends}, rooms.Sessions.{read_fault_of_seven}}
@@ -34,6 +34,10 @@ returns-clause-taken g c =
 no_limits : RunLimits
 no_limits = record { heap_kib = 0; stack_kib = 0; steps = 0 }
 
+-- a plan of a run, of words that ask for none
+no_run : RunAsked
+no_run = record { names = []; limits = no_limits; fold = false }
+
 pub returns-clause-input : goal.returns-clause-input
 returns-clause-input g c none =
     let words = words_of c.args.words.now in
@@ -41,14 +45,14 @@ returns-clause-input g c none =
       | in-Ok-Check w ↦ w.input-is
       | in-Ok-Asm w ↦ w.input-is
       | in-Ok-Build w ↦ w.input-is
-      | in-Ok-Run w ↦ absurd ((none [] _ w.in-Ok-Run.limits w.in-Ok-Run.fold 0).0 (asked_is words ∙ (rw w.in-Ok-Run.field-0-is at w.in-Ok-Run.ensures.plan)))
-      | in-Ok-Eval w ↦ absurd ((none [] _ no_limits false w.in-Ok-Eval.steps).1 (asked_is words ∙ (rw w.in-Ok-Eval.field-0-is at w.in-Ok-Eval.ensures.plan)))
-      | in-Ok-Exec w ↦ absurd ((none _ [] w.in-Ok-Exec.limits false 0).2 (asked_is words ∙ (rw w.in-Ok-Exec.field-0-is at w.in-Ok-Exec.ensures.plan)))
+      | in-Ok-Run w ↦ absurd ((none _ [] [] no_limits 0).0 (asked_is words ∙ (rw w.in-Ok-Run.field-0-is at w.in-Ok-Run.ensures.plan)))
+      | in-Ok-Eval w ↦ absurd ((none no_run [] _ no_limits w.in-Ok-Eval.steps).1 (asked_is words ∙ (rw w.in-Ok-Eval.field-0-is at w.in-Ok-Eval.ensures.plan)))
+      | in-Ok-Exec w ↦ absurd ((none no_run _ [] w.in-Ok-Exec.limits 0).2 (asked_is words ∙ (rw w.in-Ok-Exec.field-0-is at w.in-Ok-Exec.ensures.plan)))
       | in-Ok-Debug w ↦
           let plan = w.in-Ok-Debug in
-          absurd ((none (string_bytes plan.script) _ plan.limits false 0).3 (asked_is words ∙ (rw plan.field-0-is at plan.ensures.plan)))
+          absurd ((none no_run (string_bytes plan.script) _ plan.limits 0).3 (asked_is words ∙ (rw plan.field-0-is at plan.ensures.plan)))
       | in-Ok-Big w ↦ w.input-is
-      | in-Ok-Session w ↦ absurd ((none [] [] no_limits false 0).4 (asked_is words ∙ (rw w.in-Ok-Session.field-0-is at w.in-Ok-Session.ensures.plan)))
+      | in-Ok-Session w ↦ absurd ((none no_run [] [] no_limits 0).4 (asked_is words ∙ (rw w.in-Ok-Session.field-0-is at w.in-Ok-Session.ensures.plan)))
       | in-Err-Usage w ↦ w.input-is
       | in-Err-Memory w ↦ w.input-is
     ]
@@ -94,7 +98,7 @@ returns-clause-ends g c given rest leaves =
           (command_ends asked (w.build_files-status-in-Ok-Build.ensures.ends words given (g.I.Source.faults c.args.input.now)))
       | in-Ok-Run w ↦
           let here = rw w.input-is at leaves in
-          let asked = asked_is words ∙ (rw (w.in-Ok-Run.field-0-is, ← w.deref-in-Ok-Run.ensures.value) at w.in-Ok-Run.ensures.plan) in
+          let asked = asked_is words ∙ (rw w.in-Ok-Run.field-0-is at w.in-Ok-Run.ensures.plan) in
           rw (c.code.ensures, w.status-is, w.files-is, w.out-is, w.notes-is, w.input-is)
           (command_ends asked (w.run_files-status.ensures.ends words given rest here))
       | in-Ok-Eval w ↦
@@ -149,7 +153,7 @@ returns-clause-asked g c =
           let asked = asked_is words ∙ (rw (w.in-Ok-Build.field-0-is, ← w.deref-in-Ok-Build.ensures.value) at w.in-Ok-Build.ensures.plan) in
           rw (w.files-is, asked) w.build_files-status-in-Ok-Build.ensures.asked
       | in-Ok-Run w ↦
-          let asked = asked_is words ∙ (rw (w.in-Ok-Run.field-0-is, ← w.deref-in-Ok-Run.ensures.value) at w.in-Ok-Run.ensures.plan) in
+          let asked = asked_is words ∙ (rw w.in-Ok-Run.field-0-is at w.in-Ok-Run.ensures.plan) in
           rw (w.files-is, asked) w.run_files-status.ensures.asked
       | in-Ok-Eval w ↦
           let asked = asked_is words ∙ (rw (w.in-Ok-Eval.field-0-is, ← w.deref-in-Ok-Eval.ensures.value) at w.in-Ok-Eval.ensures.plan) in
@@ -199,7 +203,7 @@ returns-clause-refused g c is =
           let asked = asked_is words ∙ (rw (w.in-Ok-Build.field-0-is, ← w.deref-in-Ok-Build.ensures.value) at w.in-Ok-Build.ensures.plan) in
           rw (w.files-is, w.notes-is, asked) (w.build_files-status-in-Ok-Build.ensures.refused (rw (c.code.ensures, w.status-is) at is))
       | in-Ok-Run w ↦
-          let asked = asked_is words ∙ (rw (w.in-Ok-Run.field-0-is, ← w.deref-in-Ok-Run.ensures.value) at w.in-Ok-Run.ensures.plan) in
+          let asked = asked_is words ∙ (rw w.in-Ok-Run.field-0-is at w.in-Ok-Run.ensures.plan) in
           rw (w.files-is, w.notes-is, asked) (w.run_files-status.ensures.refused (rw (c.code.ensures, w.status-is) at is))
       | in-Ok-Eval w ↦
           let asked = asked_is words ∙ (rw (w.in-Ok-Eval.field-0-is, ← w.deref-in-Ok-Eval.ensures.value) at w.in-Ok-Eval.ensures.plan) in

@@ -1,6 +1,7 @@
 -- How a call of `debug` ends.
 use Rattle.std.specs.Prelude.{◌∷◌, codes}
-use Rattle.cool_driver.specs.Sources.{EndsWith, AreKnown, FilesExactly, IsCause, IsNoProgram, IsProgram}
+use Rattle.cool_driver.specs.Sources.{EndsWith, AreKnown, FilesExactly, IsNoProgram, IsProgram}
+use Rattle.cool_sources.specs.Reading.{IsCause}
 use Rattle.cool_driver.specs.{Calls.{Call, DidNothing, Got, Request, ShelfUse, SinkUse, UnlessCutShort, shelf_of}, Comes.{Comes, NoPieces}}
 use Rattle.cool_driver.specs.{Debugging.{commands_for, debug_notes, debuggee_within}, Ends.{Goes}}
 use Rattle.cool_driver.specs.Execution.{heap_of, note_of, note_of_halt, run_of, segments_within, stack_of, status_of, status_of_halt}

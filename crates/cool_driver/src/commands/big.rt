@@ -17,13 +17,13 @@ ghost use Rattle.cool_driver.specs.commands.Big.{BigEnds, ComesOut, RunsTo, IsBi
 use crate::MOST_BIG_OUTPUT;
 use crate::execution::machine_limits;
 use crate::growing_sink::GrowingSink;
-use crate::reading::byte_count;
 use crate::status::Status;
 use crate::writing::write_pieces;
 use cool_big::big_program;
 use cool_emit::build;
 use cool_faults::{Verdict, accept};
 use cool_ports::{Sink, SureSource};
+use cool_sources::byte_count;
 use cool_words::USUAL_LIMITS;
 use mips_isa::Image;
 use spim_machine::{Halt, Machine};

@@ -6,7 +6,7 @@ ghost use Rattle.cool_ports.specs.Answers.{Leaves};
 ghost use Rattle.cool_ports.specs.ShelfFiles.{AskedFront};
 ghost use Rattle.cool_ports.specs.Taking.{Took};
 ghost use Rattle.cool_rules.specs.Fits.{Fits};
-ghost use Rattle.cool_words.specs.Plans.{IsBounded, is_file_name, words_of};
+ghost use Rattle.cool_words.specs.Plans.{IsBounded, is_file_name, run_asked, words_of};
 ghost use Rattle.cool_driver.specs.Calls.{request_of, shelf_use, sink_use};
 ghost use Rattle.cool_driver.specs.Compiled.{compiled_program};
 ghost use Rattle.cool_driver.specs.Ends.{Goes};
@@ -23,32 +23,30 @@ use crate::status::Status;
 use cool_emit::build;
 use cool_ports::{Shelf, Sink, Source};
 use cool_rules::TypedProgram;
-use cool_words::RunLimits;
+use cool_words::RunPlan;
 use mips_isa::Image;
 use std::alloc::{AllocError, Global};
 
-/// Compiles the program that the files of these names are, or with `fold` the folded program, and runs that within limits, or writes
-/// their faults.
+/// Compiles the program that the files of the plan are, or the folded program, and runs that within the plan's limits, or writes their
+/// faults.
 pub fn run_files<F: Shelf, I: Source, O: Sink, E: Sink>(
     alloc: Global,
-    limits: RunLimits,
-    fold: bool,
-    names: &[String],
+    plan: &RunPlan,
     files: &mut F,
     input: &mut I,
     out: &mut O,
     notes: &mut E,
 ) -> Status
-    requires some { 0 < length names.now }
-    requires names { list_all is_file_name (words_of names.now) ≡ true }
-    requires limits { IsBounded limits }
+    requires some { 0 < length plan.now.files.items }
+    requires names { list_all is_file_name (words_of plan.now.files.items) ≡ true }
+    requires limits { IsBounded plan.now.limits }
     ensures kept { F.files files.new ≡ F.files files.old }
-    ensures asked { AskedFront (unless_too_many (words_of names.now) (words_of names.now)) (F.asked files.old) (F.asked files.new) }
+    ensures asked { AskedFront (unless_too_many (words_of plan.now.files.items) (words_of plan.now.files.items)) (F.asked files.old) (F.asked files.new) }
     ensures lines { PutsLines (E.puts notes.old) (E.puts notes.new) }
-    ensures refused { code_of result ≡ REFUSED → PutsFaults (words_of names.now) (shelf_use F.files F.faults F.asked F.gave files.old files.new) (E.puts notes.old) (E.puts notes.new) }
+    ensures refused { code_of result ≡ REFUSED → PutsFaults (words_of plan.now.files.items) (shelf_use F.files F.faults F.asked F.gave files.old files.new) (E.puts notes.old) (E.puts notes.new) }
     ensures taken { (ended : Bool) × Took false ended (I.past input.old) (I.past input.new) (I.left input.old) (I.left input.new) }
     ensures ends { (words : List (List ℕ)) (given rest : List ℕ) → Leaves (I.past input.old) (I.past input.new) given rest
-        → Goes (RunEnds (words_of names.now) limits fold) (record {
+        → Goes (RunEnds (run_asked plan.now)) (record {
           request = request_of words (shelf_use F.files F.faults F.asked F.gave files.old files.new) given;
           out = sink_use O.held O.faults O.puts out.old out.new;
           notes = sink_use E.held E.faults E.puts notes.old notes.new;
@@ -57,8 +55,8 @@ pub fn run_files<F: Shelf, I: Source, O: Sink, E: Sink>(
           input_after = I.faults input.new;
         }) (code_of result) }
 {
-    match compile_files(alloc, fold, names, files) {
-        Ok(image) => execute(alloc, limits, &image, input, out, notes),
+    match compile_files(alloc, plan.fold, &plan.files, files) {
+        Ok(image) => execute(alloc, plan.limits, &image, input, out, notes),
         Err(refusal) => tell_refusal(notes, &refusal),
     }
 }

@@ -6,17 +6,18 @@ use Rattle.std.specs.declared.alloc.AllocError.{AllocError}
 use Rattle.cool_syntax.specs.declared.node.NodeBranch.{NodeBranch}
 use Rattle.cool_syntax.specs.declared.node.NodeId.{NodeId}
 use Rattle.cool_syntax.specs.Tree.{cases_size, tree_size, trees_size}
-use Rattle.cool_syntax.specs.NodeLists.{all_trees, made, tree_at, HasPartsBelow}
+use Rattle.cool_syntax.specs.NodeLists.{all_trees, made, tree_at, HasPartsBelow, cases_of, trees_of}
 use Rattle.cool_rules.specs.Conformance.{class_of}
 use Rattle.cool_rules.specs.Rules.{join_in, type_meant}
 use Rattle.cool_rules.specs.StaticTypes.{type_of}
 use Rattle.cool_rules.proofs.PartsStand.{part_type}
 use Rattle.cool_rules.specs.Typing.{with_name}
 use Rattle.cool_rules.proofs.TypesAreTypes.{meant_is_type}
+use Rattle.cool_rules.specs.Scopes.{AreTypes}
 use Rattle.cool_opt.specs.Folding.{truth_in}
 use Rattle.cool_opt.specs.FoldedNodes.{Folds, FoldsBranches, FoldsPart, FoldsParts}
 use Rattle.cool_opt.specs.PlacedForms.{IsFolded, PlacesBlock, PlacesCase, PlacesConditional, PlacesDispatch, PlacesLet, PlacesLoop, PlacesStaticDispatch}
-use Rattle.cool_opt.specs.Settings.{cases_of, trees_of, typed_body, HaveTypes, IsStanding}
+use Rattle.cool_opt.specs.Settings.{typed_body, IsStanding}
 use Rattle.cool_opt.specs.Shrinking.{taken}
 use Rattle.cool_opt.proofs.FoldedConditionals.{cut_back, cut_short, cut_shorter, fewer, left, part_within, taken_folds, taken_is, taken_part_is, taken_stands}
 use Rattle.cool_opt.proofs.PartsFolded.{one_branch_folded, one_folded, SomeBranchesFolded, SomeFolded}
@@ -195,7 +196,7 @@ fold_binding::fold_let-returns-clause-folded t c = λ scope standing.
     let ty = c.get.result in
     let here = subst (IsStanding s scope c.args.id) whole.is standing in
     let bound = with_name whole.name (type_meant s.table.now whole.declared.name) scope in
-    let inner : HaveTypes s.table.now bound = (meant_is_type s.table.now c.requires.sound.table whole.declared.name, here.types) in
+    let inner : AreTypes s.table.now bound = (meant_is_type s.table.now c.requires.sound.table whole.declared.name, here.types) in
     let places = subst (λ m. PlacesLet s m ty init found.id placed after c.place_let.result) whole.is c.place_let.ensures.placed in
     subst (λ m. Folds s scope (made (all_trees b) m) before after c.place_let.result) (sym whole.is)
     (places scope before between found (type_got s scope c.args.id _ ty c.get.ensures here) refl
@@ -420,8 +421,8 @@ expression::fold_all-loop-item-preserved t c =
     let id = get_or items k at_item.0 in
     let step = drop_more items k at_item.0 within in
     record {
-      few = omega (arith, c.in_ok-found.ensures.few, ap (λ (xs : List NodeId). trees_size (trees_of s xs)) step, l.invariant.few);
-      types = omega (arith, c.in_ok-found.ensures.types, ap (λ (xs : List NodeId). trees_size (trees_of s xs)) step, l.invariant.types);
+      few = omega (arith, c.in_ok-found.ensures.few, ap (λ (xs : List NodeId). trees_size (trees_of s.body.now xs)) step, l.invariant.few);
+      types = omega (arith, c.in_ok-found.ensures.types, ap (λ (xs : List NodeId). trees_size (trees_of s.body.now xs)) step, l.invariant.types);
       below = (subst (AllByRecursion (λ item. item.0 < c.args.end.0)) step l.invariant.below).1;
       folded = λ scope types parts.
           let some = subst (λ xs. SomeFolded s scope items xs c.args.placed.now l.placed l.ids.items) step (l.invariant.folded scope types parts) in
@@ -444,14 +445,14 @@ fold_binding::fold_branches-loop-branch-preserved t c =
     let branch = c.branch-item.result in
     let step = drop_more branches k branch within ∙ ap (λ (x : NodeBranch). x ∷ rest) (sym c.branch-item.is) in
     record {
-      few = omega (arith, c.in_ok-body.ensures.few, ap (λ (xs : List NodeBranch). cases_size (cases_of s xs)) step, l.invariant.few);
-      types = omega (arith, c.in_ok-body.ensures.types, ap (λ (xs : List NodeBranch). cases_size (cases_of s xs)) step, l.invariant.types);
+      few = omega (arith, c.in_ok-body.ensures.few, ap (λ (xs : List NodeBranch). cases_size (cases_of s.body.now xs)) step, l.invariant.few);
+      types = omega (arith, c.in_ok-body.ensures.types, ap (λ (xs : List NodeBranch). cases_size (cases_of s.body.now xs)) step, l.invariant.types);
       below = (subst (AllByRecursion (λ b. b.body.0 < c.args.end.0)) step l.invariant.below).1;
       folded = λ scope types parts.
           let some = subst (λ xs. SomeBranchesFolded s scope branches xs c.args.placed.now l.placed l.folded.items) step
           (l.invariant.folded scope types parts) in
           let bound = with_name branch.name (type_meant p branch.declared.name) scope in
-          let inner : HaveTypes p bound = (meant_is_type p c.requires.sound.table branch.declared.name, types) in
+          let inner : AreTypes p bound = (meant_is_type p c.requires.sound.table branch.declared.name, types) in
           subst (SomeBranchesFolded s scope branches rest c.args.placed.now next) (sym c.in_ok-add_branch.ensures)
           (one_branch_folded s scope {E = AllocError} branches rest branch c.args.placed.now l.placed next l.folded.items found some
           (c.in_ok-body.ensures.folded bound inner some.parts.0));

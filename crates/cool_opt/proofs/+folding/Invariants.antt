@@ -2,9 +2,10 @@
 use Rattle.std.proofs.Common.{◌+◌, ◌*◌, ◌<◌, ◌≤◌, List, length, drop}
 use Rattle.std.specs.List.{AllByRecursion}
 use Rattle.cool_syntax.specs.Tree.{trees_size, cases_size}
-use Rattle.cool_rules.specs.Scopes.{Binding}
+use Rattle.cool_syntax.specs.NodeLists.{cases_of, trees_of}
+use Rattle.cool_rules.specs.Scopes.{AreTypes, Binding}
 use Rattle.cool_rules.specs.TypedParts.{AreBranches, AreParts}
-use Rattle.cool_opt.specs.Settings.{cases_of, trees_of, typed_body, HaveTypes}
+use Rattle.cool_opt.specs.Settings.{typed_body}
 use Rattle.cool_opt.proofs.PartsFolded.{SomeBranchesFolded, SomeFolded}
 use Rattle.cool_opt.proofs.+folding.Given as goal
 
@@ -52,22 +53,22 @@ decreases-fold_binding::fold_branches l = 8 * l.end.0
 
 abbrev pub invariant-expression::fold_all-loop-item : goal.invariant-expression::fold_all-loop-item
 invariant-expression::fold_all-loop-item l = record {
-  few : length l.placed.nodes.items + trees_size (trees_of l.setting (drop l.item-index l.items))
-      ≤ length l.fn.placed.nodes.items + trees_size (trees_of l.setting l.items);
-  types : length l.placed.types.held + trees_size (trees_of l.setting (drop l.item-index l.items)) + l.fn.placed.types.room
-      ≤ length l.fn.placed.types.held + trees_size (trees_of l.setting l.items) + l.placed.types.room;
+  few : length l.placed.nodes.items + trees_size (trees_of l.setting.body.now (drop l.item-index l.items))
+      ≤ length l.fn.placed.nodes.items + trees_size (trees_of l.setting.body.now l.items);
+  types : length l.placed.types.held + trees_size (trees_of l.setting.body.now (drop l.item-index l.items)) + l.fn.placed.types.room
+      ≤ length l.fn.placed.types.held + trees_size (trees_of l.setting.body.now l.items) + l.placed.types.room;
   below : AllByRecursion (λ item. item.0 < l.fn.end.0) (drop l.item-index l.items);
-  folded : (scope : List Binding) → HaveTypes l.setting.table.now scope → AreParts (typed_body l.setting) scope l.items
+  folded : (scope : List Binding) → AreTypes l.setting.table.now scope → AreParts (typed_body l.setting) scope l.items
       → SomeFolded l.setting scope l.items (drop l.item-index l.items) l.fn.placed l.placed l.ids.items;
 }
 
 abbrev pub invariant-fold_binding::fold_branches-loop-branch : goal.invariant-fold_binding::fold_branches-loop-branch
 invariant-fold_binding::fold_branches-loop-branch l = record {
-  few : length l.placed.nodes.items + cases_size (cases_of l.setting (drop l.branch-index l.branches))
-      ≤ length l.fn.placed.nodes.items + cases_size (cases_of l.setting l.branches);
-  types : length l.placed.types.held + cases_size (cases_of l.setting (drop l.branch-index l.branches)) + l.fn.placed.types.room
-      ≤ length l.fn.placed.types.held + cases_size (cases_of l.setting l.branches) + l.placed.types.room;
+  few : length l.placed.nodes.items + cases_size (cases_of l.setting.body.now (drop l.branch-index l.branches))
+      ≤ length l.fn.placed.nodes.items + cases_size (cases_of l.setting.body.now l.branches);
+  types : length l.placed.types.held + cases_size (cases_of l.setting.body.now (drop l.branch-index l.branches)) + l.fn.placed.types.room
+      ≤ length l.fn.placed.types.held + cases_size (cases_of l.setting.body.now l.branches) + l.placed.types.room;
   below : AllByRecursion (λ branch. branch.body.0 < l.fn.end.0) (drop l.branch-index l.branches);
-  folded : (scope : List Binding) → HaveTypes l.setting.table.now scope → AreBranches (typed_body l.setting) scope l.branches
+  folded : (scope : List Binding) → AreTypes l.setting.table.now scope → AreBranches (typed_body l.setting) scope l.branches
       → SomeBranchesFolded l.setting scope l.branches (drop l.branch-index l.branches) l.fn.placed l.placed l.folded.items;
 }

@@ -16,7 +16,7 @@ use Rattle.cool_codegen.specs.Asked.{integers_in, integers_in_all, integers_in_m
 use Rattle.cool_codegen.specs.Code.{Context, label_at}
 use Rattle.cool_codegen.specs.Types.{trees_count}
 use Rattle.cool_codegen.specs.Variables.{Named, bind}
-use Rattle.cool_syntax.specs.Falls.{one_le_size}
+use Rattle.cool_syntax.proofs.TreesHaveNodes.{one_le_size}
 use Rattle.cool_emit.proofs.TextOfCode.{count_low}
 use Rattle.lists.proofs.AllItems.{all_append}
 use Rattle.cool_simulation.specs.Loadings.{Loading, constants, context, whole}

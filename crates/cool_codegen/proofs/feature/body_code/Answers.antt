@@ -29,6 +29,7 @@ expression-made-requires-clause-room c =
 
 pub returns : goal.returns
 returns c =
+    let want = c.args.setting.now.wanted in
     let s = context c.args.setting.now in
     let b = c.args.setting.now.body.now in
     let root = c.root-root.result in
@@ -45,8 +46,8 @@ returns c =
             ∙ ap (λ xs. before ++ xs) (whole_lines s b c.args.consts.now g vs root c.root-root.ensures.last (subst (λ (u : Constants). Extends u g) asked more));
         spans = λ g.
             made.spans
-            ∙ ap (λ xs. map shown_of xs ++ spans_at s b vs 0 (length before) root) c.new-2.ensures.items
-            ∙ whole_spans s b g vs (length before) root c.root-root.ensures.last;
+            ∙ ap (λ xs. map shown_of xs ++ spans_at want s b vs 0 (length before) root) c.new-2.ensures.items
+            ∙ whole_spans want s b g vs (length before) root c.root-root.ensures.last;
         names = made.scope;
         integers = ap (λ (t : Constants). t.integers) all;
         strings = ap (λ (t : Constants). t.strings) all;

@@ -2,7 +2,7 @@
 use Rattle.std.proofs.Common.{length, map, ap, ◌∙◌, rules}
 use Rattle.mips_isa.specs.Lines.{lines_of}
 use Rattle.cool_codegen.specs.Settings.{context}
-use Rattle.cool_codegen.specs.Shown.{shown}
+use Rattle.cool_codegen.specs.Shown.{noted, shown}
 use Rattle.cool_codegen.specs.Spans.{spans}
 use Rattle.cool_codegen.proofs.feature.initial_value_code.Goals as goal
 
@@ -14,7 +14,7 @@ returns c =
     record {
       made = record {
         lines = search (rules, made);
-        spans = λ g. made.spans g ∙ (λ i. map (shown s g) (spans length s g (scope i) 0 0 (length (lines_of (c.in_ok-lines.ensures.none i))) c.args.setting.now.body.now));
+        spans = λ g. made.spans g ∙ (λ i. noted c.args.setting.now.wanted (map (shown s g) (spans length s g (scope i) 0 0 (length (lines_of (c.in_ok-lines.ensures.none i))) c.args.setting.now.body.now)));
         names = made.names ∙ scope;
         integers = made.integers;
         strings = made.strings;

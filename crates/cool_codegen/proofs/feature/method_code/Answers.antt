@@ -10,7 +10,7 @@ use Rattle.cool_codegen.specs.Code.{code}
 use Rattle.cool_codegen.specs.Features.{attributes_in, with_formals}
 use Rattle.cool_codegen.specs.Pieces.{leave_lines, mark_lines}
 use Rattle.cool_codegen.specs.Settings.{context}
-use Rattle.cool_codegen.specs.Shown.{shown}
+use Rattle.cool_codegen.specs.Shown.{noted, shown}
 use Rattle.cool_codegen.specs.Spans.{spans}
 use Rattle.cool_codegen.proofs.feature.method_code.Goals as goal
 
@@ -32,7 +32,7 @@ returns c =
             left ∙ (λ i. (made.lines g more ∙ (λ j. entered j ++ code s g (scope j) 0 0 c.args.setting.now.body.now)) i ++ leave)
             ∙ append_assoc (mark ++ enter_lines) (code s g (with_formals p fs (attributes_in p s.class)) 0 0 c.args.setting.now.body.now) leave
             ∙ append_assoc mark enter_lines (code s g (with_formals p fs (attributes_in p s.class)) 0 0 c.args.setting.now.body.now ++ leave);
-        spans = λ g. made.spans g ∙ (λ i. map (shown s g) (spans length s g (scope i) 0 0 (from i) c.args.setting.now.body.now));
+        spans = λ g. made.spans g ∙ (λ i. noted c.args.setting.now.wanted (map (shown s g) (spans length s g (scope i) 0 0 (from i) c.args.setting.now.body.now)));
         names = made.names ∙ scope;
         integers = made.integers;
         strings = made.strings;

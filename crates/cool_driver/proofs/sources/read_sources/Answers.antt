@@ -6,7 +6,7 @@ use Rattle.cool_words.specs.Plans.{words_of}
 use Rattle.cool_driver.specs.{Calls.{shelf_use}, Notes.{too_many_note}, Sources.{IsDueUnread, unless_too_many}, Sources.AreUnread.{too_many}}
 use Rattle.cool_driver.specs.declared.status.Status.TheVariants as statuses
 use Rattle.cool_ports.proofs.AskedNames.{asked_none, asked_whole}
-use Rattle.cool_driver.proofs.{ReadingNames.{few_asked}, LinesOfNotes.{ends_after, feed}, RefusalsTold.{line_told, stop_told}}
+use Rattle.cool_driver.proofs.{ReadingNames.{few_asked, refused_at}, LinesOfNotes.{ends_after, feed}, RefusalsTold.{line_told, stop_told}}
 use Rattle.cool_driver.proofs.sources.read_sources.Goals as goal
 
 -- there are too many files
@@ -21,11 +21,11 @@ returns-in-Ok-clause-read g c =
     let read = c.in-Ok.ensures in
     record {
       few = omega (arith, length-map c.args.names.now string_bytes, c.if-names-gt-MOST_FILES.false);
-      held = read.held;
+      held = read.read.held;
       within = read.within;
       calm = read.calm;
-      asked = (_, read.asked);
-      gave = (_, read.gave);
+      asked = (_, read.read.asked);
+      gave = (_, read.read.gave);
     }
 
 -- a file was refused
@@ -35,7 +35,8 @@ returns-in-Err-Refused-clause-refused g c =
     let refused = c.in-Err-Refused in
     let stop = rw refused.field-0-is at refused.ensures.stop in
     stop_told (shelf_use g.F.Shelf.files g.F.Shelf.faults g.F.Shelf.asked g.F.Shelf.gave c.args.files.now c.read_files.new.files) c.args.most names refused.name.now refused.fault
-    c.refuse_unread.result stop c.refuse_unread.ensures
+    c.refuse_unread.result (refused_at _ names c.args.most refused.name.now refused.fault (omega (arith, length-map c.args.names.now string_bytes, c.if-names-gt-MOST_FILES.false)) stop)
+    c.refuse_unread.ensures
 
 -- what the shelf was asked for
 pub returns-then-names-gt-MOST_FILES-clause-asked : goal.returns-then-names-gt-MOST_FILES-clause-asked
@@ -49,10 +50,10 @@ few names within before after asked =
     subst (λ (ns : List (List ℕ)). AskedFront ns before after) (sym (few_asked (words_of names) (words_of names) no_more)) asked
 
 pub returns-in-Ok-clause-asked : goal.returns-in-Ok-clause-asked
-returns-in-Ok-clause-asked g c = few c.args.names.now c.if-names-gt-MOST_FILES.false _ _ (asked_whole _ _ _ c.in-Ok.ensures.asked)
+returns-in-Ok-clause-asked g c = few c.args.names.now c.if-names-gt-MOST_FILES.false _ _ (asked_whole _ _ _ c.in-Ok.ensures.read.asked)
 
 pub returns-in-Err-Refused-clause-asked : goal.returns-in-Err-Refused-clause-asked
-returns-in-Err-Refused-clause-asked g c = few c.args.names.now c.if-names-gt-MOST_FILES.false _ _ c.in-Err-Refused.ensures.asked_for
+returns-in-Err-Refused-clause-asked g c = few c.args.names.now c.if-names-gt-MOST_FILES.false _ _ c.in-Err-Refused.ensures.asked
 
 pub returns-in-Err-Memory-clause-asked : goal.returns-in-Err-Memory-clause-asked
-returns-in-Err-Memory-clause-asked g c = few c.args.names.now c.if-names-gt-MOST_FILES.false _ _ c.in-Err-Memory.ensures.asked_for
+returns-in-Err-Memory-clause-asked g c = few c.args.names.now c.if-names-gt-MOST_FILES.false _ _ c.in-Err-Memory.ensures.asked

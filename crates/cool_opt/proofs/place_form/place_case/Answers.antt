@@ -1,8 +1,7 @@
 -- What is placed of a `case` is what the whole is folded to.
 use Rattle.std.proofs.Common.{sym, subst}
-use Rattle.cool_syntax.specs.NodeLists.{tree_at}
+use Rattle.cool_syntax.specs.NodeLists.{tree_at, cases_of}
 use Rattle.cool_opt.specs.PlacedForms.{PlacesCase}
-use Rattle.cool_opt.specs.Settings.{cases_of}
 use Rattle.cool_opt.proofs.FoldedWholes.{case_folds}
 use Rattle.cool_opt.proofs.place_form.place_case.Goals as goal
 
@@ -14,6 +13,6 @@ returns-clause-placed c =
     let whole = c.in-Case in
     subst (λ m. PlacesCase s m c.args.ty c.args.value c.args.branches placed after c.place.result) (sym whole.is)
     (λ scope before between f of valued value rest.
-    case_folds s scope c.requires.sound of.types before after whole.at (tree_at s.body.now whole.value) (cases_of s whole.branches) c.args.value _
+    case_folds s scope c.requires.sound of.types before after whole.at (tree_at s.body.now whole.value) (cases_of s.body.now whole.branches) c.args.value _
     c.args.branches c.args.ty between placed f c.place.result of.type valued c.new.ensures value rest
     c.place.ensures.placed c.place.ensures.typed c.place.ensures.constant c.place.ensures.last)

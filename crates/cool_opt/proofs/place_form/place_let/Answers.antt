@@ -1,8 +1,7 @@
 -- What is placed of a `let` is what the whole is folded to.
 use Rattle.std.proofs.Common.{sym, subst}
-use Rattle.cool_syntax.specs.NodeLists.{tree_at}
+use Rattle.cool_syntax.specs.NodeLists.{tree_at, maybe_tree_of}
 use Rattle.cool_opt.specs.PlacedForms.{PlacesLet}
-use Rattle.cool_opt.specs.Settings.{maybe_tree_of}
 use Rattle.cool_opt.proofs.FoldedWholes.{let_folds}
 use Rattle.cool_opt.proofs.place_form.place_let.Goals as goal
 
@@ -14,7 +13,7 @@ returns-clause-placed c =
     let whole = c.in-Let in
     subst (λ m. PlacesLet s m c.args.ty c.args.init c.args.body placed after c.place.result) (sym whole.is)
     (λ scope before between f of bound value body.
-    let_folds s scope c.requires.sound of.types before after whole.at whole.name _ whole.declared _ (maybe_tree_of s whole.init)
+    let_folds s scope c.requires.sound of.types before after whole.at whole.name _ whole.declared _ (maybe_tree_of s.body.now whole.init)
     (tree_at s.body.now whole.body) c.args.init c.args.body c.args.ty between placed f c.place.result of.type bound
     c.in_ok-name-in-Let.ensures.copied c.in_ok-declared-in-Let.ensures.copied value body
     c.place.ensures.placed c.place.ensures.typed c.place.ensures.constant c.place.ensures.last)

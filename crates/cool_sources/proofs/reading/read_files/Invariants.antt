@@ -1,7 +1,8 @@
 -- The files so far were read, `left` is the rest of the bytes, and no fault came.
 use Rattle.std.proofs.Common.{◌≡◌, ◌+◌, ◌++◌, length, map, take}
 use Rattle.std.specs.Prelude.{string_bytes}
-use Rattle.cool_syntax.specs.declared.TheConstants.{MOST_SOURCE_BYTES}
+use Rattle.std.specs.List.{AllByRecursion}
+use Rattle.lists.specs.Bytes.{AreBytes}
 use Rattle.cool_faults.specs.Files.{bytes_of, total}
 use Rattle.cool_sources.proofs.reading.read_files.Given as goal
 use Rattle.cool_ports.specs.ShelfFiles.{AreHeld}
@@ -9,7 +10,8 @@ use Rattle.cool_ports.specs.ShelfFiles.{AreHeld}
 abbrev pub invariant-loop-index : goal.invariant-loop-index
 invariant-loop-index g l = record {
   held : AreHeld (g.F.Shelf.files l.fn.files) (map string_bytes (take l.index l.names)) (bytes_of l.contents.items);
-  rest : total (bytes_of l.contents.items) + l.left ≡ MOST_SOURCE_BYTES;
+  bytes : AllByRecursion AreBytes (bytes_of l.contents.items);
+  rest : total (bytes_of l.contents.items) + l.left ≡ l.most;
   each : length l.contents.items ≡ l.index;
   calm : g.F.Shelf.faults l.files ≡ g.F.Shelf.faults l.fn.files;
   asked : g.F.Shelf.asked l.files ≡ g.F.Shelf.asked l.fn.files ++ map string_bytes (take l.index l.names);

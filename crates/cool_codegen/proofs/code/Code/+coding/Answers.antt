@@ -9,6 +9,7 @@ use Rattle.std.specs.Global.{Vec}
 use Rattle.std.proofs.lemmas.List.{length-map}
 use Rattle.mips_isa.specs.Lines.{Line, lines_of}
 use Rattle.mips_isa.specs.declared.line.Line as declared_line
+use Rattle.cool_codegen.specs.declared.span.Span as declared_span
 use Rattle.cool_syntax.specs.NodeLists.{all_trees, made as tree_made}
 use Rattle.cool_consts.specs.Constants.{Constants}
 use Rattle.cool_syntax.specs.declared.node.NodeBranch.{NodeBranch}
@@ -16,22 +17,26 @@ use Rattle.cool_classes.specs.ClimbedChains.{above}
 use Rattle.cool_classes.specs.declared.class_id.ClassId.{ClassId}
 use Rattle.cool_codegen.specs.Asked.{Keeps}
 use Rattle.cool_codegen.specs.Spans.{Branch, with_branch}
-use Rattle.cool_codegen.specs.Shown.{Shown, ended, made_of, shown_of, whole, IsWithin}
+use Rattle.cool_codegen.specs.Shown.{Shown, arms_spans, ended, made_of, noted, shown_of, whole, IsWithin}
 use Rattle.cool_codegen.specs.Code.{file_name, int_code, label_at, range_code}
 use Rattle.cool_runtime.specs.Routines.{push_lines}
-use Rattle.cool_codegen.specs.Numbered.{asked_at, branch_lines, branch_sizes_at, branch_spans, branches_asked, branches_made, class_of_branch, lines_at, node_asked, node_lines, node_size, node_spans, size_at, spans_at, with_bytes, with_file}
+use Rattle.cool_codegen.specs.Numbered.{asked_at, branch_lines, branch_sizes_at, branch_spans, branches_asked, branches_made, class_of_branch, lines_at, made_lines, node_asked, node_lines, node_size, node_spans, size_at, spans_at, with_bytes, with_file}
 use Rattle.cool_codegen.specs.Pieces.{mark_lines, negate_lines, repeat_lines, test_lines, turn_lines}
 use Rattle.cool_codegen.specs.Settings.{context, typed_body}
+use Rattle.cool_codegen.specs.declared.setting.Setting.{Setting}
+use Rattle.cool_codegen.specs.declared.setting.Wanted.{Wanted}
 use Rattle.cool_rules.specs.TypedParts.{AreBranches}
 use Rattle.cool_codegen.specs.Variables.{bind, scope_of}
 use Rattle.cool_codegen.proofs.NumbersAgree.{extends_same}
 use Rattle.cool_codegen.proofs.SameSettings.{added_in, branch_added_in, in_begun}
 use Rattle.cool_codegen.proofs.SpansByNumbers.{branches_within}
+use Rattle.cool_codegen.proofs.LinesAlone.{same_lines}
 use Rattle.cool_codegen.proofs.SpansNoted.{noted_there, put_made}
 use Rattle.cool_codegen.proofs.code.Code.+coding.Goals as goal
 
 pub arm-returns : goal.arm-returns
 arm-returns t c =
+    let want = c.args.self.now.setting.wanted in
     let s = context c.args.self.now.setting in
     let b = c.args.self.now.setting.body.now in
     let body = c.args.branch.now.body in
@@ -57,10 +62,10 @@ arm-returns t c =
             ++ turn_lines c.args.end.now next)));
         spans =
             c.in_ok-within.ensures.made.spans
-            ∙ ap (λ (ls : List Line). map shown_of c.args.self.now.spans.items ++ spans_at s b (bind c.args.depth c.args.branch.now.name c.type_meant-bound.result c.args.self.now.variables) (c.args.depth + 1) (length ls) body)
+            ∙ ap (λ (ls : List Line). map shown_of c.args.self.now.spans.items ++ spans_at want s b (bind c.args.depth c.args.branch.now.name c.type_meant-bound.result c.args.self.now.variables) (c.args.depth + 1) (length ls) body)
             (c.in_ok-try_class.ensures ∙ ap (λ n. before ++ range_code s c.args.class n) here)
             ∙ (λ i. map shown_of c.args.self.now.spans.items
-            ++ spans_at s b (bind c.args.depth c.args.branch.now.name (c.type_meant-bound.ensures.meant i) c.args.self.now.variables) (c.args.depth + 1) (length (before ++ range_code s (c.requires.declared i) next)) body);
+            ++ spans_at want s b (bind c.args.depth c.args.branch.now.name (c.type_meant-bound.ensures.meant i) c.args.self.now.variables) (c.args.depth + 1) (length (before ++ range_code s (c.requires.declared i) next)) body);
         asked = search rules;
         more_integers = search rules;
         more_strings = search rules;
@@ -70,6 +75,7 @@ arm-returns t c =
 
 pub unary-returns-in_ok-make_int-in-Neg : goal.unary-returns-in_ok-make_int-in-Neg
 unary-returns-in_ok-make_int-in-Neg t c =
+    let want = c.args.self.now.setting.wanted in
     let s = context c.args.self.now.setting in
     let b = c.args.self.now.setting.body.now in
     let before = lines_of c.args.self.now.lines.items in
@@ -95,7 +101,7 @@ unary-returns-in_ok-make_int-in-Neg t c =
             ∙ ap (λ n. before ++ node_lines s b old c.args.self.now.variables c.args.depth c.args.id n) (sym c.in-Neg.is);
         spans =
             c.in_ok-expression-in-Neg.ensures.made.spans
-            ∙ ap (λ n. map shown_of c.args.self.now.spans.items ++ node_spans s b old c.args.self.now.variables c.args.depth before c.args.id n) (sym c.in-Neg.is);
+            ∙ ap (λ n. map shown_of c.args.self.now.spans.items ++ node_spans want s b old c.args.self.now.variables c.args.depth before c.args.id n) (sym c.in-Neg.is);
         asked = asked ∙ ap (node_asked s.files b old) (sym c.in-Neg.is);
         more_integers = first_of (search rules, grind (arith, common_steps));
         more_strings = first_of (search rules, grind (arith, common_steps));
@@ -105,6 +111,7 @@ unary-returns-in_ok-make_int-in-Neg t c =
 
 pub operands-returns : goal.operands-returns
 operands-returns t c =
+    let want = c.args.self.now.setting.wanted in
     let s = context c.args.self.now.setting in
     let b = c.args.self.now.setting.body.now in
     let before = lines_of c.args.self.now.lines.items in
@@ -120,8 +127,8 @@ operands-returns t c =
         lines = two.lines ∙ (λ i. pushed i ++ right) ∙ append_assoc (before ++ left) push_lines right ∙ append_assoc before left (push_lines ++ right);
         spans =
             two.spans
-            ∙ (λ i. one.spans i ++ spans_at s b c.args.self.now.variables (c.args.depth + 1) (length (pushed i)) c.args.right)
-            ∙ append_assoc (map shown_of c.args.self.now.spans.items) (spans_at s b c.args.self.now.variables c.args.depth (length before) c.args.left) _;
+            ∙ (λ i. one.spans i ++ spans_at want s b c.args.self.now.variables (c.args.depth + 1) (length (pushed i)) c.args.right)
+            ∙ append_assoc (map shown_of c.args.self.now.spans.items) (spans_at want s b c.args.self.now.variables c.args.depth (length before) c.args.left) _;
         asked = two.asked;
         more_integers = omega arith;
         more_strings = omega arith;
@@ -131,6 +138,7 @@ operands-returns t c =
 
 pub control-returns-in_ok-write-in-If-3 : goal.control-returns-in_ok-write-in-If-3
 control-returns-in_ok-write-in-If-3 t c =
+    let want = c.args.self.now.setting.wanted in
     let s = context c.args.self.now.setting in
     let b = c.args.self.now.setting.body.now in
     let old = c.args.self.now.consts in
@@ -171,10 +179,10 @@ control-returns-in_ok-write-in-If-3 t c =
             ∙ ap (λ k. before ++ node_lines s b old vs d c.args.id k) (sym c.in-If.is);
         spans =
             three.spans
-            ∙ (λ i. (two.spans ∙ (λ j. one.spans j ++ spans_at s b vs d (length (tested j)) y)) i ++ spans_at s b vs d (length (turned i)) n)
-            ∙ append_assoc (map shown_of c.args.self.now.spans.items ++ spans_at s b vs d (length before) p) _ _
-            ∙ append_assoc (map shown_of c.args.self.now.spans.items) (spans_at s b vs d (length before) p) _
-            ∙ ap (λ k. map shown_of c.args.self.now.spans.items ++ node_spans s b old vs d before c.args.id k) (sym c.in-If.is);
+            ∙ (λ i. (two.spans ∙ (λ j. one.spans j ++ spans_at want s b vs d (length (tested j)) y)) i ++ spans_at want s b vs d (length (turned i)) n)
+            ∙ append_assoc (map shown_of c.args.self.now.spans.items ++ spans_at want s b vs d (length before) p) _ _
+            ∙ append_assoc (map shown_of c.args.self.now.spans.items) (spans_at want s b vs d (length before) p) _
+            ∙ ap (λ k. map shown_of c.args.self.now.spans.items ++ node_spans want s b old vs d before c.args.id k) (sym c.in-If.is);
         asked = three.asked ∙ ap (node_asked s.files b old) (sym c.in-If.is);
         more_integers = omega arith;
         more_strings = omega arith;
@@ -184,6 +192,7 @@ control-returns-in_ok-write-in-If-3 t c =
 
 pub control-returns-in_ok-write-in-While-3 : goal.control-returns-in_ok-write-in-While-3
 control-returns-in_ok-write-in-While-3 t c =
+    let want = c.args.self.now.setting.wanted in
     let s = context c.args.self.now.setting in
     let b = c.args.self.now.setting.body.now in
     let old = c.args.self.now.consts in
@@ -221,9 +230,9 @@ control-returns-in_ok-write-in-While-3 t c =
             ∙ ap (λ k. before ++ node_lines s b old vs d c.args.id k) (sym c.in-While.is);
         spans =
             two.spans
-            ∙ (λ i. (one.spans ∙ ap (λ (ls : List Line). map shown_of c.args.self.now.spans.items ++ spans_at s b vs d (length ls) p) marked) i ++ spans_at s b vs d (length (tested i)) a)
+            ∙ (λ i. (one.spans ∙ ap (λ (ls : List Line). map shown_of c.args.self.now.spans.items ++ spans_at want s b vs d (length ls) p) marked) i ++ spans_at want s b vs d (length (tested i)) a)
             ∙ append_assoc (map shown_of c.args.self.now.spans.items) _ _
-            ∙ ap (λ k. map shown_of c.args.self.now.spans.items ++ node_spans s b old vs d before c.args.id k) (sym c.in-While.is);
+            ∙ ap (λ k. map shown_of c.args.self.now.spans.items ++ node_spans want s b old vs d before c.args.id k) (sym c.in-While.is);
         asked = two.asked ∙ ap (node_asked s.files b old) (sym c.in-While.is);
         more_integers = omega arith;
         more_strings = omega arith;
@@ -233,6 +242,7 @@ control-returns-in_ok-write-in-While-3 t c =
 
 pub arms-loop-branch-preserved : goal.arms-loop-branch-preserved
 arms-loop-branch-preserved t c =
+    let want = c.args.self.now.setting.wanted in
     let s = context c.args.self.now.setting in
     let b = c.args.self.now.setting.body.now in
     let d = c.args.depth in
@@ -251,9 +261,9 @@ arms-loop-branch-preserved t c =
     let class : c.class_of-class.result ≡ class_of_branch s w = search rules in
     let high = c.depth.ensures ∙ ap (λ (k : ClassId). length (above s.table k)) class in
     let own : lines_of c.replace-own.result.items ≡ branch_lines s b old vs d end w = search (rules, made) in
-    let noted : map shown_of c.replace-spans.result.items ≡ branch_spans s b vs d [] w = search (rules, made) in
-    let arm : Branch (List Shown) = record { arm = record { depth = length (above s.table (class_of_branch s w)); lines = branch_lines s b old vs d end w }; inside = branch_spans s b vs d [] w } in
-    let put = put_made c.loop-branch.sorted.items c.insert_arm.new.arms.items (record { depth = c.depth.result; lines = c.replace-own.result; spans = c.replace-spans.result }) c.in_ok-insert_arm.ensures ∙ (λ k. with_branch before (record { arm = record { depth = high k; lines = own k }; inside = noted k })) in
+    let shows : map shown_of c.replace-spans.result.items ≡ branch_spans want s b vs d [] w = search (rules, made) in
+    let arm : Branch (List Shown) = record { arm = record { depth = length (above s.table (class_of_branch s w)); lines = branch_lines s b old vs d end w }; inside = branch_spans want s b vs d [] w } in
+    let put = put_made c.loop-branch.sorted.items c.insert_arm.new.arms.items (record { depth = c.depth.result; lines = c.replace-own.result; spans = c.replace-spans.result }) c.in_ok-insert_arm.ensures ∙ (λ k. with_branch before (record { arm = record { depth = high k; lines = own k }; inside = shows k })) in
     let sizes : branch_sizes_at b (drop i ws) ≡ size_at b w.body + branch_sizes_at b rest = ap (branch_sizes_at b) cut in
     let deep = c.loop-branch.invariant.deep in
     let more_integers = c.loop-branch.invariant.more_integers in
@@ -264,7 +274,7 @@ arms-loop-branch-preserved t c =
       kept = search (rules, made);
       lines = search rules;
       spans = search rules;
-      made = (λ k. branches_made s b (made.asked k) vs d end (put k) rest) ∙ sym (ap (branches_made s b old vs d end before) cut) ∙ c.loop-branch.invariant.made;
+      made = (λ k. branches_made want s b (made.asked k) vs d end (put k) rest) ∙ sym (ap (branches_made want s b old vs d end before) cut) ∙ c.loop-branch.invariant.made;
       asked = (λ k. branches_asked s.files b (made.asked k) rest) ∙ sym (ap (branches_asked s.files b old) cut) ∙ c.loop-branch.invariant.asked;
       deep = omega arith;
       more_integers = omega arith;
@@ -276,6 +286,7 @@ arms-loop-branch-preserved t c =
 
 pub arms-add_arms-requires : goal.arms-add_arms-requires
 arms-add_arms-requires t c =
+    let want = c.args.self.now.setting.wanted in
     let s = context c.args.self.now.setting in
     let b = c.args.self.now.setting.body.now in
     let d = c.args.depth in
@@ -285,18 +296,57 @@ arms-add_arms-requires t c =
     let ws = c.args.branches.now in
     let i = c.loop-branch.branch-index in
     let none : drop i ws ≡ [] = drop_all i ws (let e = c.loop-branch-test.false in omega arith) in
-    let made = sym (ap (branches_made s b now vs d end (map made_of c.loop-branch.sorted.items)) none) ∙ c.loop-branch.invariant.made in
-    record { within = subst (AllByRecursion IsWithin) (sym made) (branches_within s b c.args.self.now.consts vs d end [] ws tt) }
+    let made = sym (ap (branches_made want s b now vs d end (map made_of c.loop-branch.sorted.items)) none) ∙ c.loop-branch.invariant.made in
+    record { within = subst (AllByRecursion IsWithin) (sym made) (branches_within want s b c.args.self.now.consts vs d end [] ws tt) }
+
+pub arms-returns : goal.arms-returns
+arms-returns t c =
+    let want = c.args.self.now.setting.wanted in
+    let s = context c.args.self.now.setting in
+    let b = c.args.self.now.setting.body.now in
+    let d = c.args.depth in
+    let end = c.args.end.now in
+    let vs = c.args.self.now.variables in
+    let old = c.args.self.now.consts in
+    let now = c.loop-branch.self.consts in
+    let ws = c.args.branches.now in
+    let i = c.loop-branch.branch-index in
+    let none : drop i ws ≡ [] = drop_all i ws (let e = c.loop-branch-test.false in omega arith) in
+    let made = sym (ap (branches_made want s b now vs d end (map made_of c.loop-branch.sorted.items)) none) ∙ c.loop-branch.invariant.made in
+    let kept = ap (λ (v : Vec declared_line.Line). lines_of v.items) c.loop-branch.invariant.lines in
+    let noted_before = ap (λ (v : Vec declared_span.Span). map shown_of v.items) c.loop-branch.invariant.spans in
+    let sizes = ap (branch_sizes_at b) none in
+    let more_integers = c.loop-branch.invariant.more_integers in
+    let more_strings = c.loop-branch.invariant.more_strings in
+    record {
+      made = record {
+        setting = c.loop-branch.invariant.setting;
+        scope = c.loop-branch.invariant.scope;
+        lines =
+            c.in_ok-add_arms.ensures.lines
+            ∙ (λ k. kept k ++ made_lines (made k))
+            ∙ ap (λ xs. lines_of c.args.self.now.lines.items ++ xs) (same_lines want s b old vs d end ws);
+        spans = c.in_ok-add_arms.ensures.spans ∙ (λ k. noted_before k ++ arms_spans (kept k) (made k));
+        asked = sym (ap (branches_asked s.files b now) none) ∙ c.loop-branch.invariant.asked;
+        more_integers = omega arith;
+        more_strings = omega arith;
+        kept = c.loop-branch.invariant.kept;
+      };
+    }
 
 -- The span of the node is noted before its parts, and ends behind their lines.
 
 pub expression-end_span-requires : goal.expression-end_span-requires
-expression-end_span-requires t c = record {
-  noted = noted_there c.args.self.now.spans.items c.begin_span.new.self.spans.items c.parts.new.self.spans.items _ _ _ c.in_ok-span.ensures.number (c.in_ok-span.ensures.spans []) c.in_ok-parts.ensures.made.spans;
-}
+expression-end_span-requires t c =
+    let same = c.in_ok-parts.ensures.made.setting ∙ c.begin_span.ensures.alone.setting in
+    record {
+      begun = λ spans. noted_there c.args.self.now.setting.wanted c.args.self.now.spans.items c.begin_span.new.self.spans.items c.parts.new.self.spans.items _ _ _
+          c.in_ok-span.ensures.number (c.in_ok-span.ensures.spans []) c.in_ok-parts.ensures.made.spans (sym (ap (λ (s : Setting). s.wanted) same) ∙ spans);
+    }
 
 pub expression-returns : goal.expression-returns
 expression-returns t c =
+    let want = c.args.self.now.setting.wanted in
     let s = context c.args.self.now.setting in
     let b = c.args.self.now.setting.body.now in
     let old = c.args.self.now.consts in
@@ -304,17 +354,22 @@ expression-returns t c =
     let d = c.args.depth in
     let id = c.args.id in
     let before = lines_of c.args.self.now.lines.items in
-    let noted = map shown_of c.args.self.now.spans.items in
+    let earlier = map shown_of c.args.self.now.spans.items in
     let n = c.node_of-node.result.now in
     let node = c.node_of-node.ensures in
     let alone = c.begin_span.ensures.alone in
     let last = c.end_span.ensures.alone in
     let made = in_begun d id n _ _ _ _ alone c.in_ok-parts.ensures.made in
+    let wanted : c.parts.new.self.setting.wanted ≡ want = ap (λ (r : Setting). r.wanted) (made.setting ∙ alone.setting) in
     let begun : Shown = whole vs d (length before) (length before) (tree_made (all_trees b) n) in
-    let parts = node_spans s b old vs d before id n in
+    let parts = node_spans want s b old vs d before id n in
     let written : lines_of c.parts.new.self.lines.items ≡ before ++ node_lines s b old vs d id n =
     made.lines ∙ ap (λ (v : Vec declared_line.Line). lines_of v.items ++ node_lines s b old vs d id n) alone.lines in
-    let has = made.spans ∙ ap (λ xs. xs ++ parts) (c.in_ok-span.ensures.spans (all_trees b)) ∙ append_assoc noted (begun ∷ []) parts in
+    let has =
+    made.spans
+    ∙ ap (λ xs. xs ++ parts) (c.in_ok-span.ensures.spans (all_trees b))
+    ∙ append_assoc earlier (noted want (begun ∷ [])) parts
+    ∙ ap (λ (v : Wanted). earlier ++ (noted v (begun ∷ []) ++ parts)) (sym wanted) in
     let size = node.size in
     let i0 = ap (λ (u : Constants). length u.integers) alone.consts in
     let i1 = ap (λ (u : Constants). length u.integers) last.consts in
@@ -328,9 +383,9 @@ expression-returns t c =
         scope = last.scope ∙ (made.scope ∙ alone.scope);
         lines = ap (λ (v : Vec declared_line.Line). lines_of v.items) last.lines ∙ written ∙ ap (λ xs. before ++ xs) (sym node.lines);
         spans =
-            c.end_span.ensures.spans noted parts begun has (length-map c.args.self.now.spans.items shown_of ∙ sym c.in_ok-span.ensures.number)
-            ∙ ap (λ (xs : List Line). noted ++ ended (length xs) begun ∷ parts) written
-            ∙ ap (λ xs. noted ++ xs) (sym (node.spans before));
+            c.end_span.ensures.spans earlier parts begun has (length-map c.args.self.now.spans.items shown_of ∙ sym c.in_ok-span.ensures.number)
+            ∙ (λ i. earlier ++ (noted (wanted i) (ended (length (written i)) begun ∷ []) ++ parts))
+            ∙ ap (λ xs. earlier ++ xs) (sym (node.spans before));
         asked = last.consts ∙ made.asked ∙ sym node.asked;
         more_integers = omega arith;
         more_strings = omega arith;

@@ -62,8 +62,8 @@ invariant-items-loop-item l = record {
   kept : Keeps l.fn.self.consts l.self.consts;
   lines : lines_of l.self.lines.items ++ items_lines (context l.fn.self.setting) l.fn.self.setting.body.now l.self.consts l.fn.self.variables l.depth (drop l.item-index l.items)
       ≡ lines_of l.fn.self.lines.items ++ items_lines (context l.fn.self.setting) l.fn.self.setting.body.now l.fn.self.consts l.fn.self.variables l.depth l.items;
-  spans : map shown_of l.self.spans.items ++ items_spans (context l.fn.self.setting) l.fn.self.setting.body.now l.self.consts l.fn.self.variables l.depth (lines_of l.self.lines.items) (drop l.item-index l.items)
-      ≡ map shown_of l.fn.self.spans.items ++ items_spans (context l.fn.self.setting) l.fn.self.setting.body.now l.fn.self.consts l.fn.self.variables l.depth (lines_of l.fn.self.lines.items) l.items;
+  spans : map shown_of l.self.spans.items ++ items_spans l.fn.self.setting.wanted (context l.fn.self.setting) l.fn.self.setting.body.now l.self.consts l.fn.self.variables l.depth (lines_of l.self.lines.items) (drop l.item-index l.items)
+      ≡ map shown_of l.fn.self.spans.items ++ items_spans l.fn.self.setting.wanted (context l.fn.self.setting) l.fn.self.setting.body.now l.fn.self.consts l.fn.self.variables l.depth (lines_of l.fn.self.lines.items) l.items;
   asked : all_asked (context l.fn.self.setting).files l.fn.self.setting.body.now l.self.consts (drop l.item-index l.items) ≡ all_asked (context l.fn.self.setting).files l.fn.self.setting.body.now l.fn.self.consts l.items;
   deep : sizes_at l.fn.self.setting.body.now (drop l.item-index l.items) ≤ sizes_at l.fn.self.setting.body.now l.items;
   more_integers : length l.self.consts.integers + sizes_at l.fn.self.setting.body.now (drop l.item-index l.items) ≤ length l.fn.self.consts.integers + sizes_at l.fn.self.setting.body.now l.items;
@@ -80,8 +80,8 @@ invariant-arguments-loop-arg l = record {
   kept : Keeps l.fn.self.consts l.self.consts;
   lines : lines_of l.self.lines.items ++ arguments_lines (context l.fn.self.setting) l.fn.self.setting.body.now l.self.consts l.fn.self.variables l.inner (drop l.arg-index l.args)
       ≡ lines_of l.fn.self.lines.items ++ arguments_lines (context l.fn.self.setting) l.fn.self.setting.body.now l.fn.self.consts l.fn.self.variables l.depth l.args;
-  spans : map shown_of l.self.spans.items ++ arguments_spans (context l.fn.self.setting) l.fn.self.setting.body.now l.self.consts l.fn.self.variables l.inner (lines_of l.self.lines.items) (drop l.arg-index l.args)
-      ≡ map shown_of l.fn.self.spans.items ++ arguments_spans (context l.fn.self.setting) l.fn.self.setting.body.now l.fn.self.consts l.fn.self.variables l.depth (lines_of l.fn.self.lines.items) l.args;
+  spans : map shown_of l.self.spans.items ++ arguments_spans l.fn.self.setting.wanted (context l.fn.self.setting) l.fn.self.setting.body.now l.self.consts l.fn.self.variables l.inner (lines_of l.self.lines.items) (drop l.arg-index l.args)
+      ≡ map shown_of l.fn.self.spans.items ++ arguments_spans l.fn.self.setting.wanted (context l.fn.self.setting) l.fn.self.setting.body.now l.fn.self.consts l.fn.self.variables l.depth (lines_of l.fn.self.lines.items) l.args;
   asked : all_asked (context l.fn.self.setting).files l.fn.self.setting.body.now l.self.consts (drop l.arg-index l.args) ≡ all_asked (context l.fn.self.setting).files l.fn.self.setting.body.now l.fn.self.consts l.args;
   inner : l.inner ≡ l.depth + l.arg-index;
   deep : l.inner + sizes_at l.fn.self.setting.body.now (drop l.arg-index l.args) ≤ l.depth + sizes_at l.fn.self.setting.body.now l.args;
@@ -99,8 +99,8 @@ invariant-arms-loop-branch l = record {
   kept : Keeps l.fn.self.consts l.self.consts;
   lines : l.self.lines ≡ l.fn.self.lines;
   spans : l.self.spans ≡ l.fn.self.spans;
-  made : branches_made (context l.fn.self.setting) l.fn.self.setting.body.now l.self.consts l.fn.self.variables l.depth l.end (map made_of l.sorted.items) (drop l.branch-index l.branches)
-      ≡ branches_made (context l.fn.self.setting) l.fn.self.setting.body.now l.fn.self.consts l.fn.self.variables l.depth l.end [] l.branches;
+  made : branches_made l.fn.self.setting.wanted (context l.fn.self.setting) l.fn.self.setting.body.now l.self.consts l.fn.self.variables l.depth l.end (map made_of l.sorted.items) (drop l.branch-index l.branches)
+      ≡ branches_made l.fn.self.setting.wanted (context l.fn.self.setting) l.fn.self.setting.body.now l.fn.self.consts l.fn.self.variables l.depth l.end [] l.branches;
   asked : branches_asked (context l.fn.self.setting).files l.fn.self.setting.body.now l.self.consts (drop l.branch-index l.branches) ≡ branches_asked (context l.fn.self.setting).files l.fn.self.setting.body.now l.fn.self.consts l.branches;
   deep : branch_sizes_at l.fn.self.setting.body.now (drop l.branch-index l.branches) ≤ branch_sizes_at l.fn.self.setting.body.now l.branches;
   more_integers : length l.self.consts.integers + branch_sizes_at l.fn.self.setting.body.now (drop l.branch-index l.branches) ≤ length l.fn.self.consts.integers + branch_sizes_at l.fn.self.setting.body.now l.branches;

@@ -29,7 +29,7 @@ returns-in_ok-write-in-Int c =
             ∙ ap (λ n. lines_of c.args.self.now.lines.items ++ node_lines (context c.args.self.now.setting) c.args.self.now.setting.body.now old c.args.self.now.variables c.args.depth c.args.id n) (sym c.in-Int.is);
         spans =
             sym (append-nil (map shown_of c.args.self.now.spans.items))
-            ∙ ap (λ n. map shown_of c.args.self.now.spans.items ++ node_spans (context c.args.self.now.setting) c.args.self.now.setting.body.now old c.args.self.now.variables c.args.depth (lines_of c.args.self.now.lines.items) c.args.id n) (sym c.in-Int.is);
+            ∙ ap (λ n. map shown_of c.args.self.now.spans.items ++ node_spans c.args.self.now.setting.wanted (context c.args.self.now.setting) c.args.self.now.setting.body.now old c.args.self.now.variables c.args.depth (lines_of c.args.self.now.lines.items) c.args.id n) (sym c.in-Int.is);
         asked = search rules;
         more_integers = first_of (search rules, grind (arith, common_steps));
         more_strings = first_of (search rules, grind (arith, common_steps));
@@ -55,7 +55,7 @@ returns-in_ok-write-in-Str c =
             ∙ ap (λ n. lines_of c.args.self.now.lines.items ++ node_lines (context c.args.self.now.setting) c.args.self.now.setting.body.now old c.args.self.now.variables c.args.depth c.args.id n) (sym c.in-Str.is);
         spans =
             sym (append-nil (map shown_of c.args.self.now.spans.items))
-            ∙ ap (λ n. map shown_of c.args.self.now.spans.items ++ node_spans (context c.args.self.now.setting) c.args.self.now.setting.body.now old c.args.self.now.variables c.args.depth (lines_of c.args.self.now.lines.items) c.args.id n) (sym c.in-Str.is);
+            ∙ ap (λ n. map shown_of c.args.self.now.spans.items ++ node_spans c.args.self.now.setting.wanted (context c.args.self.now.setting) c.args.self.now.setting.body.now old c.args.self.now.variables c.args.depth (lines_of c.args.self.now.lines.items) c.args.id n) (sym c.in-Str.is);
         asked = search rules;
         more_integers = first_of (search rules, grind (arith, common_steps));
         more_strings = first_of (search rules, grind (arith, common_steps));

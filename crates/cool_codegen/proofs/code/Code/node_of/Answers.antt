@@ -1,6 +1,6 @@
 -- The number is that of a part, so all stands by the node there.
 use Rattle.std.proofs.Common.{length, subst, rules}
-use Rattle.cool_syntax.specs.Falls.{one_le_size}
+use Rattle.cool_syntax.proofs.TreesHaveNodes.{one_le_size}
 use Rattle.cool_syntax.specs.NodeLists.{tree_at}
 use Rattle.cool_syntax.specs.TreesWithinLimits.{IsTreeWithin}
 use Rattle.cool_codegen.specs.Numbered.{size_at}
@@ -8,7 +8,7 @@ use Rattle.cool_codegen.specs.Settings.{context, typed_body}
 use Rattle.cool_codegen.specs.Variables.{scope_of}
 use Rattle.cool_rules.proofs.PartsStand.{has_parts, part_within}
 use Rattle.cool_codegen.proofs.CodeByNumbers.{asked_of_node, lines_of_node, size_of_node}
-use Rattle.cool_codegen.proofs.SpansByNumbers.{spans_of_node}
+use Rattle.cool_codegen.proofs.LinesAlone.{noted_of_node}
 use Rattle.cool_codegen.proofs.code.Code.node_of.Goals as goal
 
 pub node-requires : goal.node-requires
@@ -42,4 +42,4 @@ returns-clause-asked c =
 pub returns-clause-spans : goal.returns-clause-spans
 returns-clause-spans c before =
     let vs = c.args.self.now.variables in
-    spans_of_node (context c.args.self.now.setting) (typed_body c.args.self.now.setting) (scope_of vs) c.args.self.now.consts vs c.args.depth c.args.id _ before c.requires.part c.node.ensures.node c.node.ensures.tree
+    noted_of_node c.args.self.now.setting.wanted (context c.args.self.now.setting) (typed_body c.args.self.now.setting) (scope_of vs) c.args.self.now.consts vs c.args.depth c.args.id _ before c.requires.part c.node.ensures.node c.node.ensures.tree

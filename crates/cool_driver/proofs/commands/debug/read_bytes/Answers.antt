@@ -1,7 +1,8 @@
 use Rattle.std.proofs.Common.{ap}
 use Rattle.std.specs.Prelude.{Err}
 use Rattle.cool_driver.specs.Calls.{shelf_use}
-use Rattle.cool_driver.proofs.{ReadingNames.{cause_of}, rooms.Debuggings.{script_told}}
+use Rattle.cool_sources.proofs.FilesRead.{cause_of}
+use Rattle.cool_driver.proofs.rooms.Debuggings.{script_told}
 use Rattle.cool_driver.proofs.commands.debug.read_bytes.Goals as goal
 
 -- the script was refused

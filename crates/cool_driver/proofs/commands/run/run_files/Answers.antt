@@ -10,7 +10,7 @@ returns-in-Ok-clause-taken g c = c.execute.ensures.taken
 
 pub returns-in-Ok-clause-ends : goal.returns-in-Ok-clause-ends
 returns-in-Ok-clause-ends g c words given rest leaves =
-    let is = c.in-Ok.ensures.image in
+    let is = rw c.deref.ensures.value at c.in-Ok.ensures.image in
     ran_goes (record { p = is.p; is = is.is; for = is.for; bounded = c.requires.limits }) (c.execute.ensures.puts given rest leaves) (c.execute.ensures.ends _ rest is.is.read.calm leaves)
 
 -- no line of the refusal is empty
@@ -25,7 +25,7 @@ pub returns-in-Err-clause-ends : goal.returns-in-Err-clause-ends
 returns-in-Err-clause-ends g c words given rest leaves =
     rw (leaves_same _ given rest leaves)
     (refusal_goes _ c.in-Err.refusal c.tell_refusal.result (λ s. unrun_ends refl) DueToRefusal.refused c.compile_files.ensures.count refl refl
-    (got_nothing _ _) c.in-Err.ensures.refused c.tell_refusal.ensures.noted)
+    (got_nothing _ _) (rw c.deref.ensures.value at c.in-Err.ensures.refused) c.tell_refusal.ensures.noted)
 
 pub returns-in-Err-clause-refused : goal.returns-in-Err-clause-refused
-returns-in-Err-clause-refused g c is = c.tell_refusal.ensures.put _ _ c.in-Err.ensures.lined is
+returns-in-Err-clause-refused g c is = c.tell_refusal.ensures.put _ _ (rw c.deref.ensures.value at c.in-Err.ensures.lined) is

@@ -1,170 +1,120 @@
--- Each section is assembled after those before it, and the data after all of them.
-use Rattle.std.proofs.Common.{◌≡◌, ◌∙◌, ℕ, ◌+◌, ◌<◌, ◌≤◌, ◌++◌, ◌∷◌, List, [], length, flat_map, drop, get_or, ap, sym, subst, arith, append_assoc, append-nil, Err}
-use Rattle.std.proofs.lemmas.List.{drop_all, get_or_default}
+-- The kept lines are assembled first, and then each batch behind them.
+use Rattle.std.proofs.Common.{◌∙◌, ◌+◌, ◌≤◌, ◌++◌, ℕ, List, [], length, drop, ap, sym, subst, arith, Err}
 use Rattle.std.proofs.lemmas.Result.{err_from_is_err_and}
-use Rattle.mips_isa.specs.Assembly.{directive_line}
-use Rattle.mips_isa.specs.Lines.{Line, ToData, lines_of, AreInRange}
+use Rattle.mips_isa.specs.Lines.{lines_of, AreInRange}
 use Rattle.mips_asm.specs.declared.second_pass.SecondPass.{SecondPass}
 use Rattle.mips_asm.specs.SecondPasses.{HasLeft}
 use Rattle.cool_classes.specs.Chains.{Class}
-use Rattle.cool_consts.specs.Constants.{Constants}
 use Rattle.cool_emit.specs.Additions.{files_of}
-use Rattle.cool_emit.specs.Programs.{data_lines, program_constants, program_data, program_lines}
-use Rattle.cool_emit.specs.declared.section.Section.{Section}
-use Rattle.cool_emit.specs.declared.section.Section.TheVariants.{Routines}
-use Rattle.cool_emit.specs.Sections.{section_code, sections_in}
-use Rattle.cool_emit.proofs.AddingParts.{whole_front}
+use Rattle.cool_emit.specs.Batches.{batches_of, joined, AreAsked}
+use Rattle.cool_emit.specs.Programs.{program_lines}
+use Rattle.cool_emit.specs.Sections.{sections_in}
+use Rattle.cool_emit.proofs.BatchesInTurn.{all_are_asked, how_many, joined_less, left_behind, none_left, ranges_of_batch, ranges_of_front}
 use Rattle.cool_emit.proofs.PassesEnd.{short_of_memory}
-use Rattle.cool_emit.proofs.SectionsInTurn.{asked_by, all_asked, few_integers_before, few_strings_before, within_here, constants_here, ranges_here, left, lines_in_parts, data_in_range}
 use Rattle.cool_emit.proofs.emission.Emission.second_pass.Goals as goal
-
-pub loop-section-init : goal.loop-section-init
-loop-section-init c =
-    let e = c.args.self.now in
-    record {
-      constants = λ i. record { integers = c.new-consts.ensures.integers i; strings = c.new-consts.ensures.strings i };
-      left = subst (HasLeft c.args.pass (program_lines e.program.now (files_of e))) (lines_in_parts e.program.now (files_of e) c.requires.sound.buildable) c.requires.all;
-    }
-
-pub section_lines-requires-clause-there : goal.section_lines-requires-clause-there
-section_lines-requires-clause-there c =
-    let e = c.args.self.now in
-    let less = subst (λ (xs : List Section). c.loop-section.section-index < length xs) c.requires.sections c.loop-section-test.true in
-    let is = subst (λ (xs : List Section). (get_or c.args.sections.now c.loop-section.section-index Routines) ≡ get_or xs c.loop-section.section-index (get_or c.args.sections.now c.loop-section.section-index Routines)) c.requires.sections (get_or_default c.args.sections.now c.loop-section.section-index Routines (get_or c.args.sections.now c.loop-section.section-index Routines) c.loop-section-test.true) in
-    within_here e.program.now (files_of e) c.requires.sound.buildable c.loop-section.section-index (get_or c.args.sections.now c.loop-section.section-index Routines) less is
-
-pub section_lines-requires-clause-few_integers : goal.section_lines-requires-clause-few_integers
-section_lines-requires-clause-few_integers c =
-    let e = c.args.self.now in
-    let few = few_integers_before e.program.now (files_of e) c.requires.sound.buildable c.loop-section.section-index c.loop-section.consts c.loop-section.invariant.constants in
-    omega arith
-
-pub section_lines-requires-clause-few_strings : goal.section_lines-requires-clause-few_strings
-section_lines-requires-clause-few_strings c =
-    let e = c.args.self.now in
-    let few = few_strings_before e.program.now (files_of e) c.requires.sound.buildable c.loop-section.section-index c.loop-section.consts c.loop-section.invariant.constants in
-    omega arith
 
 pub take-requires-clause-due : goal.take-requires-clause-due
 take-requires-clause-due c =
     let e = c.args.self.now in
     let p = e.program.now in
     let files = files_of e in
-    let i = c.loop-section.section-index in
-    let s = (get_or c.args.sections.now c.loop-section.section-index Routines) in
-    let less = subst (λ (xs : List Section). i < length xs) c.requires.sections c.loop-section-test.true in
-    let is = subst (λ (xs : List Section). s ≡ get_or xs i s) c.requires.sections (get_or_default c.args.sections.now c.loop-section.section-index Routines (get_or c.args.sections.now c.loop-section.section-index Routines) c.loop-section-test.true) in
-    let made = lines_of c.in_ok-lines.lines.items in
-    let items : List Line = directive_line ToData ∷ program_data p files in
-    let behind = flat_map (section_code p files (program_constants p files)) (drop (i + 1) (sections_in p)) in (
+    let n = c.args.kept.batches in (
       program_lines p files,
       (
-        behind ++ items,
-        subst (HasLeft c.loop-section.pass (program_lines p files))
-            (ap (λ (ls : List Line). ls ++ items) (left p files c.requires.sound.buildable i s less is c.loop-section.consts c.section_lines.new.consts made c.loop-section.invariant.constants c.in_ok-lines.ensures)
-            ∙ append_assoc made behind items ∙ ap (λ ls. lines_of ls ++ (behind ++ items)) (sym c.deref.ensures.value))
-            c.loop-section.invariant.left,
+        joined (drop n (batches_of p files)),
+        subst (HasLeft c.args.pass (program_lines p files))
+            (left_behind p files c.requires.sound.buildable n (lines_of c.deref.result.now) (ap lines_of c.deref.ensures.value ∙ c.requires.kept.lines))
+            c.requires.all,
       ),
     )
 
 pub take-requires-clause-ranges : goal.take-requires-clause-ranges
 take-requires-clause-ranges c =
     let e = c.args.self.now in
-    let less = subst (λ (xs : List Section). c.loop-section.section-index < length xs) c.requires.sections c.loop-section-test.true in
-    let is = subst (λ (xs : List Section). (get_or c.args.sections.now c.loop-section.section-index Routines) ≡ get_or xs c.loop-section.section-index (get_or c.args.sections.now c.loop-section.section-index Routines)) c.requires.sections (get_or_default c.args.sections.now c.loop-section.section-index Routines (get_or c.args.sections.now c.loop-section.section-index Routines) c.loop-section-test.true) in
-    subst AreInRange (sym (ap lines_of c.deref.ensures.value))
-    (ranges_here e.program.now (files_of e) c.requires.sound.buildable c.loop-section.section-index (get_or c.args.sections.now c.loop-section.section-index Routines) less is
-    c.loop-section.consts c.section_lines.new.consts (lines_of c.in_ok-lines.lines.items) c.loop-section.invariant.constants c.in_ok-lines.ensures)
+    subst AreInRange (sym (ap lines_of c.deref.ensures.value ∙ c.requires.kept.lines))
+    (ranges_of_front e.program.now (files_of e) c.requires.sound.buildable c.args.kept.batches)
 
-pub loop-section-preserved : goal.loop-section-preserved
-loop-section-preserved c =
+pub loop-number-init : goal.loop-number-init
+loop-number-init c =
     let e = c.args.self.now in
     let p = e.program.now in
     let files = files_of e in
-    let i = c.loop-section.section-index in
-    let s = (get_or c.args.sections.now c.loop-section.section-index Routines) in
-    let less = subst (λ (xs : List Section). i < length xs) c.requires.sections c.loop-section-test.true in
-    let is = subst (λ (xs : List Section). s ≡ get_or xs i s) c.requires.sections (get_or_default c.args.sections.now c.loop-section.section-index Routines (get_or c.args.sections.now c.loop-section.section-index Routines) c.loop-section-test.true) in
-    let made = lines_of c.in_ok-lines.lines.items in
-    let items : List Line = directive_line ToData ∷ program_data p files in
-    let behind = flat_map (section_code p files (program_constants p files)) (drop (i + 1) (sections_in p)) in
+    let b = c.requires.sound.buildable in
+    let n = c.args.kept.batches in
     record {
-      constants = constants_here p files c.requires.sound.buildable i s less is c.loop-section.consts c.section_lines.new.consts made c.loop-section.invariant.constants c.in_ok-lines.ensures;
+      constants = subst (AreAsked p files n) (sym c.requires.constants) (all_are_asked p files b n);
       left =
-          c.in_ok-take.ensures (program_lines p files) (behind ++ items)
-          (subst (HasLeft c.loop-section.pass (program_lines p files))
-          (ap (λ (ls : List Line). ls ++ items) (left p files c.requires.sound.buildable i s less is c.loop-section.consts c.section_lines.new.consts made c.loop-section.invariant.constants c.in_ok-lines.ensures)
-          ∙ append_assoc made behind items ∙ ap (λ ls. lines_of ls ++ (behind ++ items)) (sym c.deref.ensures.value))
-          c.loop-section.invariant.left);
+          c.in_ok-take.ensures (program_lines p files) (joined (drop n (batches_of p files)))
+          (subst (HasLeft c.args.pass (program_lines p files))
+          (left_behind p files b n (lines_of c.deref.result.now) (ap lines_of c.deref.ensures.value ∙ c.requires.kept.lines)) c.requires.all);
     }
 
--- the data is left after the last section
-data_left : (pass : SecondPass) (p : List Class) (files : List (List ℕ)) (i : ℕ) (made : List Line) → length (sections_in p) ≤ i
-    → HasLeft pass (program_lines p files) (flat_map (section_code p files (program_constants p files)) (drop i (sections_in p)) ++ directive_line ToData ∷ program_data p files)
-    → made ≡ directive_line ToData ∷ program_data p files → HasLeft pass (program_lines p files) (made ++ [])
-data_left pass p files i made long h same =
-    let code = section_code p files (program_constants p files) in
-    let items : List Line = directive_line ToData ∷ program_data p files in
-    subst (HasLeft pass (program_lines p files))
-    (ap (λ (xs : List Section). flat_map code xs ++ items) (drop_all i (sections_in p) long) ∙ sym same ∙ sym (append-nil made)) h
-
-pub take-requires-2-clause-due : goal.take-requires-2-clause-due
-take-requires-2-clause-due c =
+pub take-requires-in-loop-number-clause-due : goal.take-requires-in-loop-number-clause-due
+take-requires-in-loop-number-clause-due c =
     let e = c.args.self.now in
     let p = e.program.now in
     let files = files_of e in
-    let i = c.loop-section.section-index in
-    let long : length (sections_in p) ≤ i = let no = c.loop-section-test.false in let same = ap length c.requires.sections in omega arith in
-    let constants = c.loop-section.invariant.constants ∙ ap (asked_by p files) (whole_front (sections_in p) i long) ∙ all_asked p files c.requires.sound.buildable in (
+    let all = batches_of p files in
+    let k = c.loop-number.number in
+    let behind = joined (drop (k + 1) all) in (
       program_lines p files,
       (
-        [],
-        data_left c.loop-section.pass p files i (lines_of c.deref-2.result.now) long c.loop-section.invariant.left
-            (ap lines_of c.deref-2.ensures.value ∙ c.in_ok-lines-2.ensures ∙ ap (λ (t : Constants). directive_line ToData ∷ data_lines p t) constants),
+        behind,
+        subst (HasLeft c.loop-number.pass (program_lines p files))
+            (joined_less all k (lines_of c.in_ok-lines.lines.items) c.in_ok-lines.ensures.lines ∙ ap (λ ls. lines_of ls ++ behind) (sym c.deref-in-loop-number.ensures.value))
+            c.loop-number.invariant.left,
       ),
     )
 
-pub take-requires-2-clause-ranges : goal.take-requires-2-clause-ranges
-take-requires-2-clause-ranges c =
+pub take-requires-in-loop-number-clause-ranges : goal.take-requires-in-loop-number-clause-ranges
+take-requires-in-loop-number-clause-ranges c =
+    let e = c.args.self.now in
+    subst AreInRange (sym (ap lines_of c.deref-in-loop-number.ensures.value))
+    (ranges_of_batch e.program.now (files_of e) c.requires.sound.buildable c.loop-number.number (lines_of c.in_ok-lines.lines.items) c.in_ok-lines.ensures.lines)
+
+pub returns-in_err-take-2 : goal.returns-in_err-take-2
+returns-in_err-take-2 c =
+    let p = err_from_is_err_and c.from_residual-in_err-take-2.result c.from_residual-in_err-take-2.ensures.1 in
+    short_of_memory (program_lines c.args.self.now.program.now (files_of c.args.self.now)) c.from_residual-in_err-take-2.result (p.1 ∙ ap Err p.2)
+
+pub loop-number-preserved : goal.loop-number-preserved
+loop-number-preserved c =
     let e = c.args.self.now in
     let p = e.program.now in
     let files = files_of e in
-    let i = c.loop-section.section-index in
-    let long : length (sections_in p) ≤ i = let no = c.loop-section-test.false in let same = ap length c.requires.sections in omega arith in
-    let constants = c.loop-section.invariant.constants ∙ ap (asked_by p files) (whole_front (sections_in p) i long) ∙ all_asked p files c.requires.sound.buildable in
-    subst AreInRange (sym (ap lines_of c.deref-2.ensures.value ∙ c.in_ok-lines-2.ensures ∙ ap (λ (t : Constants). directive_line ToData ∷ data_lines p t) constants))
-    (data_in_range p files c.requires.sound.buildable)
+    let all = batches_of p files in
+    let k = c.loop-number.number in
+    let behind = joined (drop (k + 1) all) in
+    record {
+      constants = c.in_ok-lines.ensures.constants;
+      left =
+          c.in_ok-take-2.ensures (program_lines p files) behind
+          (subst (HasLeft c.loop-number.pass (program_lines p files))
+          (joined_less all k (lines_of c.in_ok-lines.lines.items) c.in_ok-lines.ensures.lines ∙ ap (λ ls. lines_of ls ++ behind) (sym c.deref-in-loop-number.ensures.value))
+          c.loop-number.invariant.left);
+    }
+
+-- after the last batch nothing is left
+done : (pass : SecondPass) (p : List Class) (files : List (List ℕ)) (k : ℕ) → length (sections_in p) + 1 ≤ k
+    → HasLeft pass (program_lines p files) (joined (drop k (batches_of p files))) → HasLeft pass (program_lines p files) []
+done pass p files k long h =
+    let count = how_many p files in
+    subst (HasLeft pass (program_lines p files)) (none_left (batches_of p files) k (omega arith)) h
 
 pub finish-requires : goal.finish-requires
 finish-requires c =
     let e = c.args.self.now in
-    let p = e.program.now in
-    let files = files_of e in
-    let i = c.loop-section.section-index in
-    let long : length (sections_in p) ≤ i = let no = c.loop-section-test.false in let same = ap length c.requires.sections in omega arith in
-    let constants = c.loop-section.invariant.constants ∙ ap (asked_by p files) (whole_front (sections_in p) i long) ∙ all_asked p files c.requires.sound.buildable in
+    let same = ap length c.requires.sections in
     record {
       done = (
-        program_lines p files,
-        c.in_ok-take-2.ensures (program_lines p files) []
-            (data_left c.loop-section.pass p files i (lines_of c.deref-2.result.now) long c.loop-section.invariant.left
-            (ap lines_of c.deref-2.ensures.value ∙ c.in_ok-lines-2.ensures ∙ ap (λ (t : Constants). directive_line ToData ∷ data_lines p t) constants)),
+        program_lines e.program.now (files_of e),
+        done c.loop-number.pass e.program.now (files_of e) c.loop-number.number (let no = c.loop-number-test.false in omega arith) c.loop-number.invariant.left,
       );
     }
 
 pub returns : goal.returns
 returns c =
     let e = c.args.self.now in
-    let p = e.program.now in
-    let files = files_of e in
-    let i = c.loop-section.section-index in
-    let long : length (sections_in p) ≤ i = let no = c.loop-section-test.false in let same = ap length c.requires.sections in omega arith in
-    let constants = c.loop-section.invariant.constants ∙ ap (asked_by p files) (whole_front (sections_in p) i long) ∙ all_asked p files c.requires.sound.buildable in
-    c.finish.ensures (program_lines p files) (c.in_ok-take-2.ensures (program_lines p files) []
-    (data_left c.loop-section.pass p files i (lines_of c.deref-2.result.now) long c.loop-section.invariant.left
-    (ap lines_of c.deref-2.ensures.value ∙ c.in_ok-lines-2.ensures ∙ ap (λ (t : Constants). directive_line ToData ∷ data_lines p t) constants)))
-
-pub returns-in_err-take-2 : goal.returns-in_err-take-2
-returns-in_err-take-2 c =
-    let p = err_from_is_err_and c.from_residual-in_err-take-2.result c.from_residual-in_err-take-2.ensures.1 in
-    short_of_memory (program_lines c.args.self.now.program.now (files_of c.args.self.now)) c.from_residual-in_err-take-2.result (p.1 ∙ ap Err p.2)
+    let same = ap length c.requires.sections in
+    c.finish.ensures (program_lines e.program.now (files_of e))
+    (done c.loop-number.pass e.program.now (files_of e) c.loop-number.number (let no = c.loop-number-test.false in omega arith) c.loop-number.invariant.left)

@@ -1,6 +1,6 @@
 -- The last node is that of the whole tree.
 use Rattle.std.proofs.Common.{ℕ, ◌-◌, ap, sym, ◌∙◌, arith}
-use Rattle.cool_syntax.specs.Falls.{one_le_size}
+use Rattle.cool_syntax.proofs.TreesHaveNodes.{one_le_size}
 use Rattle.cool_syntax.specs.NodeLists.{tree_at}
 use Rattle.cool_syntax.proofs.TreesOfLists.{length-nodes, tree_of-nodes}
 use Rattle.cool_syntax.proofs.body.Body.root.Goals as goal

@@ -1,0 +1,47 @@
+"""The order in which the page loads its scripts: which of them uses a name that one behind it gives. Read by `tidy`, by forms alone.
+
+All scripts of the page are plain ones, whose names are those of the whole page. A name that a script also binds within, as a parameter does, is not looked for.
+"""
+import re
+
+from sources import read
+
+MADE = re.compile(r"(?:\w+-)?module\.js|examples\.js|help\.js")
+# What is no code: comments, strings and regular expressions; of a template what stands in braces is.
+QUOTED = re.compile(r'(?m)^ *//.*$|"(?:[^"\\\n]|\\.)*"|/(?![ */])(?:[^/\\\n\[]|\\.|\[[^\]\n]*\])+/')
+TEMPLATE = re.compile(r"`[^`]*`")
+BINDS = re.compile(
+    r"""(?mx) \b(?:const|let)\ (.*?)(?=\ =\ |\ of\ |;|$) | ,\ (\w+)\ =\  | \(([^()]*)\)\ => | (\w+)\ =>
+    | (?:function\ |^\ +(?:async\ |static\ |get\ )*(?!(?:if|for|while|switch)\b))(\w+\([^()]*\))(?=\ \{)"""
+)
+USED = re.compile(r"(?<![\w.$])([A-Za-z_]\w*)\b(?!:)")
+
+
+def given(code):
+    """The names that a script gives the page."""
+    names = set(re.findall(r"(?m)^(?:async )?(?:function|class) (\w+)", code))
+    for line in re.findall(r"(?m)^(?:const|let) (.*)$", code):
+        names.update(re.findall(r"[A-Za-z_]\w*", line.partition(" = ")[0]))
+        if "=>" not in line:
+            names.update(re.findall(r", ([A-Za-z_]\w*)(?= = |[,;])", line))
+    return names
+
+
+def used(code):
+    """The names that a script uses and does not bind."""
+    bound = re.findall(r"\w+", " ".join(" ".join(it) for it in BINDS.findall(code)))
+    return set(USED.findall(code)) - set(bound)
+
+
+def upward():
+    """Each script that uses a name of one behind it, with that one and the name."""
+    codes = {}
+    for name in re.findall(r'<script src="([^"]+)"', read("web/index.html")):
+        if not MADE.fullmatch(name):
+            code = QUOTED.sub('""', read("web/" + name))
+            codes[name] = TEMPLATE.sub(lambda it: " ".join(re.findall(r"\$\{([^`]*?)\}", it[0])), code)
+    names, found = list(codes), []
+    for at, name in enumerate(names):
+        wanted = used(codes[name]) - given(codes[name])
+        found += [(name, later, word) for later in names[at + 1 :] for word in sorted(wanted & given(codes[later]))]
+    return found

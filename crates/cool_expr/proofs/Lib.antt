@@ -1,0 +1,3 @@
+mod ComparingParts
+mod PartsAreSmaller
+mod WrittenTreesAreParsed

@@ -1,0 +1,21 @@
+//! Expressions in boxes, apart from the lists of nodes that the commands work with: made of the nodes of a pool, copied and compared; and trees
+//! written as tokens. No command calls these.
+//!
+//! Comes in: a pool, an expression, or the tree of a file. Goes out: an expression, whether two are the same, or the tokens of a file.
+#![tactic(auto)]
+
+mod boxed;
+mod comparison;
+mod copy;
+mod expr;
+mod parts;
+mod token_list;
+mod written;
+mod written_file;
+
+pub use boxed::boxed_tree;
+pub use comparison::same_expr;
+pub use copy::copy_expr;
+pub use expr::{Branch, Expr};
+pub use parts::{Branches, Child, Exprs};
+pub use written_file::tokens_of;

@@ -1,0 +1,74 @@
+"""Applies the mends that `cool_explain` tells to a program, one after the other, for mistakes/mends."""
+import os
+import re
+import resource
+import subprocess
+import sys
+
+from mutations import lexemes
+
+MOST_MENDS = 8
+EDIT = re.compile(rb"edit 0:(\d+):(\d+) (.*)")
+# How a program may end.
+BACK, SAME, OTHER, LEFT, NONE = "comes back", "the same code", "another program", "a fault is left", "no mend"
+
+
+def processor_time():
+    """The seconds that a processor has worked for the programs that ended so far."""
+    used = resource.getrusage(resource.RUSAGE_CHILDREN)
+    return used.ru_utime + used.ru_stime
+
+
+def edited(text, told):
+    """The text with the edit among these lines, or None where there is none."""
+    for found in filter(None, map(EDIT.fullmatch, told)):
+        new = re.sub(rb"\\([\\n])", lambda it: b"\n" if it[1] == b"n" else b"\\", found[3])
+        return text[: int(found[1])] + new + text[int(found[2]) :]
+    return None
+
+
+class Tools:
+    """`cool check` and `cool_explain`, over one file."""
+
+    def __init__(self, check, explain, folder):
+        self.check, self.explain, self.path = check, explain, os.path.join(folder, "program.cl")
+
+    def run(self, words, text):
+        with open(self.path, "wb") as file:
+            file.write(text)
+        return subprocess.run(words + [self.path], stdout=subprocess.PIPE, stderr=subprocess.PIPE)
+
+    def is_program(self, text):
+        return self.run([self.check, "check"], text).returncode == 0
+
+    def code(self, text):
+        return self.run([self.check, "asm"], text).stdout
+
+    def told(self, text):
+        """The lines that tell of the first fault of a program."""
+        run = self.run([self.explain, "--lines"], text)
+        if run.returncode not in (0, 1):
+            sys.exit("mistakes/mends: %s ended with %d over this, and wrote %r:\n%s"
+                     % (self.explain, run.returncode, run.stderr, text.decode(errors="replace")))
+        lines = run.stdout.split(b"\n")[:-1]
+        faults = [at for at, line in enumerate(lines) if line.startswith(b"fault ")]
+        return lines[: faults[1] if faults[1:] else None]
+
+    def end(self, text, meant, told):
+        """How a program ends of which these lines tell: the mend of the first fault is applied, then that of the first fault that is left, and so on."""
+        for mends in range(MOST_MENDS):
+            after = edited(text, told)
+            if after is None:
+                return LEFT if mends else NONE
+            text = after
+            if self.is_program(text):
+                return BACK if lexemes(text) == lexemes(meant) else SAME if self.code(text) == self.code(meant) else OTHER
+            told = self.told(text)
+        return LEFT
+
+    def measured(self, program):
+        """How a program ends, the seconds that a processor took to explain it, and the lines that tell of its first fault."""
+        start = processor_time()
+        told = self.told(program.text)
+        seconds = processor_time() - start
+        return self.end(program.text, program.meant, told), seconds, told

@@ -1,0 +1,57 @@
+// Explanations of the faults, by the program `cool_explain` in a worker of its own: it is asked once the faults came and nobody types, and what it says of a
+// text that has changed since is dropped.
+"use strict";
+
+const EXPLAIN_DELAY = 200, MOST_EXPLAIN_TIME = 5000;
+
+let explainModule;
+const explainer = new Runner(() => explainModule);
+// What is asked, or was dropped, last: an answer to what was asked before is old.
+let explainTimer, explainTurn = 0;
+
+async function loadExplainer() {
+    if (typeof COOL_EXPLAIN_MODULE === "undefined") return;
+    explainModule = await load(COOL_EXPLAIN_MODULE);
+    explainSoon();
+}
+
+function dropExplanation() {
+    clearTimeout(explainTimer);
+    explainTurn += 1;
+    explainer.stop();
+    explanation = undefined;
+    at("faults").querySelectorAll(".fix").forEach((it) => (it.disabled = true));
+}
+
+function explainSoon() {
+    clearTimeout(explainTimer);
+    if (explainModule && !explanation) explainTimer = setTimeout(explain, EXPLAIN_DELAY);
+}
+
+async function explain() {
+    const turn = (explainTurn += 1);
+    const numbered = new Map(files.map((it, i) => [`${i}.cl`, encode(it.text)]));
+    const decoder = new TextDecoder();
+    let said = "";
+    const pieces = (all) => all.forEach((it) => it.to === 1 && (said += decoder.decode(it.bytes, { stream: true })));
+    const limit = setTimeout(() => explainer.stop(), MOST_EXPLAIN_TIME);
+    const came = await explainer.run(["--lines", ...numbered.keys()], numbered, { pieces });
+    clearTimeout(limit);
+    if (turn !== explainTurn) return;
+    explanation = came.status === 0 || came.status === 1 ? fitting(said) : undefined;
+    if (explanation) explainedBefore = new Map(faults.map((it, i) => [keyOf(it), explanation.faults[i]]));
+    showExplained();
+}
+
+// The explanation that these lines are, where its faults are those that are shown.
+function fitting(lines) {
+    try {
+        const found = explanationOf(files, lines);
+        const listed = JSON.stringify(faults.map(({ file, line, words }) => [file, line, words]));
+        return JSON.stringify(found.faults.map(({ from, line, words }) => [from.file, line, words])) === listed ? found : undefined;
+    } catch {
+        return undefined;
+    }
+}
+
+whenever("changed", dropExplanation);

@@ -1,0 +1,53 @@
+// The list of the faults below the editor, with what is known of each, and of the notices.
+"use strict";
+
+// Words with what stands between ` as code.
+const spoken = (words) => words.split("`").map((part, i) => (i % 2 === 1 ? element("code", {}, part) : part));
+
+const placeWords = ({ file, line }) => (files.length > 1 ? `${file}:${line}` : `line ${line}`);
+
+// What the list shows of a fault below its place and words.
+function detailsOf({ facts, other, cure, mend }, i) {
+    const items = facts.map((it) => element("div", { className: "fact" }, ...spoken(it)));
+    if (other) items.push(element("button", { className: "other", onclick: () => goTo(other.file, other.line) }, `defined at ${placeWords(other)}, too`));
+    if (cure) items.push(element("div", { className: "cure" }, "To mend it: ", ...spoken(cure)));
+    if (mend) {
+        const title = `${mendedLines(mend)}\n\nCtrl+Z takes it back`;
+        const fix = { className: "fix", disabled: !explanation, title, onclick: () => putMend(i) };
+        items.push(element("button", fix, "Mend: ", ...spoken(mend.words)));
+    }
+    return items;
+}
+
+// Puts the edit that mends fault i into its file, as if it was typed.
+function putMend(i) {
+    const mend = explanation?.faults[i].mend;
+    if (!mend) return;
+    goTo(mend.from.file, mend.from.line);
+    text.setSelectionRange(indexOf(mend.from), indexOf(mend.to));
+    if (mend.text === "") document.execCommand("delete");
+    else typed(mend.text);
+}
+
+function noticeItem(place, words, file, line) {
+    return element("li", { className: "notice" }, element("button", { onclick: () => goTo(file, line) }, `${place}: `, ...spoken(words)));
+}
+
+// Shows the faults with what is known of each, and the notices, in the list and in the text.
+function showExplained() {
+    const rows = faults.map((it, i) => [placeWords(it), it.words, it.file, it.line, i, shownOf(explainedOf(i))]);
+    const notices = (explanation?.notices ?? []).map(({ from, words }) => [placeWords(from), words, from.file, from.line]);
+    showRows(at("faults"), [...rows, ...notices], (...row) => (row.length > 4 ? faultItem(...row) : noticeItem(...row)));
+    if (explanation) at("faults").querySelectorAll(".fix").forEach((it) => (it.disabled = false));
+    showMarks();
+    paint();
+}
+
+// What a row shows of what is known, as text, for a row is compared by its text.
+const shownOf = (known) => JSON.stringify([known ?? "", known?.mend ? mendedLines(known.mend) : ""]);
+
+function faultItem(place, words, file, line, i) {
+    const known = explainedOf(i);
+    const button = element("button", { className: "fault", onclick: () => goTo(file, line) }, `${place}: ${words}`);
+    return element("li", {}, button, ...(known ? detailsOf(known, i) : []));
+}

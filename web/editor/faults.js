@@ -1,0 +1,61 @@
+// The faults of the program, found as one types.
+"use strict";
+
+const checker = new Runner(), session = new Session();
+// What the list shows: where that is so already, nothing is laid out anew.
+let shownFaults;
+let checking = false, checkIsDue = false;
+
+// { file, line, words } of a line of the form NAME:LINE: WORDS that names one of the files; the longest name counts.
+function placed(line) {
+    const file = fileNames().filter((it) => line.startsWith(`${it}:`)).sort((a, b) => b.length - a.length)[0];
+    const found = file === undefined ? null : /^(\d+): (.*)$/.exec(line.slice(file.length + 1));
+    return found ? { file, line: Number(found[1]), words: found[2] } : undefined;
+}
+
+// The faults by a `check` of its own, and why there are none where it came to no end.
+async function foundAnew() {
+    const notes = [];
+    const came = await checker.run(["check", "--", ...fileNames()], sources(), { pieces: (all) => notes.push(...all.map((it) => decode(it.bytes))) });
+    const lines = notes.join("").split("\n").filter((it) => it !== "");
+    return { found: lines.map(placed).filter(Boolean), end: came.status === 0 ? undefined : lines[0] ?? endWords(came) };
+}
+
+// A session is not asked where the files did not parse last, for most often they still do not, and then it has no answer.
+async function foundNow() {
+    const found = faults.some(isOfText) ? undefined : await session.faults(files);
+    return found ? { found } : foundAnew();
+}
+
+// Checks the files as they are. One check goes at a time: what is typed meanwhile is checked once after it.
+async function check() {
+    checkIsDue = true;
+    if (checking) return;
+    checking = true;
+    try {
+        while (checkIsDue) {
+            checkIsDue = false;
+            const all = await foundNow();
+            if (!checkIsDue) showFaults(all);
+        }
+    } finally {
+        checking = false;
+    }
+}
+
+function showFaults({ found, end }) {
+    const seen = JSON.stringify([found, files.length > 1]);
+    if (seen !== shownFaults) {
+        [faults, shownFaults] = [found, seen];
+        showExplained();
+        showTabs();
+        showHelp();
+    }
+    if (found.length > 0 || end === undefined) explainSoon();
+    // While the program runs the page tells of that.
+    if (!at("stop").disabled) return;
+    if (faults.length > 0) tell(faults.length === 1 ? "1 fault" : `${faults.length} faults`, true);
+    else tell(end ?? "no faults", end !== undefined);
+}
+
+whenever("changed", () => void (compiledModule && check()));

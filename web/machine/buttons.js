@@ -1,0 +1,87 @@
+// The buttons and fields of the machine: moves by instructions, by lines of the source, to breaks, to any state, and on past what is typed.
+"use strict";
+
+// From the first line on; what was typed is asked for again.
+function restart() {
+    if (machine.moves) return machine.opened;
+    forgetReads();
+    Object.assign(machine, { frames: undefined, earlier: [] });
+    return move(async () => {
+        const state = await State.after(0);
+        return pastReads(toFirstLine, { ...viewOf(state), frames: [] }, NO_BREAKS).then(findLength);
+    });
+}
+
+// Moves to so many instructions, or to a read before.
+function moveTo(steps, why = {}) {
+    return move(async (state) => ({ steps: steps > state.steps ? await stepsOrRead(state.steps, steps) : Math.max(0, steps), ...why }));
+}
+
+const stepCount = () => numberOf("count", 1, 1_000_000_000);
+
+// While a state is looked up the slider may have gone on: each move calls this at its end.
+async function slide() {
+    if (machine.moves || slidTo === undefined) return;
+    const wanted = slidTo;
+    await moveTo(wanted, { returns: true });
+    if (slidTo === wanted) slidTo = undefined;
+}
+
+// Moves as one of stops.js or backwards.js does.
+function moveBy(go, breaksNow = () => NO_BREAKS) {
+    move((state) => pastReads(go, { ...viewOf(state), frames: machine.frames ?? [] }, breaksNow()));
+}
+
+// Moves back as one of backwards.js does; where there is nothing before, to the first line.
+function moveBackBy(find) {
+    move(async (state) => {
+        const from = { ...viewOf(state), frames: machine.frames ?? [] };
+        const found = await find(from);
+        if (found) return found;
+        const first = await toFirstLine({ ...from, state: await State.after(0), frames: [] }, NO_BREAKS);
+        return { steps: Math.min(state.steps, first.steps) };
+    });
+}
+
+// From the first line on to where the run ends by an error.
+function lookInMachine() {
+    choose("machine");
+    machine.opened = restart();
+    machine.opened.then(() => moveBy(goOn));
+}
+
+// Takes a line, or null for the end of the input, and goes on with the move that came to the read.
+function typeLine(line) {
+    const { interrupted = () => machine.state.steps } = machine;
+    if (line === null) machine.inputEnds = true;
+    else machine.typed += `${line}\n`;
+    at("read-line").value = "";
+    at("read").hidden = true;
+    forgetLength();
+    move(async () => findLength(await interrupted()));
+}
+
+function showMachine() {
+    if (machine.state === undefined) machine.opened = restart();
+    else markHere(placeShown());
+}
+
+whenever("chosen", (view) => void (view === "machine" && showMachine()));
+whenever("failed", () => at("end").append(element("button", { onclick: lookInMachine }, "Look in the machine")));
+whenever("moved", slide);
+at("restart").onclick = () => void restart();
+at("previous").onclick = () => move(() => ({ steps: machine.earlier.pop() ?? 0, returns: true }));
+at("step").onclick = () => machine.state && moveTo(machine.state.steps + stepCount());
+at("back").onclick = () => machine.state && moveTo(machine.state.steps - stepCount());
+at("halt").onclick = () => debugged.stop();
+at("go-on").onclick = () => moveBy(goOn, breaksSet);
+at("over").onclick = () => moveBy(over);
+at("into").onclick = () => moveBy(into);
+at("out").onclick = () => moveBy(out);
+at("line-back").onclick = () => moveBackBy(backOver);
+at("slider").oninput = () => {
+    slidTo = Number(at("slider").value);
+    slide();
+};
+at("read").onsubmit = (event) => (event.preventDefault(), typeLine(at("read-line").value));
+at("read-end").onclick = () => typeLine(null);

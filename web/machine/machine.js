@@ -1,0 +1,115 @@
+// The debugger: what it shows, and how it goes from one state to another.
+"use strict";
+
+let here;
+
+// Forgotten is what was made of other files.
+function forgetMachine() {
+    debugged.stop();
+    Object.assign(machine, { prepared: undefined, listing: undefined, state: undefined, frames: undefined, entries: undefined, earlier: [] });
+    at("where").textContent = CHANGED;
+    at("source-here").replaceChildren();
+    at("code").replaceChildren();
+    shownCode = undefined;
+    forgetReads();
+    forgetLength();
+    if (shownFile) showLight(undefined), markHere(undefined);
+}
+
+// Marks the line at which the machine stands.
+function markHere(place) {
+    here = place;
+    showMarks();
+    paint();
+}
+
+// Marks it, and brings it into view.
+function showHere(place) {
+    const file = place && fileNamed(place.file);
+    if (file && file !== shownFile) showFile(file);
+    markHere(place);
+    if (file) scrollToLine(place.line);
+}
+
+// Goes to what `find` answers: a number of instructions; { steps, and why the run stopped there, or returns for an earlier state }; or "again".
+async function move(find) {
+    if (machine.moves) return;
+    machine.moves = true;
+    machine.interrupted = undefined;
+    at("halt").disabled = false;
+    try {
+        await prepare();
+        if (machine.state === undefined) machine.state = await State.after(0);
+        const found = await find(machine.state);
+        if (machine.state === undefined) throw new MoveFailed(CHANGED);
+        if (found === "again") return await show(machine.state, machine.before, machine.why);
+        const to = typeof found === "number" ? { steps: found } : found;
+        if (to.steps !== machine.state.steps && !to.returns && machine.frames) machine.earlier.push(machine.state.steps);
+        await showAfter(to.steps, to);
+    } catch (error) {
+        if (!(error instanceof MoveFailed)) throw error;
+        at("where").textContent = machine.listing === undefined && error.message === "stopped" ? CHANGED : error.message;
+    } finally {
+        machine.moves = false;
+        at("halt").disabled = true;
+        setTimeout(() => happened("moved"));
+    }
+}
+
+async function showAfter(steps, why = {}) {
+    const state = await State.after(steps, machine.state);
+    await show(state, { state: machine.state, entries: machine.entries }, why);
+}
+
+// Shows a state, marks what differs from `before`, and says why the run stopped there.
+async function show(state, before, why) {
+    const listing = machine.listing;
+    const picture = await state.settled(() => pictureOf(viewOf(state)));
+    if (listing !== machine.listing) return;
+    Object.assign(machine, { state, before, why, frames: picture.frames, entries: shownEntries(picture.frames) });
+    showFrames(picture.frames, before.entries);
+    showRegisters(picture.registers, before.state?.registers);
+    showMemory(picture.memory, before.state);
+    showOutput(state.output);
+    showSteps(state);
+    showRead();
+    at("where").textContent = whereWords(state, why);
+    at("where").classList.toggle("bad", why.error !== undefined);
+    at("previous").disabled = machine.earlier.length === 0;
+    if (!state.ended) showPlace(state);
+}
+
+// At the end of a run the last line and its code stay.
+function showPlace(state) {
+    showCode(viewOf(state));
+    showHere(placeShown());
+    showSourceLine(placeShown());
+}
+
+// Shows the state anew, with other attributes open or other memory.
+function showAgain() {
+    if (machine.state) move(() => "again");
+}
+
+function whereWords(state, { error, limit, reads }) {
+    const count = `after ${state.steps.toLocaleString("en")} instructions`;
+    if (state.ended) return `The run has ended ${count}.`;
+    if (limit) return `The step limit is reached ${count}.`;
+    const place = placeShown();
+    const line = place ? `line ${place.line} of ${place.file}` : "no line of the source";
+    if (error) return `Ends by an error: ${ERRORS[error]}, ${line}, ${count}.`;
+    if (reads) return `The program reads a line at ${line}, ${count}: type it here.`;
+    return `At ${line}, in ${machine.frames[0]?.title ?? "the start"}, ${count}.`;
+}
+
+function openPath(path) {
+    if (!machine.open.delete(path)) machine.open.add(path);
+    showAgain();
+}
+
+whenever("marked", (file) => (marks.here = lineIn(file, here)));
+whenever("changed", forgetMachine);
+whenever("chosen", (view) => void (view === "machine" || markHere(undefined)));
+at("frames").addEventListener("click", ({ target }) => target.dataset.path !== undefined && openPath(target.dataset.path));
+at("address").onchange = showAgain;
+for (const it of OPTIONS) if (it.isOfMachine) at(it.id).onchange = forgetMachine;

@@ -1,0 +1,35 @@
+// What the machine has at hand: what is made ready of the program as it is, and what the user set.
+"use strict";
+
+const CHANGED = "The program changed: the next move begins anew.";
+
+// Of the program as it is: listing, table, outline, textOf, numbers (of objects), reads and typed (lines), state, and what is shown of it; of the user: open
+// (paths of objects), labels (breaks) and earlier (steps).
+const machine = { open: new Set(["0.self"]), labels: new Set(), earlier: [] };
+
+// Has the listing, the table and what else is made of the files at hand; a promise.
+function prepare() {
+    const prepared = (machine.prepared ??= prepareNow());
+    prepared.catch(() => machine.prepared === prepared && (machine.prepared = undefined));
+    return prepared;
+}
+
+async function prepareNow() {
+    const made = assembly(), told = codeTable();
+    const { text: all, fault = (await told).fault } = await made, { rows } = await told;
+    if (made !== assembled || told !== coded) throw new MoveFailed(CHANGED);
+    if (fault) throw new MoveFailed(fault);
+    const listing = listingOf(all), table = tableOf(rows, files, listing);
+    Object.assign(machine, { listing, table, outline: outlineOf(files), textOf: textsOf(files), numbers: new Map() });
+    at("break-labels").replaceChildren(...listing.units.map((it) => element("option", { value: it.name })));
+    showMarks();
+    paint();
+}
+
+function viewOf(state) {
+    const { listing, table, outline, textOf, numbers, open } = machine;
+    return { state, listing, table, outline, textOf, numbers, open };
+}
+
+const placeShown = () => placeOf(machine);
+const isMachineShown = () => !at("machine").hidden && machine.state !== undefined;
