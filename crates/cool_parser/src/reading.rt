@@ -14,7 +14,7 @@ use crate::parser::Parser;
 use cool_syntax::{ClassDef, Key, Listed, Place, Sign, Token, TokenKind};
 use std::alloc::{AllocError, Global};
 use std::marker::Model;
-use std::mem::replace;
+use std::mem::{forget, replace};
 
 /// A file up to its tokens so far. A contract sees the state of the machine.
 #[derive(Drop)]
@@ -53,9 +53,10 @@ impl Reading {
         ensures same { IfOk result (λ goes. (if goes then Some self.new else None) ≡ machine.step self.old.context self.old.mode token.now.kind token.now.at) }
     {
         let mode = replace(&mut self.mode, Mode::File);
-        match self.parser.step(mode, token)? {
+        match self.parser.take(mode, token)? {
             Some(next) => {
-                self.mode = next;
+                // The mode that stands here has nothing to be let go.
+                forget(replace(&mut self.mode, next));
                 Ok(true)
             }
             None => Ok(false),

@@ -10,8 +10,24 @@ use crate::parser::{Next, Parser};
 use cool_syntax::Token;
 
 impl Parser {
+    /// Takes one more token, as `step` does. Most tokens come in one of three modes, and a match of these alone does not load the
+    /// parts of the others.
+    pub(crate) fn take(&mut self, mode: Mode, token: &Token) -> Next
+        requires good { Good self.old mode }
+        requires few { length self.old.nodes + length self.old.stack < 2 ^ 32 - 3 }
+        ensures same { IfOk result (λ m. moved self.new m ≡ machine.step self.old mode token.now.kind token.now.at) }
+    {
+        match mode {
+            Mode::Need => self.need(token),
+            Mode::Identifier { name, at } => self.identifier(name, at, token),
+            Mode::Have { operand } => self.have(operand, token),
+            mode => self.step(mode, token),
+        }
+    }
+
     /// Takes one more token. `None` comes where it may not stand here, and `Err` only for want of memory.
-    pub(crate) fn step(&mut self, mode: Mode, token: &Token) -> Next
+    #[inline(never)]
+    fn step(&mut self, mode: Mode, token: &Token) -> Next
         requires good { Good self.old mode }
         requires few { length self.old.nodes + length self.old.stack < 2 ^ 32 - 3 }
         ensures same { IfOk result (λ m. moved self.new m ≡ machine.step self.old mode token.now.kind token.now.at) }
