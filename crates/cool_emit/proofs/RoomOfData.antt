@@ -4,6 +4,7 @@ use Rattle.std.proofs.Common.{map, flat_map, Bool as Truth, true, false, ◌||�
 use Rattle.std.proofs.lemmas.List.{length-map}
 use Rattle.std.specs.Prelude.{if◌then◌else◌, nat_eq}
 use Rattle.std.specs.List.{AllByRecursion}
+use Rattle.mips_isa.specs.declared.address_map.TheConstants.{MOST_DATA_BYTES}
 use Rattle.mips_isa.specs.Lines.{Name, Line, WordItem, Number, Address}
 use Rattle.cool_syntax.specs.declared.TheConstants.{MOST_FILES}
 use Rattle.cool_classes.specs.declared.TheConstants.{MOST_CLASSES}
@@ -200,7 +201,7 @@ program_bytes p files b =
     )
 
 -- the whole data
-pub data_fits : (p : List Class) (files : List (List ℕ)) → IsBuildable p files → data_room (program_data p files) ≤ 268435456
+pub data_fits : (p : List Class) (files : List (List ℕ)) → IsBuildable p files → data_room (program_data p files) ≤ MOST_DATA_BYTES
 data_fits p files b =
     let g : Constants = program_constants p files in
     let constants : List Line = constants_lines (tag p (class_number 2)) (tag p (class_number 3)) (tag p (class_number 4)) g in

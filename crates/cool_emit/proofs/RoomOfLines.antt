@@ -2,6 +2,7 @@
 use Rattle.std.proofs.Common.{◌≡◌, ℕ, zero, suc, ◌+◌, ◌≤◌, List, [], ◌∷◌, refl, sym, ap, subst, arith, false, not, ◌&&◌}
 use Rattle.std.specs.Prelude.{nat_lt}
 use Rattle.std.proofs.lemmas.Bool.{or_from, le-ltb}
+use Rattle.mips_isa.specs.declared.address_map.TheConstants.{MOST_DATA_BYTES}
 use Rattle.mips_isa.specs.declared.place.Segment.{Segment}
 use Rattle.mips_isa.specs.declared.place.Segment.TheVariants.{Text, Data}
 use Rattle.mips_isa.specs.Lines as statements
@@ -9,7 +10,7 @@ use Rattle.mips_isa.specs.Lines.{Name, Word, Asciiz, Align, Statement, Empty, In
 use Rattle.mips_isa.specs.Assembly.{Need, Nothing, Words, Item, Switch, Padding, need, Position, start_position}
 use Rattle.mips_isa.specs.Assembly.{up, padded, after_need, after_line, is_text, is_wrong, is_too_large}
 use Rattle.cool_runtime.specs.Images.{IsTextNeed}
-use Rattle.cool_emit.specs.SoundLines.{IsText, IsData, AreText, AreData, text_need, text_room, data_need, data_room, joined_lines}
+use Rattle.cool_emit.specs.SoundLines.{MOST_TEXT_WORDS, IsText, IsData, AreText, AreData, text_need, text_room, data_need, data_room, joined_lines}
 
 -- What statements need
 
@@ -52,8 +53,8 @@ needs_data known _ h = absurd h
 -- A position in a segment, with room left in both.
 pub record HasRoom (p : Position) (segment : Segment) (words bytes : ℕ) : Type 0 where
   pub in_segment : p.segment ≡ segment
-  pub words_left : p.words + words ≤ 66000000
-  pub bytes_left : p.bytes + bytes ≤ 268435456
+  pub words_left : p.words + words ≤ MOST_TEXT_WORDS
+  pub bytes_left : p.bytes + bytes ≤ MOST_DATA_BYTES
 
 -- after text
 pub after_text : (n : Need) (p : Position) (words bytes : ℕ) → IsTextNeed n
@@ -160,7 +161,7 @@ text_stands target known p (line ∷ rest) items all more room =
 
 -- text and data that have room stand well from the start on
 pub lines_stand : (target known : Name → Type 0) (text items : List Line) → AreText target known text → AreData known items
-    → text_room text ≤ 66000000 → data_room items ≤ 268435456 → StandWell start_position (joined_lines text items)
+    → text_room text ≤ MOST_TEXT_WORDS → data_room items ≤ MOST_DATA_BYTES → StandWell start_position (joined_lines text items)
 lines_stand target known text items all more words bytes =
     text_stands target known start_position text items all more
     (record { in_segment = refl; words_left = omega arith; bytes_left = omega arith })

@@ -36,7 +36,7 @@ use Rattle.cool_codegen.specs.Code.{Context, code, arguments_code, items_code, i
 use Rattle.cool_codegen.specs.Code.{arms_code, label_at, int_code, arith_code, compare_code}
 use Rattle.cool_codegen.specs.Code.{range_code, integer_label, string_label, truth_label}
 use Rattle.cool_codegen.specs.Features.{feature_code, method_code, initial_value_code, with_formals, attributes_in}
-use Rattle.cool_emit.specs.SoundLines.{text_room}
+use Rattle.cool_emit.specs.SoundLines.{MOST_TEXT_WORDS, text_room}
 use Rattle.cool_emit.specs.Programs.{Placed, placed_code, parent_code, initializer_code, class_code}
 use Rattle.cool_emit.specs.Programs.{classes_code, methods_in, program_text, program_constants, IsBuildable}
 use Rattle.cool_emit.specs.Programs.{attributes_in as class_attributes}
@@ -285,7 +285,7 @@ unfolding routine_lines
 room_of_routines = omega arith
 
 -- the whole text
-pub text_fits : (p : List Class) (files : List (List ℕ)) → IsBuildable p files → text_room (program_text p files) ≤ 66000000
+pub text_fits : (p : List Class) (files : List (List ℕ)) → IsBuildable p files → text_room (program_text p files) ≤ MOST_TEXT_WORDS
 text_fits p files b =
     let few : length p ≤ 5 + MOST_CLASSES = b.fits.table.classes in
     omega (

@@ -98,13 +98,17 @@ data_room (line ∷ rest) = data_need (need line.statement) + data_room rest
 abbrev pub joined_lines : List Line → List Line → List Line
 joined_lines text items = text ++ directive_line ToData ∷ items
 
+-- So many words of text a program has at most; the assembler takes 66,060,288.
+abbrev pub MOST_TEXT_WORDS : ℕ
+MOST_TEXT_WORDS = 66000000
+
 -- Text and data that assemble: every jump goes to a label of text, every name is a label, no label stands twice, the segments have room,
 -- and the text begins with the label at which a run starts, before an instruction.
 pub record AreSound (text items : List Line) : Type 0 where
   pub text_lines : AreText (Contains (labels_of text)) (Contains (labels_of (joined_lines text items))) text
   pub data_lines : AreData (Contains (labels_of (joined_lines text items))) items
   pub different : AreDifferent (labels_of (joined_lines text items))
-  pub text_fits : text_room text ≤ 66000000
+  pub text_fits : text_room text ≤ MOST_TEXT_WORDS
   pub data_fits : data_room items ≤ MOST_DATA_BYTES
   pub main : Name
   pub behind : List Line

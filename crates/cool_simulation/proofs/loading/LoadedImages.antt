@@ -2,13 +2,13 @@
 use Rattle.std.proofs.Common.{◌≡◌, ℕ, ◌+◌, ◌*◌, ◌/◌, ◌≤◌, List, [], ◌∷◌, ◌++◌, length, refl, sym, ap, ◌∙◌, subst, arith, None}
 use Rattle.std.specs.Prelude.{Contains, is_some}
 use Rattle.mips_isa.specs.declared.place.Segment.TheVariants.{Text, Data}
-use Rattle.mips_isa.specs.declared.address_map.TheConstants.{TEXT_START, DATA_START}
+use Rattle.mips_isa.specs.declared.address_map.TheConstants.{DATA_START, MOST_DATA_BYTES, TEXT_START}
 use Rattle.mips_isa.specs.Bytes.{segments_of}
 use Rattle.mips_isa.specs.Lines.{Name, Line, ToData}
 use Rattle.mips_isa.specs.Assembly.{need, Position, start_position, after_line, place_of, address_or_zero, directive_line, completed, fault_of_all, image_of, image_of_all}
 use Rattle.cool_runtime.specs.Reaches.{World, AreLaid}
 use Rattle.cool_runtime.specs.Images.{IsImageOf}
-use Rattle.cool_emit.specs.SoundLines.{AreText, AreData, labels_of, text_room, data_room, joined_lines, AreSound}
+use Rattle.cool_emit.specs.SoundLines.{MOST_TEXT_WORDS, AreText, AreData, labels_of, text_room, data_room, joined_lines, AreSound}
 use Rattle.cool_emit.proofs.RoomOfLines.{HasRoom, needs_text, needs_data, after_text, after_data, in_data}
 use Rattle.cool_emit.proofs.SoundLinesAssemble.{no_fault, in_range, start_found, complete}
 use Rattle.cool_simulation.specs.Accord.{Limits, AreLimits}
@@ -87,7 +87,7 @@ module _ (text items : List Line) (sound : AreSound text items) where
       (data_over (Contains (labels_of all_lines)) data_position items [] 0 (subst (AreData (Contains (labels_of all_lines))) (sym e) sound.data_lines)
       (subst (λ (l : List Line). HasRoom data_position Data 0 (data_room l)) (sym e) data_begin))
 
-  pub text_words : length (image_of_all (joined_lines text items)).text ≤ 66000000
+  pub text_words : length (image_of_all (joined_lines text items)).text ≤ MOST_TEXT_WORDS
   text_words =
       let h = text_length (λ name. address_or_zero (place_of all_lines name)) start_position all_lines in
       let room = data_end.words_left in
@@ -96,7 +96,7 @@ module _ (text items : List Line) (sound : AreSound text items) where
   pub data_bytes : length (image_of_all (joined_lines text items)).bytes ≡ (after_lines start_position (joined_lines text items)).bytes
   data_bytes = let h = bytes_length (λ name. address_or_zero (place_of all_lines name)) start_position all_lines in omega arith
 
-  pub few_bytes : length (image_of_all (joined_lines text items)).bytes ≤ 268435456
+  pub few_bytes : length (image_of_all (joined_lines text items)).bytes ≤ MOST_DATA_BYTES
   few_bytes = let h = data_bytes in let room = data_end.bytes_left in omega arith
 
   -- the segments of a machine with this image
