@@ -3,7 +3,7 @@ use Rattle.std.proofs.Common.{◌≡◌, ◌∙◌, sym, ap, subst, ℕ, ◌<◌
 use Rattle.std.specs.Prelude.{Option, Some}
 use Rattle.cool_ports.specs.SinkBytes.{appended}
 use Rattle.mips_isa.specs.{ImageBounds.{ImageParts}, Calls.{Outcome, Running, Exited, Trapped}, Run.{start}}
-use Rattle.spim_machine.specs.{declared.halt.Halt.{Halt}, Machine.{MachineParts, IsIn}, Ends.{Counted, Ran}}
+use Rattle.spim_machine.specs.{declared.halt.Halt.{Halt}, MachineStates.{MachineParts, IsIn}, Ends.{Counted, Ran}}
 use Rattle.spim_machine.specs.declared.halt.Halt.TheVariants as halts
 use Rattle.cool_words.specs.declared.plan.RunLimits.{RunLimits}
 use Rattle.cool_driver.specs.{Execution.{run_of, segments_within, status_of, status_of_halt}, commands.Big.{RunsTo}, commands.Big.RunsTo.{counted, too_long}}

@@ -3,7 +3,7 @@ use Rattle.std.proofs.Common.{◌≡◌, ◌∙◌, refl, ℕ, List, []}
 use Rattle.std.specs.Prelude.{Option, Some}
 use Rattle.mips_isa.specs.{ImageBounds.{ImageParts}, Bytes.{Segments, segments_of}, Calls.{State}, Run.{run, start}}
 use Rattle.spim_memory.specs.Memory.{segments}
-use Rattle.spim_machine.specs.{declared.halt.Halt.{Halt}, Machine.{MachineParts, state_of, IsIn}, Ends.{Ran}}
+use Rattle.spim_machine.specs.{declared.halt.Halt.{Halt}, MachineStates.{MachineParts, state_of, IsIn}, Ends.{Ran}}
 use Rattle.spim_machine.proofs.LoadedRuns.{loaded_so}
 use Rattle.cool_words.specs.declared.plan.RunLimits.{RunLimits}
 use Rattle.cool_driver.specs.Execution.{heap_of, run_of, segments_within, stack_of}

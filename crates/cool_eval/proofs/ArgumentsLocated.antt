@@ -13,7 +13,7 @@ use Rattle.cool_eval.specs.declared.store.Store.{Store}
 use Rattle.cool_eval.specs.Values.{value_of, locations_from}
 use Rattle.cool_eval.specs.Configurations.{env_of, locals_of}
 use Rattle.cool_eval.specs.Devices.{state_at}
-use Rattle.cool_eval.specs.Machine.{Frame, Begin, Continue, Halt, begin_body, begin_method}
+use Rattle.cool_eval.specs.StackMachine.{Frame, Begin, Continue, Halt, begin_body, begin_method}
 use Rattle.cool_eval.proofs.LocalsAtEnd.{locals_more}
 use Rattle.cool_eval.proofs.NewLocations.{located_all}
 use Rattle.lists.proofs.ItemsLeft.{drop_first}

@@ -7,7 +7,7 @@ use Rattle.cool_eval.specs.declared.ending.Ending.{Ending}
 use Rattle.cool_eval.specs.declared.ending.Ending.TheVariants as ending
 use Rattle.cool_eval.specs.declared.machine.Machine.{Machine}
 use Rattle.cool_eval.specs.Configurations.{state_of, Comes, IsResultAt}
-use Rattle.cool_eval.specs.Machine.{Frame, after}
+use Rattle.cool_eval.specs.StackMachine.{Frame, after}
 
 -- an error is the end
 pub does_end : (p : List Class) (e : Ending) (d : Computation values.Value) (fs : List Frame) (m : Machine) (input output : List ℕ)

@@ -17,7 +17,7 @@ use Rattle.cool_meaning.proofs.Later.{later_same, After, seq_after}
 use Rattle.cool_meaning.proofs.MoreSteps.{Alike, after_of, give_alike, stop_alike, no_rule_alike, draw_alike, locate_alike, load_alike, store_alike, print_alike, take_line_alike}
 use Rattle.cool_meaning.proofs.LongerEvaluation.{more_calls_within}
 use Rattle.cool_meaning.proofs.RelatedEvaluation.{IsKept, new_number_kept, new_truth_kept, new_string_kept, locate_all_kept, basic_kept}
-use Rattle.cool_eval.specs.Machine.{Frame, Focus, Continue}
+use Rattle.cool_eval.specs.StackMachine.{Frame, Focus, Continue}
 use Rattle.cool_eval.proofs.PropertiesOfMeanings.{IsOfWords, IsOfSteps, words_kept, of_rule, of_if, of_truth, of_configuration}
 use Rattle.cool_eval.proofs.StepsMean.{calls, means}
 

@@ -16,7 +16,7 @@ use Rattle.cool_rules.specs.Rules.{class_named}
 use Rattle.cool_meaning.specs.Values.{Value, Void, Int, Bool as Truth, Str, Obj, State, class_of}
 use Rattle.cool_meaning.specs.Meters.{Outcome, Val, Stop, On, Stuck, DispatchVoid, given}
 use Rattle.cool_meaning.specs.Lookups.{method_at}
-use Rattle.cool_eval.specs.Machine.{Frame, Halt, begin_call, begin_method, call_class, class_called}
+use Rattle.cool_eval.specs.StackMachine.{Frame, Halt, begin_call, begin_method, call_class, class_called}
 use Rattle.cool_eval.proofs.ClassesByName.{named_is}
 use Rattle.cool_eval.proofs.AttributesInTables.{climbed_none}
 use Rattle.cool_classes.proofs.BasicLimits.{five_classes}

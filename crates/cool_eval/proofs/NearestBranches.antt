@@ -4,7 +4,7 @@ use Rattle.cool_syntax.specs.Tree.{Cases}
 use Rattle.cool_classes.specs.declared.class_id.ClassId.{ClassId}
 use Rattle.cool_classes.specs.Chains.{Class, name_of, parent_of}
 use Rattle.cool_classes.specs.ClimbedChains.{climbed, above, chain}
-use Rattle.cool_eval.specs.Machine.{Taken, branch_named, first_branch, nearest_branch}
+use Rattle.cool_eval.specs.StackMachine.{Taken, branch_named, first_branch, nearest_branch}
 use Rattle.cool_eval.proofs.AttributesInTables.{nothing_past, climbed_none}
 
 -- the nearest branch of a class and of so many above it

@@ -10,7 +10,7 @@ use Rattle.cool_meaning.specs.Meters.{Outcome}
 use Rattle.cool_meaning.specs.BasicMethods.{locate_all}
 use Rattle.cool_meaning.specs.Lookups.{attributes, default_values}
 use Rattle.cool_eval.specs.Values.{locations_from}
-use Rattle.cool_eval.specs.Machine.{Frame, Continue, Start, begin_object}
+use Rattle.cool_eval.specs.StackMachine.{Frame, Continue, Start, begin_object}
 use Rattle.cool_eval.proofs.NewLocations.{located_all}
 
 -- an object is begun with its defaults at new locations, and an identity of its own

@@ -8,7 +8,7 @@ use Rattle.cool_classes.specs.ClimbedChains.{chain}
 use Rattle.cool_meaning.specs.Values.{Value, Void, State}
 use Rattle.cool_meaning.specs.Meters.{Outcome, Val, Stop, On, Stuck, Error, Computation, seq_of, ◌>>=◌, ◌>>◌, give, stop, stuck, spend, rule, working, giving, holding, given, locate, load, store}
 use Rattle.cool_meaning.specs.Evaluation.{turns, loop, make}
-use Rattle.cool_eval.specs.Machine.{Frame, Focus, Continue}
+use Rattle.cool_eval.specs.StackMachine.{Frame, Focus, Continue}
 use Rattle.cool_eval.proofs.PropertiesOfMeanings.{IsOfWords, IsOfSteps, of_rule, of_if, of_truth, of_configuration}
 use Rattle.cool_eval.proofs.StepsMean.{calls, means}
 

@@ -20,7 +20,7 @@ use Rattle.cool_meaning.specs.Lookups.{class_made, init_of, environment_of}
 use Rattle.cool_meaning.specs.BasicMethods.{as_number, as_truth}
 use Rattle.cool_meaning.specs.Evaluation.{Branch, class_or, value_named, assign, exact, arithmetic, compare, same, bytes_compared, is_void, loop, make, dispatch, or_else, nearest, take_branch, branch_of, branch_count, run_initial, run_initials, eval_all, eval_items, eval_init}
 use Rattle.cool_meaning.proofs.RelatedEvaluation.{IsKept}
-use Rattle.cool_eval.specs.Machine.{Frame, AssignTo, Choose, Turn, Again, Items, Bind, Pick, Fill, Argument, Receiver, TestVoid, Invert, Negate, Operand, Operate, Compared, CompareTo, Focus, Begin, Return, Start, inverted, negated, operated}
+use Rattle.cool_eval.specs.StackMachine.{Frame, AssignTo, Choose, Turn, Again, Items, Bind, Pick, Fill, Argument, Receiver, TestVoid, Invert, Negate, Operand, Operate, Compared, CompareTo, Focus, Begin, Return, Start, inverted, negated, operated}
 use Rattle.cool_eval.proofs.StepsMean.{calls, does, call_on, rest_of_call, after_frame, resume, focus_means}
 
 -- A property of the words that leave the console, which goes from computations to what is put together of them.

@@ -22,7 +22,7 @@ use Rattle.cool_eval.specs.declared.machine.Machine.{Machine}
 use Rattle.cool_eval.specs.Configurations.{Comes, frames_of}
 use Rattle.cool_eval.specs.Counts.{Counted, FaultsInCalls, IsInner}
 use Rattle.cool_eval.specs.Devices.{OnDevices, Reaches, Acts, HasLeft, HasPutSome, ToValue, ToStep, sink_before, state_at}
-use Rattle.cool_eval.specs.Machine.{Frame, Return, Next, after, begin_call}
+use Rattle.cool_eval.specs.StackMachine.{Frame, Return, Next, after, begin_call}
 use Rattle.cool_ports.proofs.InputsInParts.{leaves_same}
 use Rattle.cool_eval.proofs.PutsOfSteps.{sink_still}
 

@@ -13,7 +13,7 @@ use Rattle.cool_eval.specs.declared.machine.Machine.{Machine}
 use Rattle.cool_eval.specs.Configurations.{frames_of, stack_of, state_of, Comes}
 use Rattle.cool_eval.specs.Counts.{FaultsInCalls}
 use Rattle.cool_eval.specs.Devices.{Reaches, sink_after}
-use Rattle.cool_eval.specs.Machine.{Receiver, Next, begin_new, begun, step}
+use Rattle.cool_eval.specs.StackMachine.{Receiver, Next, begin_new, begun, step}
 use Rattle.cool_eval.specs.Running.{outcome_of, puts_of, IsNeverStuck, RunsShort, Ended}
 use Rattle.cool_eval.proofs.PutsOfSteps.{sink_still}
 use Rattle.cool_eval.proofs.RunSoFar.{SoFar, nothing_before, reached_on, reached_end, short_here, main_focus, main_frames, main_reached}

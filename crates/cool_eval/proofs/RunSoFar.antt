@@ -22,8 +22,8 @@ use Rattle.cool_eval.specs.declared.machine.Machine.{Machine}
 use Rattle.cool_eval.specs.Configurations.{focus_of, frames_of, state_of, error_of}
 use Rattle.cool_eval.specs.Counts.{FaultsInCalls}
 use Rattle.cool_eval.specs.Devices.{HasLeft, HasPut, HasPutSome, ToStep, Reaches, sink_before, sink_after}
-use Rattle.cool_eval.specs.Machine as machine
-use Rattle.cool_eval.specs.Machine.{Begin, Receiver, Next, Continue, Halt, begun, begin_args, step}
+use Rattle.cool_eval.specs.StackMachine as machine
+use Rattle.cool_eval.specs.StackMachine.{Begin, Receiver, Next, Continue, Halt, begun, begin_args, step}
 use Rattle.cool_eval.specs.Puts.{written_since}
 use Rattle.cool_eval.specs.Running.{outcome_of, output_of, puts_of, IsNeverStuck, IsAt, Steps, OfState, HasTaken, FailsReading, FailsWriting, RunsShort, Ended}
 use Rattle.cool_eval.proofs.StepsMean.{means, step_means}

@@ -5,7 +5,7 @@ use Rattle.cool_meaning.specs.Values.{Value, Void, start}
 use Rattle.cool_meaning.specs.Meters.{Outcome, Val, Stop, On, Stuck, seq_of, give}
 use Rattle.cool_meaning.specs.Evaluation.{eval, calls_within}
 use Rattle.cool_meaning.specs.SourceRun.{Run, main_call, run_of, run}
-use Rattle.cool_eval.specs.Machine.{Begin, Continue, Halt}
+use Rattle.cool_eval.specs.StackMachine.{Begin, Continue, Halt}
 use Rattle.cool_eval.proofs.StepsMean.{means}
 
 -- two runs end alike, with the same output and input left

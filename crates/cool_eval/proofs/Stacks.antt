@@ -3,7 +3,7 @@ use Rattle.std.proofs.Common.{◌≡◌, List, [], ◌∷◌, ◌++◌, ap, refl
 use Rattle.cool_classes.specs.Chains.{Class}
 use Rattle.cool_eval.specs.declared.frame.Frame.{Frame}
 use Rattle.cool_eval.specs.Configurations.{frame_of, stack_of}
-use Rattle.cool_eval.specs.Machine as machine
+use Rattle.cool_eval.specs.StackMachine as machine
 
 -- a frame at the end is the first that is seen
 pub stack_more : (p : List Class) (fs : List Frame) (f : Frame) → stack_of p (fs ++ f ∷ []) ≡ frame_of p f ∷ stack_of p fs

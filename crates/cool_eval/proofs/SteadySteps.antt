@@ -21,7 +21,7 @@ use Rattle.cool_meaning.specs.BasicMethods.{basic, locate_all}
 use Rattle.cool_meaning.specs.Evaluation.{class_or, value_named, assign, compare}
 use Rattle.cool_meaning.proofs.RelatedEvaluation.{IsKept, locate_all_kept, basic_kept}
 use Rattle.cool_eval.proofs.PropertiesOfMeanings.{IsOfWords, words_kept, of_class, of_named, of_assign, of_operated, of_compare, of_inverted, of_negated}
-use Rattle.cool_eval.specs.Machine.{Frame, AssignTo, Choose, Turn, Again, Items, Bind, Pick, Fill, Argument, Receiver, TestVoid, Invert, Negate, Operand, Operate, Compared, CompareTo, Focus, Begin, Return, Start, Next, Continue, Halt, after, begin_args, begin_body, begin_method, begin_call, class_called, call_class, begin_object, begin_new, start_value, start_values, choose, turn, next_item, bind, begin_let, Taken, nearest_branch, take_named, pick, inverted, negated, operated, returned, begun, step}
+use Rattle.cool_eval.specs.StackMachine.{Frame, AssignTo, Choose, Turn, Again, Items, Bind, Pick, Fill, Argument, Receiver, TestVoid, Invert, Negate, Operand, Operate, Compared, CompareTo, Focus, Begin, Return, Start, Next, Continue, Halt, after, begin_args, begin_body, begin_method, begin_call, class_called, call_class, begin_object, begin_new, start_value, start_values, choose, turn, next_item, bind, begin_let, Taken, nearest_branch, take_named, pick, inverted, negated, operated, returned, begun, step}
 
 -- an outcome with so many steps left
 abbrev pub left_as : {A : Type 0} → Outcome A → ℕ → Outcome A

@@ -19,7 +19,7 @@ use Rattle.cool_meaning.specs.Lookups.{class_made, method_at, attributes, defaul
 use Rattle.cool_meaning.specs.BasicMethods.{as_truth, basic, locate_all, draw, new_number, new_truth, new_string}
 use Rattle.cool_meaning.specs.Evaluation.{Body, Initials, Calls, Branch, class_or, value_named, assign, compare, is_void, loop, or_else, nearest, take_branch, branch_of, branch_count, make, new_object, invoke, dispatch, run_method, run_initial, run_initials, eval, eval_all, eval_items, eval_init, calls_within}
 use Rattle.cool_meaning.proofs.LevelsAgree.{Fewer, call_is, eval_agrees, loop_is}
-use Rattle.cool_eval.specs.Machine.{Frame, AssignTo, Choose, Turn, Again, Items, Bind, Pick, Fill, Argument, Receiver, TestVoid, Invert, Negate, Operand, Operate, Compared, CompareTo, Focus, Begin, Return, Start, Next, Continue, Halt, after, begin_args, begin_body, begin_method, begin_call, class_called, call_class, begin_object, begin_new, start_value, start_values, choose, turn, next_item, bind, begin_let, Taken, branch_named, first_branch, nearest_branch, take_named, pick, inverted, negated, operated, returned, begun, step}
+use Rattle.cool_eval.specs.StackMachine.{Frame, AssignTo, Choose, Turn, Again, Items, Bind, Pick, Fill, Argument, Receiver, TestVoid, Invert, Negate, Operand, Operate, Compared, CompareTo, Focus, Begin, Return, Start, Next, Continue, Halt, after, begin_args, begin_body, begin_method, begin_call, class_called, call_class, begin_object, begin_new, start_value, start_values, choose, turn, next_item, bind, begin_let, Taken, branch_named, first_branch, nearest_branch, take_named, pick, inverted, negated, operated, returned, begun, step}
 
 module _ (p : List Class) (a : ℕ) where
   abbrev pub calls : Calls

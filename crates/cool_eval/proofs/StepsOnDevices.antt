@@ -26,8 +26,8 @@ use Rattle.cool_eval.specs.declared.machine.Machine.{Machine}
 use Rattle.cool_eval.specs.Configurations.{frame_of, stack_of, frames_of, state_of, Comes}
 use Rattle.cool_eval.specs.Counts.{IsInner}
 use Rattle.cool_eval.specs.Devices.{OnDevices, Reaches, state_at}
-use Rattle.cool_eval.specs.Machine as machine
-use Rattle.cool_eval.specs.Machine.{Next, Halt, Return, begin_call, begin_method, call_class, class_called, returned, begun, start_values, step}
+use Rattle.cool_eval.specs.StackMachine as machine
+use Rattle.cool_eval.specs.StackMachine.{Next, Halt, Return, begin_call, begin_method, call_class, class_called, returned, begun, start_values, step}
 use Rattle.cool_eval.specs.Running.{Steps}
 use Rattle.cool_eval.proofs.MethodsCalled.{void_called, unfound_called, limit_called, class_called_on, none_begun, user_begun}
 use Rattle.cool_eval.proofs.Stacks.{stack_more}

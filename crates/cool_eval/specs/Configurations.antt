@@ -23,8 +23,8 @@ use Rattle.cool_eval.specs.declared.frame.Focus.{Focus}
 use Rattle.cool_eval.specs.declared.frame.Focus.TheVariants as focus
 use Rattle.cool_eval.specs.declared.machine.Machine.{Machine}
 use Rattle.cool_eval.specs.Values.{value_of, locations_from}
-use Rattle.cool_eval.specs.Machine as machine
-use Rattle.cool_eval.specs.Machine.{Next, Continue, Halt}
+use Rattle.cool_eval.specs.StackMachine as machine
+use Rattle.cool_eval.specs.StackMachine.{Next, Continue, Halt}
 
 -- variables, the latest last, as an environment, the latest first
 abbrev pub located_at : Local → Located

@@ -15,8 +15,8 @@ use Rattle.cool_eval.specs.declared.frame.Focus.{Focus}
 use Rattle.cool_eval.specs.declared.machine.Machine.{Machine}
 use Rattle.cool_eval.specs.Values.{value_of}
 use Rattle.cool_eval.specs.Configurations.{focus_of, frames_of, state_of, error_of}
-use Rattle.cool_eval.specs.Machine as machine
-use Rattle.cool_eval.specs.Machine.{Next, Continue, Halt}
+use Rattle.cool_eval.specs.StackMachine as machine
+use Rattle.cool_eval.specs.StackMachine.{Next, Continue, Halt}
 use Rattle.cool_eval.specs.Puts.{written_since}
 
 -- the state of a store, an input and an output

@@ -3,7 +3,7 @@ pub mod Counts
 pub mod Devices
 pub mod Ends
 pub mod Groups
-pub mod Machine
+pub mod StackMachine
 pub mod Methods
 pub mod Puts
 pub mod Ready

@@ -13,7 +13,7 @@ use Rattle.cool_eval.specs.declared.ending.Ending.TheVariants as ending
 use Rattle.cool_eval.specs.declared.frame.Focus.{Focus}
 use Rattle.cool_eval.specs.declared.machine.Machine.{Machine}
 use Rattle.cool_eval.specs.Configurations.{state_of, error_of}
-use Rattle.cool_eval.specs.Machine.{Next, Halt}
+use Rattle.cool_eval.specs.StackMachine.{Next, Halt}
 use Rattle.cool_eval.specs.Devices.{HasLeft, HasPut, Reaches, sink_before}
 use Rattle.cool_eval.specs.Puts.{steps_puts}
 

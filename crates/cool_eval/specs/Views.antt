@@ -5,7 +5,7 @@ use Rattle.cool_syntax.specs.declared.file_tree.AttributeDef.{AttributeDef}
 use Rattle.cool_syntax.specs.declared.file_tree.Feature.{Feature}
 use Rattle.cool_syntax.specs.declared.file_tree.Feature.TheVariants.{Method, Attribute}
 use denote.Ref.{Bor}
-use Rattle.cool_eval.specs.Machine.{Taken}
+use Rattle.cool_eval.specs.StackMachine.{Taken}
 
 -- the first of a list and the others, or none where the list is empty
 abbrev pub IsFirst : {X : Type 0} → List X → Option (X × List X) → Type 0

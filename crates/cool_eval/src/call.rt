@@ -15,7 +15,7 @@ ghost use Rattle.cool_meaning.specs.Values as values;
 ghost use Rattle.cool_eval.specs.Configurations.{class_name, env_of, frames_of, locals_of, state_of, Comes};
 ghost use Rattle.cool_eval.specs.Counts.{Counted, FaultsInCalls, IsInner};
 ghost use Rattle.cool_eval.specs.Devices.{OnDevices, Reaches};
-ghost use Rattle.cool_eval.specs.Machine.{begin_args as args_begun, begin_call as call_begun, begin_method as method_begun, call_class, class_called};
+ghost use Rattle.cool_eval.specs.StackMachine.{begin_args as args_begun, begin_call as call_begun, begin_method as method_begun, call_class, class_called};
 ghost use Rattle.cool_eval.specs.Ready.{IsReady};
 ghost use Rattle.cool_eval.specs.Values.{locations_from, value_of};
 
@@ -35,7 +35,7 @@ use std::rc::Rc;
 
 /// The next argument, or else the receiver.
 #[inline(always)]
-#[tactic(auto, unfolding(crate::specs::Machine::begin_args))]
+#[tactic(auto, unfolding(crate::specs::StackMachine::begin_args))]
 pub(crate) fn begin_args<'a>(
     machine: &mut Machine<'a>,
     scene: Rc<Scene<'a>>,

@@ -7,7 +7,7 @@ ghost use Rattle.cool_meaning.specs.Evaluation.{class_or};
 ghost use Rattle.cool_meaning.specs.Meters.{CaseVoid};
 ghost use Rattle.cool_eval.specs.Configurations.{env_of, frames_of, state_of, Comes};
 ghost use Rattle.cool_eval.specs.Counts.{IsInner};
-ghost use Rattle.cool_eval.specs.Machine.{next_item as item_next, bind as variable_bound, pick as branch_picked, choose as branch_chosen, turn as turn_begun, Continue, Turn, Begin};
+ghost use Rattle.cool_eval.specs.StackMachine.{next_item as item_next, bind as variable_bound, pick as branch_picked, choose as branch_chosen, turn as turn_begun, Continue, Turn, Begin};
 ghost use Rattle.cool_eval.specs.Ready.{IsReady};
 ghost use Rattle.cool_eval.specs.Values.{value_of};
 
@@ -40,7 +40,7 @@ pub(crate) fn begin_test<'a>(
 
 /// The next item of a block, or the value of the one before.
 #[inline(always)]
-#[tactic(auto, unfolding(crate::specs::Machine::next_item))]
+#[tactic(auto, unfolding(crate::specs::StackMachine::next_item))]
 pub(crate) fn next_item<'a>(
     machine: &mut Machine<'a>,
     scene: Rc<Scene<'a>>,
@@ -63,7 +63,7 @@ pub(crate) fn next_item<'a>(
 }
 
 /// An expression with one more variable, at a new location.
-#[tactic(auto, using(crate::proofs::LocalsAtEnd::locals_more), unfolding(crate::specs::Machine::bind))]
+#[tactic(auto, using(crate::proofs::LocalsAtEnd::locals_more), unfolding(crate::specs::StackMachine::bind))]
 pub(crate) fn bind<'a>(
     setting: &Setting<'a>,
     machine: &mut Machine<'a>,
@@ -87,7 +87,7 @@ pub(crate) fn bind<'a>(
 }
 
 /// The branch of a case for a value.
-#[tactic(auto, unfolding(crate::specs::Machine::pick, crate::specs::Machine::take_named))]
+#[tactic(auto, unfolding(crate::specs::StackMachine::pick, crate::specs::StackMachine::take_named))]
 pub(crate) fn pick<'a>(
     setting: &Setting<'a>,
     machine: &mut Machine<'a>,
@@ -112,7 +112,7 @@ pub(crate) fn pick<'a>(
 }
 
 /// The branch of a condition for the value of its predicate.
-#[tactic(auto, unfolding(crate::specs::Machine::choose))]
+#[tactic(auto, unfolding(crate::specs::StackMachine::choose))]
 pub(crate) fn choose<'a>(
     machine: &Machine<'a>,
     scene: Rc<Scene<'a>>,
@@ -135,7 +135,7 @@ pub(crate) fn choose<'a>(
 }
 
 /// The next turn of a loop for the value of its predicate, or its end.
-#[tactic(auto, unfolding(crate::specs::Machine::turn))]
+#[tactic(auto, unfolding(crate::specs::StackMachine::turn))]
 pub(crate) fn turn<'a>(
     machine: &mut Machine<'a>,
     scene: Rc<Scene<'a>>,

@@ -10,7 +10,7 @@ ghost use Rattle.cool_meaning.specs.Lookups as lookups;
 ghost use Rattle.cool_meaning.specs.Values as values;
 ghost use Rattle.cool_eval.specs.Configurations.{env_of, frame_of, frames_of, state_of, Comes, IsResultAt};
 ghost use Rattle.cool_eval.specs.Counts.{IsInner};
-ghost use Rattle.cool_eval.specs.Machine.{begun, Begin, Continue};
+ghost use Rattle.cool_eval.specs.StackMachine.{begun, Begin, Continue};
 ghost use Rattle.cool_eval.specs.Ready.{IsReady};
 ghost use Rattle.cool_eval.specs.Values.{value_of};
 
@@ -82,7 +82,7 @@ pub(crate) fn begin_under<'a>(
 }
 
 /// Begins the arguments of a dispatch, whose parts have numbers below this one.
-#[tactic(auto, unfolding(crate::specs::Machine::begun))]
+#[tactic(auto, unfolding(crate::specs::StackMachine::begun))]
 fn begin_call<'a>(
     setting: &Setting<'a>,
     machine: &mut Machine<'a>,
@@ -133,7 +133,7 @@ fn begin_call<'a>(
 }
 
 /// Begins a condition, a loop or a block, whose parts have numbers below this one.
-#[tactic(auto, unfolding(crate::specs::Machine::begun))]
+#[tactic(auto, unfolding(crate::specs::StackMachine::begun))]
 fn begin_control<'a>(
     machine: &mut Machine<'a>,
     scene: Rc<Scene<'a>>,
@@ -175,7 +175,7 @@ fn begin_control<'a>(
 }
 
 /// Begins a binding or a case, whose parts have numbers below this one.
-#[tactic(auto, unfolding(crate::specs::Machine::begun, crate::specs::Machine::begin_let))]
+#[tactic(auto, unfolding(crate::specs::StackMachine::begun, crate::specs::StackMachine::begin_let))]
 fn begin_binding<'a>(
     setting: &Setting<'a>,
     machine: &mut Machine<'a>,
@@ -232,7 +232,7 @@ fn begin_binding<'a>(
 }
 
 /// Begins an assignment or a prefix operator, whose parts have numbers below this one.
-#[tactic(auto, unfolding(crate::specs::Machine::begun))]
+#[tactic(auto, unfolding(crate::specs::StackMachine::begun))]
 fn begin_unary<'a>(
     machine: &mut Machine<'a>,
     scene: Rc<Scene<'a>>,
@@ -269,7 +269,7 @@ fn begin_unary<'a>(
 }
 
 /// Begins an operator between two operands, whose parts have numbers below this one.
-#[tactic(auto, unfolding(crate::specs::Machine::begun))]
+#[tactic(auto, unfolding(crate::specs::StackMachine::begun))]
 fn begin_binary<'a>(
     machine: &mut Machine<'a>,
     scene: Rc<Scene<'a>>,
@@ -319,7 +319,7 @@ fn begin_binary<'a>(
 }
 
 /// Evaluates an expression with no other in it.
-#[tactic(auto, unfolding(crate::specs::Machine::begun, crate::specs::Machine::after))]
+#[tactic(auto, unfolding(crate::specs::StackMachine::begun, crate::specs::StackMachine::after))]
 fn begin_leaf<'a>(
     setting: &Setting<'a>,
     machine: &mut Machine<'a>,

@@ -4,7 +4,7 @@ ghost use Rattle.std.specs.Prelude.{◌≡◌, ℤ, SomeIff, FitsSigned, IfErr};
 ghost use Rattle.std.specs.Int.{w64};
 ghost use Rattle.cool_eval.specs.Counts.{IsInner};
 ghost use Rattle.cool_meaning.specs.Evaluation as meaning;
-ghost use Rattle.cool_eval.specs.Machine.{negated, operated};
+ghost use Rattle.cool_eval.specs.StackMachine.{negated, operated};
 ghost use Rattle.cool_eval.specs.Values.{value_of};
 ghost use Rattle.cool_eval.specs.Configurations.{IsResultOf, IsNumberOf};
 

@@ -5,7 +5,7 @@ ghost use Rattle.cool_meaning.specs.Values as values;
 ghost use Rattle.cool_meaning.specs.Lookups.{attributes, default_values};
 ghost use Rattle.cool_eval.specs.Configurations.{frames_of, state_of, Comes};
 ghost use Rattle.cool_eval.specs.Counts.{IsInner};
-ghost use Rattle.cool_eval.specs.Machine.{begin_new as new_begun, begin_object as object_begun, start_values as values_started};
+ghost use Rattle.cool_eval.specs.StackMachine.{begin_new as new_begun, begin_object as object_begun, start_values as values_started};
 ghost use Rattle.cool_eval.specs.Ready.{IsReady};
 ghost use Rattle.cool_eval.specs.Values.{locations_from};
 ghost use Rattle.cool_meaning.specs.BasicMethods.{locate_all};
@@ -21,7 +21,7 @@ use crate::value::{Object, Value};
 use cool_classes::{AttributeRef, BOOL, ClassId, INT, STRING};
 
 /// Begins a new value of a class.
-#[tactic(auto, unfolding(crate::specs::Machine::begin_new))]
+#[tactic(auto, unfolding(crate::specs::StackMachine::begin_new))]
 pub(crate) fn begin_new<'a>(
     setting: &Setting<'a>,
     machine: &mut Machine<'a>,
@@ -82,7 +82,7 @@ fn begin_object<'a>(
 }
 
 /// Begins the next initial value of an object.
-#[tactic(auto, unfolding(crate::specs::Machine::start_values, crate::specs::Machine::start_value))]
+#[tactic(auto, unfolding(crate::specs::StackMachine::start_values, crate::specs::StackMachine::start_value))]
 pub(crate) fn start_values<'a>(
     setting: &Setting<'a>,
     machine: &mut Machine<'a>,

@@ -4,7 +4,7 @@ ghost use Rattle.std.specs.Prelude.{◌≡◌, ◌<◌, None, Some, ◌∷◌, [
 ghost use Rattle.std.specs.List.{AllByRecursion};
 ghost use Rattle.cool_syntax.specs.NodeLists.{all_trees, at_id, made, tree_at, twig_at, HasPartsBelow};
 ghost use Rattle.cool_syntax.specs.Tree.{of_twigs, tree_size};
-ghost use Rattle.cool_eval.specs.Machine.{branch_named};
+ghost use Rattle.cool_eval.specs.StackMachine.{branch_named};
 ghost use Rattle.cool_eval.specs.Views.{IsFirst, taken_of};
 
 use cool_syntax::{Body, Name, Node, NodeBranch, NodeId};

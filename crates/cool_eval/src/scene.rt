@@ -10,7 +10,7 @@ ghost use Rattle.cool_meaning.specs.Values as values;
 ghost use Rattle.cool_meaning.specs.Lookups.{attributes, default_values, environment_of, init_of};
 ghost use Rattle.cool_eval.specs.Values.{value_of, locations_from};
 ghost use Rattle.cool_eval.specs.Counts.{IsInner};
-ghost use Rattle.cool_eval.specs.Machine.{nearest_branch};
+ghost use Rattle.cool_eval.specs.StackMachine.{nearest_branch};
 ghost use Rattle.cool_eval.specs.Views.{attribute_in, taken_of};
 ghost use Rattle.cool_eval.specs.Configurations.{env_of, IsLocation};
 ghost use Rattle.cool_eval.specs.Ready.{IsReady};

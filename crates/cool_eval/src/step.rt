@@ -12,8 +12,8 @@ ghost use Rattle.cool_eval.specs.Configurations.{env_of, focus_of, frame_of, fra
 ghost use Rattle.cool_eval.specs.Counts.{Counted, FaultsInCalls, IsInner};
 ghost use Rattle.cool_eval.specs.Devices.{OnDevices, Reaches};
 ghost use Rattle.cool_eval.specs.Groups.{WaitsInControl, WaitsToBind, WaitsToOperate};
-ghost use Rattle.cool_eval.specs.Machine as steps;
-ghost use Rattle.cool_eval.specs.Machine.{returned, after, Continue, Receiver};
+ghost use Rattle.cool_eval.specs.StackMachine as steps;
+ghost use Rattle.cool_eval.specs.StackMachine.{returned, after, Continue, Receiver};
 ghost use Rattle.cool_eval.specs.Ready.{IsReady};
 ghost use Rattle.cool_eval.specs.Running.{Steps};
 ghost use Rattle.cool_eval.specs.Values.{value_of};
@@ -34,7 +34,7 @@ use cool_syntax::{Name, Place};
 
 /// A value comes to what waits for it.
 #[inline(always)]
-#[tactic(auto, using(crate::proofs::QuietFrames::quiet_else, crate::proofs::QuietSteps::quiet_counts, crate::proofs::QuietSteps::quiet_faults, cool_ports::proofs::InputsInParts::took_nothing), unfolding(crate::specs::Machine::returned))]
+#[tactic(auto, using(crate::proofs::QuietFrames::quiet_else, crate::proofs::QuietSteps::quiet_counts, crate::proofs::QuietSteps::quiet_faults, cool_ports::proofs::InputsInParts::took_nothing), unfolding(crate::specs::StackMachine::returned))]
 fn give<'a, S: Source, K: Sink>(
     setting: &Setting<'a>,
     machine: &mut Machine<'a>,
@@ -65,7 +65,7 @@ fn give<'a, S: Source, K: Sink>(
 
 /// A value comes to what waits for it and calls no method.
 #[inline(always)]
-#[tactic(auto, using(crate::proofs::StoredValues::stored_more), unfolding(crate::specs::Machine::returned))]
+#[tactic(auto, using(crate::proofs::StoredValues::stored_more), unfolding(crate::specs::StackMachine::returned))]
 fn resume<'a>(
     setting: &Setting<'a>,
     machine: &mut Machine<'a>,
@@ -110,7 +110,7 @@ fn resume<'a>(
 }
 
 /// A value comes to a condition, a loop or a block.
-#[tactic(auto, unfolding(crate::specs::Machine::returned))]
+#[tactic(auto, unfolding(crate::specs::StackMachine::returned))]
 fn resume_control<'a>(
     machine: &mut Machine<'a>,
     frame: Frame<'a>,
@@ -136,7 +136,7 @@ fn resume_control<'a>(
 }
 
 /// A value comes to a variable, to the branches of a case or to an attribute.
-#[tactic(auto, unfolding(crate::specs::Machine::returned, crate::specs::Machine::after))]
+#[tactic(auto, unfolding(crate::specs::StackMachine::returned, crate::specs::StackMachine::after))]
 fn resume_binding<'a>(
     setting: &Setting<'a>,
     machine: &mut Machine<'a>,
@@ -177,7 +177,7 @@ fn resume_binding<'a>(
 }
 
 /// A value comes to an operator.
-#[tactic(auto, unfolding(crate::specs::Machine::returned, crate::specs::Machine::after))]
+#[tactic(auto, unfolding(crate::specs::StackMachine::returned, crate::specs::StackMachine::after))]
 fn resume_operator<'a>(
     machine: &mut Machine<'a>,
     frame: Frame<'a>,

@@ -11,7 +11,7 @@ use Rattle.cool_lexer.proofs.AlwaysOneReading.{always_one}
 use Rattle.cool_lexer.proofs.ItemsInARow.{few}
 use Rattle.cool_lexer.proofs.LexemesKeepLimits.{limits, rising}
 use Rattle.cool_lexer.proofs.WeightsOfTokens.{tokens_weigh}
-use Rattle.cool_parser.specs.Machine.{Outcome, Whole, Unexpected, parsed}
+use Rattle.cool_parser.specs.ParsingMachine.{Outcome, Whole, Unexpected, parsed}
 use Rattle.cool_parser.proofs.BoundedFeatures.{classes_bounded}
 use Rattle.cool_parser.proofs.FilesWithinLimits.{classes_within}
 use Rattle.cool_parser.proofs.ParsingIsTheGrammar.{sound, stops}

@@ -12,7 +12,7 @@ use Rattle.cool_syntax.specs.declared.token.Key.TheVariants as key
 use Rattle.cool_syntax.specs.declared.token.Sign.TheVariants as sign
 use Rattle.cool_syntax.specs.ConcreteTrees.{Operator, Arith, Compare, Not, IsVoid, Neg, Int, Str, Truth, Variable, Concrete, Name, Literal, New, Paren, Dispatch, If, While, Block, Case, Binary, Before, Callee, OfSelf, Of, OfClass, NoArgs, Given, Parts, NoPart, Then, Branches, NoBranch, Also, Branch, On, Prefix, Let, Assign, Mark, Bindings, NoBinding, Next, Default, Init, FirstFormals, NoFormal, Comma, Formals, NoFormals, Declared, Signature, ConcreteFeature, Method, Attribute, Initialized, Features, NoFeature, Another, NoParent, Inherits, Heading, Classes, NoClass, Class}
 use Rattle.cool_syntax.specs.Shapes.{level, left_level, prefix_level}
-use Rattle.cool_parser.specs.Machine.{is_right_parenthesis, is_right_brace}
+use Rattle.cool_parser.specs.ParsingMachine.{is_right_parenthesis, is_right_brace}
 
 -- States
 

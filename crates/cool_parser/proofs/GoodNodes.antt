@@ -17,7 +17,7 @@ use Rattle.cool_parser.specs.declared.item.OpenClass.{OpenClass}
 use Rattle.cool_parser.specs.declared.item.OpenMethod.{OpenMethod}
 use Rattle.cool_parser.specs.declared.mode.Mode.{Mode}
 use Rattle.cool_parser.specs.declared.mode.Mode.TheVariants as mode
-use Rattle.cool_parser.specs.Machine.{Context, push, place, next_id, ended, nodes_of, reduced, dispatch, step, start}
+use Rattle.cool_parser.specs.ParsingMachine.{Context, push, place, next_id, ended, nodes_of, reduced, dispatch, step, start}
 use Rattle.cool_parser.specs.Waiting.{case_parts, item_parts, Good}
 use Rattle.cool_parser.proofs.PlacingANode.{node_parts}
 use Rattle.cool_parser.proofs.GoodStates.{on, topped, below, operates, dispatch_parts, ended_parts, ended_keeps, ended_below, bodied, step_good, start_good}

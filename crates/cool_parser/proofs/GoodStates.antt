@@ -30,7 +30,7 @@ use Rattle.cool_parser.specs.declared.mode.Purpose.TheVariants as purpose
 use Rattle.cool_parser.specs.declared.mode.Mode.{Mode}
 use Rattle.cool_parser.specs.declared.mode.Mode.TheVariants as mode
 use Rattle.cool_parser.specs.Levels.{infix_of, infix_level, left_level, prefix_level}
-use Rattle.cool_parser.specs.Machine.{Context, Reduced, push, place, next_id, operand, wait, ended, nodes_of, node_if, binary, before, with_feature, initial, method, reduced, reduce, after, shift, dispatch, dispatch_to, with_branch, close_on, close, operator_or_end, have, need, identifier, is_right_parenthesis, is_right_brace, first_argument, next_item, next_branch, compares, is_comparison, variable_name, declared, variable_type, let_end, class_head, parent_name, features, feature_name, first_formal, formal_end, result_type, attribute_end, static_class, method_name, new_type, class_end, step, start}
+use Rattle.cool_parser.specs.ParsingMachine.{Context, Reduced, push, place, next_id, operand, wait, ended, nodes_of, node_if, binary, before, with_feature, initial, method, reduced, reduce, after, shift, dispatch, dispatch_to, with_branch, close_on, close, operator_or_end, have, need, identifier, is_right_parenthesis, is_right_brace, first_argument, next_item, next_branch, compares, is_comparison, variable_name, declared, variable_type, let_end, class_head, parent_name, features, feature_name, first_formal, formal_end, result_type, attribute_end, static_class, method_name, new_type, class_end, step, start}
 use Rattle.cool_parser.specs.Waiting.{option_parts, stack_parts, item_parts, mode_parts, case_parts, Holds, IsBottomed, is_body, is_outside, IsGood, IsGoodState}
 use Rattle.cool_parser.proofs.PlacingANode.{node_parts, placed, parts_below, postorder}
 

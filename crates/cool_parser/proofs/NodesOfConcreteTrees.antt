@@ -29,8 +29,8 @@ use Rattle.cool_parser.specs.declared.mode.Purpose.TheVariants as purpose
 use Rattle.cool_parser.specs.declared.mode.Mode.{Mode}
 use Rattle.cool_parser.specs.declared.mode.Mode.TheVariants as mode
 use Rattle.cool_parser.specs.Levels as levels
-use Rattle.cool_parser.specs.Machine as machine
-use Rattle.cool_parser.specs.Machine.{Context, State, Reduced, reduced, node_if, nodes_of}
+use Rattle.cool_parser.specs.ParsingMachine as machine
+use Rattle.cool_parser.specs.ParsingMachine.{Context, State, Reduced, reduced, node_if, nodes_of}
 use Rattle.cool_parser.proofs.ConcreteMachine.{Opened, OpenMethod, ClosedMethod, Around, InMethod, InAttribute, Target, Dot, StaticDot, OpenCase, Form, Parenthesis, Arguments, IfTest, IfYes, IfNo, WhileTest, WhileBody, Items, Value, CaseValue, BranchBody, Left, Front, Open}
 use Rattle.cool_parser.proofs.ConcreteMachine.{Need, Identifier, Have, StaticClass, StaticEnd, MethodName, CallParenthesis, FirstArgument, NextItem, LetName, LetColon, LetType, LetEnd, BranchName, BranchColon, BranchType, BranchArrow, NextBranch, NewType}
 use Rattle.cool_parser.proofs.ConcreteMachine.{File, ClassName, ClassHead, ParentName, ClassBrace, InClass, ClassEnd, FeatureName, FirstFormal, FormalName, FormalColon, FormalType, FormalEnd, ResultColon, ResultType, MethodBrace, MethodEnd, AttributeType, AttributeEnd, Inside}

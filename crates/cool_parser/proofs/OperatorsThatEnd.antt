@@ -12,7 +12,7 @@ use Rattle.cool_parser.specs.declared.operator.Prefix.TheVariants.{Not, IsVoid, 
 use Rattle.cool_parser.specs.declared.item.Item.{Item}
 use Rattle.cool_parser.specs.declared.item.Item.TheVariants as item
 use Rattle.cool_parser.specs.Levels.{infix_level, prefix_level}
-use Rattle.cool_parser.specs.Machine.{binary, before, node_if, ended}
+use Rattle.cool_parser.specs.ParsingMachine.{binary, before, node_if, ended}
 use Rattle.cool_parser.specs.Endings.{NoneEnds, Ends}
 
 -- a node that stands is that node

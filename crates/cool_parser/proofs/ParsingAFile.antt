@@ -5,7 +5,7 @@ use Rattle.cool_syntax.specs.declared.place.Place.{Place}
 use Rattle.cool_syntax.specs.declared.token.Token.{Token}
 use Rattle.cool_syntax.specs.declared.file_tree.ClassDef.{ClassDef}
 use Rattle.cool_parser.specs.declared.mode.Mode.{Mode}
-use Rattle.cool_parser.specs.Machine.{Context, State, step, outcome, parsed, Whole, Unexpected}
+use Rattle.cool_parser.specs.ParsingMachine.{Context, State, step, outcome, parsed, Whole, Unexpected}
 
 -- where the last token stood plays no part as long as a state is there
 pub any_place : (at other : Place) (s : State) (ts : List Token) (end : Place) → outcome at (Some s) ts end ≡ outcome other (Some s) ts end

@@ -12,8 +12,8 @@ use Rattle.cool_parser.specs.declared.fault.ParseError.{ParseError}
 use Rattle.cool_parser.specs.declared.fault.ParseError.TheVariants.{Memory, Fault}
 use Rattle.cool_parser.specs.Answers.{IsFault, IsFaultAt, IsOutcome}
 use Rattle.cool_parser.specs.Laws.{HasTree}
-use Rattle.cool_parser.specs.Machine as machine
-use Rattle.cool_parser.specs.Machine.{Outcome, Whole, Unexpected, outcome, parsed}
+use Rattle.cool_parser.specs.ParsingMachine as machine
+use Rattle.cool_parser.specs.ParsingMachine.{Outcome, Whole, Unexpected, outcome, parsed}
 use Rattle.cool_parser.proofs.ConcreteMachine.{State, File, Inside}
 use Rattle.cool_parser.proofs.ConcreteMachine.{Need, Identifier, Have, StaticClass, StaticEnd, MethodName, Dot, StaticDot}
 use Rattle.cool_parser.proofs.ConcreteMachine.{step, run, bind, start, finish}

@@ -12,7 +12,7 @@ use Rattle.cool_syntax.specs.declared.operator.CompareOp.TheVariants as compare_
 use Rattle.cool_syntax.specs.ConcreteTrees.{Operator, Arith, Compare, Unary, Not, IsVoid, Neg, Constant, Int, Str, Truth, Concrete, Name, Literal, New, Paren, Dispatch, If, While, Block, Case, Binary, Before, Callee, OfSelf, Of, OfClass, Args, NoArgs, Given, Parts, NoPart, Then, Branches, NoBranch, Also, On, Prefix, Let, Assign, Mark, Bindings, NoBinding, Next, Binding, Default, Init, FirstFormals, NoFormal, Comma, Formals, NoFormals, Declared, Signature, ConcreteFeature, Method, Attribute, Initialized, Features, NoFeature, Another, Parent, NoParent, Inherits, Heading, Classes, NoClass, Class}
 use Rattle.cool_syntax.specs.Readings.{operator_sign, unary_token, constant_token, word, symbol, object, type, variable_reading, reading, callee_reading, args_reading, parts_reading, branches_reading, branch_reading, prefix_reading, bindings_reading, binding_reading, first_formals_reading, signature_reading, feature_reading, features_reading, heading_reading, file_reading}
 use Rattle.cool_syntax.specs.Shapes.{level, left_level, prefix_level, EndsAtLeast, BeginsAbove, IsReceiver, IsShaped, IsShapedCallee, AreShapedArgs, AreShapedParts, AreShapedBranches, IsShapedPrefix, AreShapedBindings, IsShapedBinding, IsShapedFeature, AreShapedFeatures, IsShapedFile}
-use Rattle.cool_parser.specs.Machine.{is_right_parenthesis, is_right_brace}
+use Rattle.cool_parser.specs.ParsingMachine.{is_right_parenthesis, is_right_brace}
 use Rattle.cool_parser.proofs.ConcreteMachine.{Opened, OpenMethod, Around, InMethod, InAttribute, Dot, OpenCase, Parenthesis, Arguments, IfTest, IfYes, IfNo, WhileTest, WhileBody, Items, Value, CaseValue, BranchBody, Item, Left, Front, Open}
 use Rattle.cool_parser.proofs.ConcreteMachine.{Need, Identifier, Have, MethodName, StaticClass, FirstArgument, NextItem, LetName, BranchName, BranchColon, NextBranch, State, File, InClass, FirstFormal, FormalColon, Inside}
 use Rattle.cool_parser.proofs.ConcreteMachine.{reduce, shift, have, identifier, need, close, with_feature, step, run, bind, start}

@@ -23,7 +23,7 @@ use Rattle.cool_parser.specs.declared.mode.Purpose.TheVariants as purpose
 use Rattle.cool_parser.specs.declared.mode.Mode.{Mode}
 use Rattle.cool_parser.specs.declared.mode.Mode.TheVariants as mode
 use Rattle.cool_parser.specs.Levels.{infix_of, left_level}
-use Rattle.cool_parser.specs.Machine.{Context, State, push, place, next_id, operand, wait, ended, nodes_of, reduced, reduce, after, shift, dispatch, close_on, close, operator_or_end, have, need, identifier, is_right_parenthesis, is_right_brace, first_argument, next_item, next_branch, compares, is_comparison, variable_name, declared, variable_type, let_end, class_head, parent_name, features, feature_name, first_formal, formal_end, result_type, attribute_end, static_class, method_name, new_type, class_end, step}
+use Rattle.cool_parser.specs.ParsingMachine.{Context, State, push, place, next_id, operand, wait, ended, nodes_of, reduced, reduce, after, shift, dispatch, close_on, close, operator_or_end, have, need, identifier, is_right_parenthesis, is_right_brace, first_argument, next_item, next_branch, compares, is_comparison, variable_name, declared, variable_type, let_end, class_head, parent_name, features, feature_name, first_formal, formal_end, result_type, attribute_end, static_class, method_name, new_type, class_end, step}
 
 -- nodes and items
 abbrev pub weight : Context → ℕ

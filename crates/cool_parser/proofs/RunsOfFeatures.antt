@@ -30,7 +30,7 @@ use Rattle.cool_parser.specs.declared.mode.Purpose.TheVariants as purpose
 use Rattle.cool_parser.specs.declared.mode.Mode.{Mode}
 use Rattle.cool_parser.specs.declared.mode.Mode.TheVariants as mode
 use Rattle.cool_parser.specs.Levels.{infix_of, infix_level, left_level, prefix_level}
-use Rattle.cool_parser.specs.Machine.{Context, State, Reduced, push, place, next_id, operand, wait, ended, nodes_of, node_if, binary, before, reduced, reduce, after, shift, dispatch, dispatch_to, close_on, close, operator_or_end, have, need, identifier, first_argument, next_item, next_branch, compares, is_comparison, variable_name, declared, variable_type, let_end, class_head, parent_name, features, feature_name, first_formal, formal_end, result_type, attribute_end, static_class, method_name, new_type, step}
+use Rattle.cool_parser.specs.ParsingMachine.{Context, State, Reduced, push, place, next_id, operand, wait, ended, nodes_of, node_if, binary, before, reduced, reduce, after, shift, dispatch, dispatch_to, close_on, close, operator_or_end, have, need, identifier, first_argument, next_item, next_branch, compares, is_comparison, variable_name, declared, variable_type, let_end, class_head, parent_name, features, feature_name, first_formal, formal_end, result_type, attribute_end, static_class, method_name, new_type, step}
 use Rattle.cool_parser.proofs.WeightsOfNodes.{node_weight, weight, weight-placed}
 
 -- What is owed

@@ -33,7 +33,7 @@ use Rattle.cool_parser.specs.declared.mode.Purpose.TheVariants as purpose
 use Rattle.cool_parser.specs.declared.mode.Mode.{Mode}
 use Rattle.cool_parser.specs.declared.mode.Mode.TheVariants as mode
 use Rattle.cool_parser.specs.Levels.{infix_of, infix_level, left_level, prefix_level}
-use Rattle.cool_parser.specs.Machine.{Context, State, Outcome, Whole, Unexpected, push, place, next_id, operand, wait, ended, nodes_of, node_if, binary, before, initial, method, reduced, reduce, after, dispatch, dispatch_to, close_on, close, operator_or_end, have, need, identifier, is_right_parenthesis, is_right_brace, next_branch, compares, is_comparison, variable_name, declared, variable_type, let_end, class_head, parent_name, features, feature_name, first_formal, formal_end, result_type, attribute_end, static_class, method_name, new_type, class_end, step, finish, outcome, parsed, start}
+use Rattle.cool_parser.specs.ParsingMachine.{Context, State, Outcome, Whole, Unexpected, push, place, next_id, operand, wait, ended, nodes_of, node_if, binary, before, initial, method, reduced, reduce, after, dispatch, dispatch_to, close_on, close, operator_or_end, have, need, identifier, is_right_parenthesis, is_right_brace, next_branch, compares, is_comparison, variable_name, declared, variable_type, let_end, class_head, parent_name, features, feature_name, first_formal, formal_end, result_type, attribute_end, static_class, method_name, new_type, class_end, step, finish, outcome, parsed, start}
 use Rattle.cool_parser.specs.Waiting.{IsGood, IsGoodState}
 use Rattle.cool_parser.proofs.GoodStates.{on, operates, bodied, reduce_good, step_good, start_good}
 use Rattle.cool_parser.proofs.TextsOfNodes.{node_burden, burden, burden-placed, body_burden}

@@ -5,7 +5,7 @@ use Rattle.cool_syntax.specs.declared.token.Token.{Token}
 use Rattle.cool_syntax.specs.Grammar.{IsUnexpected}
 use Rattle.cool_parser.specs.declared.fault.ParseError.{ParseError}
 use Rattle.cool_parser.specs.declared.fault.ParseError.TheVariants.{Memory, Fault}
-use Rattle.cool_parser.specs.Machine.{Outcome, Unexpected}
+use Rattle.cool_parser.specs.ParsingMachine.{Outcome, Unexpected}
 
 -- a fault is the first one of the tokens; want of memory tells nothing
 abbrev pub IsFault : List Token → Place → ParseError → Type 0

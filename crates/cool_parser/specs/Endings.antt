@@ -1,9 +1,9 @@
--- When an operator on the top of the stack ends, by its level: the functions of Machine.antt that the code asks one item at a time.
+-- When an operator on the top of the stack ends, by its level: the functions of ParsingMachine.antt that the code asks one item at a time.
 use Rattle.std.specs.Prelude.{◌≡◌, ℕ, List, [], ◌∷◌, Some, None}
 use Rattle.cool_syntax.specs.declared.node.NodeId.{NodeId}
 use Rattle.cool_syntax.specs.declared.node.Node.{Node}
 use Rattle.cool_parser.specs.declared.item.Item.{Item}
-use Rattle.cool_parser.specs.Machine.{ended}
+use Rattle.cool_parser.specs.ParsingMachine.{ended}
 
 -- no operator of at least this level is on the top
 abbrev pub NoneEnds : ℕ → NodeId → List Item → Type 0

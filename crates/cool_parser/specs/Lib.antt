@@ -2,5 +2,5 @@ pub mod Answers
 pub mod Endings
 pub mod Laws
 pub mod Levels
-pub mod Machine
+pub mod ParsingMachine
 pub mod Waiting

@@ -12,7 +12,7 @@ use Rattle.cool_parser.specs.declared.mode.Purpose.{Purpose}
 use Rattle.cool_parser.specs.declared.mode.Purpose.TheVariants as purpose
 use Rattle.cool_parser.specs.declared.mode.Mode.{Mode}
 use Rattle.cool_parser.specs.declared.mode.Mode.TheVariants as mode
-use Rattle.cool_parser.specs.Machine.{Context, State}
+use Rattle.cool_parser.specs.ParsingMachine.{Context, State}
 
 -- the parts of a case so far
 abbrev pub case_parts : OpenCase → List NodeId

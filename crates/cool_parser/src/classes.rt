@@ -3,8 +3,8 @@
 ghost use Rattle.std.specs.Prelude.{◌≡◌, ◌-◌, ◌<◌, ◌^◌, length, IfOk};
 ghost use Rattle.cool_syntax.specs.NodeLists.{IsPostorder};
 ghost use Rattle.cool_parser.specs.declared.mode.Mode.TheVariants as mode;
-ghost use Rattle.cool_parser.specs.Machine as machine;
-ghost use Rattle.cool_parser.specs.Machine.{moved};
+ghost use Rattle.cool_parser.specs.ParsingMachine as machine;
+ghost use Rattle.cool_parser.specs.ParsingMachine.{moved};
 
 use crate::boxed::Boxed;
 use crate::item::{Item, OpenClass, OpenMethod, Variable};

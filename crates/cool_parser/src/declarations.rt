@@ -4,8 +4,8 @@ ghost use Rattle.std.specs.Prelude.{◌≡◌, IfOk};
 ghost use Rattle.cool_parser.specs.declared.item.Item.TheVariants as item;
 ghost use Rattle.cool_parser.specs.declared.mode.Mode.TheVariants as mode;
 ghost use Rattle.cool_parser.specs.declared.mode.Purpose.TheVariants as purpose;
-ghost use Rattle.cool_parser.specs.Machine as machine;
-ghost use Rattle.cool_parser.specs.Machine.{moved};
+ghost use Rattle.cool_parser.specs.ParsingMachine as machine;
+ghost use Rattle.cool_parser.specs.ParsingMachine.{moved};
 
 use crate::item::{Item, OpenCase, Variable};
 use crate::mode::{Mode, Purpose};

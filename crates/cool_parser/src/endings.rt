@@ -3,8 +3,8 @@
 ghost use Rattle.std.specs.Prelude.{◌≡◌, ◌-◌, ◌<◌, ◌≤◌, ◌^◌, ◌+◌, length, IfOk, OnOk};
 ghost use Rattle.cool_parser.specs.declared.mode.Mode.TheVariants as mode;
 ghost use Rattle.cool_parser.specs.Levels.{left_level};
-ghost use Rattle.cool_parser.specs.Machine as machine;
-ghost use Rattle.cool_parser.specs.Machine.{moved};
+ghost use Rattle.cool_parser.specs.ParsingMachine as machine;
+ghost use Rattle.cool_parser.specs.ParsingMachine.{moved};
 ghost use Rattle.cool_parser.specs.Waiting.{Good};
 
 use crate::item::Item;

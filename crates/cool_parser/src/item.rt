@@ -4,7 +4,7 @@ ghost use Rattle.std.specs.Prelude.{◌≡◌, IfOk};
 ghost use Rattle.std.specs.Option.{is_some};
 ghost use Rattle.cool_syntax.specs.declared.file_tree.Feature.TheVariants as feature;
 ghost use Rattle.cool_syntax.specs.declared.node.NodeId.{NodeId};
-ghost use Rattle.cool_parser.specs.Machine as machine;
+ghost use Rattle.cool_parser.specs.ParsingMachine as machine;
 
 use crate::boxed::Boxed;
 use crate::operator::{Infix, Prefix};

@@ -3,8 +3,8 @@
 ghost use Rattle.std.specs.Prelude.{◌≡◌, ◌-◌, ◌<◌, ◌^◌, ◌+◌, length, IfOk};
 ghost use Rattle.cool_syntax.specs.declared.token.TokenKind.TheVariants as kind;
 ghost use Rattle.cool_parser.specs.declared.mode.Mode.TheVariants as mode;
-ghost use Rattle.cool_parser.specs.Machine as machine;
-ghost use Rattle.cool_parser.specs.Machine.{moved};
+ghost use Rattle.cool_parser.specs.ParsingMachine as machine;
+ghost use Rattle.cool_parser.specs.ParsingMachine.{moved};
 ghost use Rattle.cool_parser.specs.Waiting.{Good};
 
 use crate::item::{Call, Item, OpenCase};

@@ -2,7 +2,7 @@
 
 ghost use Rattle.std.specs.Prelude.{◌≡◌};
 ghost use Rattle.cool_parser.specs.Levels.{infix_of, infix_level, left_level, prefix_level};
-ghost use Rattle.cool_parser.specs.Machine as machine;
+ghost use Rattle.cool_parser.specs.ParsingMachine as machine;
 
 use cool_syntax::{ArithOp, CompareOp, Node, NodeId, Place, Sign, TokenKind};
 

@@ -2,8 +2,8 @@
 
 ghost use Rattle.std.specs.Prelude.{◌≡◌, ◌-◌, ◌<◌, ◌^◌, length, IfOk, OnOk, Some, None};
 ghost use Rattle.cool_syntax.specs.NodeLists.{tree_of, HasPartsBelow, IsPostorder};
-ghost use Rattle.cool_parser.specs.Machine as machine;
-ghost use Rattle.cool_parser.specs.Machine.{Context, moved, next_id};
+ghost use Rattle.cool_parser.specs.ParsingMachine as machine;
+ghost use Rattle.cool_parser.specs.ParsingMachine.{Context, moved, next_id};
 
 use crate::item::Item;
 use crate::mode::Mode;
@@ -26,7 +26,7 @@ pub(crate) struct Parser {
 }
 
 impl Model for Parser {
-    ghost use Rattle.cool_parser.specs.Machine.{Context};
+    ghost use Rattle.cool_parser.specs.ParsingMachine.{Context};
     ghost use Rattle.std.specs.Coded.{codes};
     ghost use Rattle.cool_syntax.specs.TreeCode.{tree_code};
 

@@ -11,7 +11,7 @@ ghost use Rattle.cool_syntax.specs.declared.file_tree.ClassDef.{ClassDef};
 ghost use Rattle.cool_syntax.specs.Grammar.{Parses, IsUnexpected};
 ghost use Rattle.cool_syntax.specs.WrittenTrees.{AreClassesWritable};
 ghost use Rattle.cool_parser.specs.Answers.{IsFault, IsFaultAt, IsOutcome};
-ghost use Rattle.cool_parser.specs.Machine.{parsed, Whole};
+ghost use Rattle.cool_parser.specs.ParsingMachine.{parsed, Whole};
 ghost use Rattle.cool_syntax.specs.FeatureSizes.{IsBoundedClass};
 ghost use Rattle.cool_syntax.specs.TreesWithinLimits.{AreClassesWithin};
 ghost use Rattle.cool_syntax.specs.Weights.{classes_weight};

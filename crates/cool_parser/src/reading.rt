@@ -4,8 +4,8 @@ ghost use Rattle.std.specs.Prelude.{◌≡◌, ◌≤◌, ◌-◌, ◌+◌, ◌<
 ghost use Rattle.cool_syntax.specs.declared.TheConstants.{MOST_SOURCE_BYTES};
 ghost use Rattle.cool_syntax.specs.declared.place.Place.{Place};
 ghost use Rattle.cool_parser.specs.Answers.{IsOutcome};
-ghost use Rattle.cool_parser.specs.Machine as machine;
-ghost use Rattle.cool_parser.specs.Machine.{start, parsed, finish, Whole, Unexpected};
+ghost use Rattle.cool_parser.specs.ParsingMachine as machine;
+ghost use Rattle.cool_parser.specs.ParsingMachine.{start, parsed, finish, Whole, Unexpected};
 ghost use Rattle.cool_parser.specs.Waiting.{Good};
 
 use crate::fault::{ParseError, ParseFault};
@@ -24,7 +24,7 @@ pub(crate) struct Reading {
 }
 
 impl Model for Reading {
-    ghost use Rattle.cool_parser.specs.Machine.{State};
+    ghost use Rattle.cool_parser.specs.ParsingMachine.{State};
     ghost use Rattle.std.specs.Coded.{codes};
     ghost use Rattle.cool_syntax.specs.TreeCode.{tree_code};
 

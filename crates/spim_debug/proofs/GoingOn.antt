@@ -12,7 +12,7 @@ use Rattle.spim_cpu.specs.Cpu.{KeepsSegments}
 use Rattle.spim_machine.specs.declared.halt.Halt.{Halt}
 use Rattle.spim_machine.specs.declared.halt.Halt.TheVariants as halts
 use Rattle.spim_machine.specs.declared.halt.Stopped.{Stopped}
-use Rattle.spim_machine.specs.Machine.{MachineParts, IsIn, halted_by}
+use Rattle.spim_machine.specs.MachineStates.{MachineParts, IsIn, halted_by}
 use Rattle.spim_machine.specs.Ends.{Ran}
 use Rattle.spim_machine.specs.Counting.{moved, executed_in, RanTo}
 use Rattle.mips_isa.proofs.RunsInParts.{run_sum}

@@ -9,7 +9,7 @@ use Rattle.cool_ports.proofs.GettingBytes.{appended-nil}
 use Rattle.mips_isa.specs.Calls.{State}
 use Rattle.spim_machine.specs.declared.halt.Halt.{Halt}
 use Rattle.spim_machine.specs.declared.halt.Halt.TheVariants as halts
-use Rattle.spim_machine.specs.Machine.{MachineParts, state_of, IsIn}
+use Rattle.spim_machine.specs.MachineStates.{MachineParts, state_of, IsIn}
 use Rattle.spim_machine.specs.Puts.{PutBy}
 use Rattle.spim_debug.specs.ByteCounts.{counted, GrewBy}
 

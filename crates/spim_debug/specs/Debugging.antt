@@ -11,7 +11,7 @@ use Rattle.mips_isa.specs.Calls.{State, Running}
 use Rattle.mips_isa.specs.Run.{start}
 use Rattle.spim_machine.specs.declared.halt.Halt.{Halt}
 use Rattle.spim_machine.specs.declared.halt.Halt.TheVariants.{Exit, Trap, StepLimit, ReadFault, WriteFault}
-use Rattle.spim_machine.specs.Machine.{MachineParts}
+use Rattle.spim_machine.specs.MachineStates.{MachineParts}
 use Rattle.spim_machine.specs.Ends.{Ran, Counted}
 use Rattle.spim_debug.specs.declared.debugger.DebugEnd.{DebugEnd}
 use Rattle.spim_debug.specs.declared.debugger.DebugEnd.TheVariants as end

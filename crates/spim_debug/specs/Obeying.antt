@@ -7,7 +7,7 @@ use Rattle.mips_isa.specs.Calls.{Outcome, Running, Exited, Trapped}
 use Rattle.spim_memory.specs.Memory.{segments}
 use Rattle.spim_machine.specs.declared.halt.Halt.{Halt}
 use Rattle.spim_machine.specs.declared.halt.Halt.TheVariants.{Exit, Trap, StepLimit, ReadFault, WriteFault}
-use Rattle.spim_machine.specs.Machine.{IsIn}
+use Rattle.spim_machine.specs.MachineStates.{IsIn}
 use Rattle.spim_debug.specs.declared.debugger.DebugEnd.{DebugEnd}
 use Rattle.spim_debug.specs.declared.debugger.DebugEnd.TheVariants as end
 use Rattle.spim_debug.specs.declared.debugger.Debugger.{Debugger}

@@ -6,7 +6,7 @@ ghost use Rattle.mips_isa.specs.Calls.{State};
 ghost use Rattle.mips_isa.specs.Run.{run};
 ghost use Rattle.spim_memory.specs.Memory.{segments};
 ghost use Rattle.spim_cpu.specs.Cpu.{KeepsSegments};
-ghost use Rattle.spim_machine.specs.Machine.{IsIn, halted_by};
+ghost use Rattle.spim_machine.specs.MachineStates.{IsIn, halted_by};
 ghost use Rattle.spim_machine.specs.Ends.{Counted};
 ghost use Rattle.spim_machine.specs.Counting.{RanTo};
 ghost use Rattle.spim_machine.specs.Puts.{output_of};

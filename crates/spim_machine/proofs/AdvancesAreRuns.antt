@@ -7,7 +7,7 @@ use Rattle.mips_isa.specs.Run.{after, run}
 use Rattle.spim_memory.specs.Memory.{MemoryParts, segments}
 use Rattle.spim_cpu.specs.Cpu.{CpuParts, KeepsSegments}
 use Rattle.spim_cpu.specs.Advancing.{Goes}
-use Rattle.spim_machine.specs.Machine.{MachineParts, Keeps}
+use Rattle.spim_machine.specs.MachineStates.{MachineParts, Keeps}
 use Rattle.spim_machine.proofs.RunsGoOn.{run_next}
 
 -- no instruction yet

@@ -9,7 +9,7 @@ use Rattle.mips_isa.specs.Calls.{State, Exited, call, a0, print, print_string, s
 use Rattle.spim_cpu.specs.Cpu.{core_of}
 use Rattle.spim_machine.specs.declared.halt.Halt.{Halt}
 use Rattle.spim_machine.specs.declared.halt.Halt.TheVariants.{Exit, Trap}
-use Rattle.spim_machine.specs.Machine.{MachineParts, state_of, IsIn}
+use Rattle.spim_machine.specs.MachineStates.{MachineParts, state_of, IsIn}
 use Rattle.spim_machine.specs.Ends.{stores_none, stores_string, call_stores, IsResultOf}
 use Rattle.spim_machine.proofs.SameResults.{results_as}
 use Rattle.std.proofs.lemmas.Bool.{ne_eqb}

@@ -10,7 +10,7 @@ use Rattle.spim_cpu.specs.Cpu.{CpuParts, core_of, Stepped}
 use Rattle.spim_cpu.specs.declared.step.Step.TheVariants as answer
 use Rattle.spim_machine.specs.declared.halt.Halt.{Halt}
 use Rattle.spim_machine.specs.declared.halt.Halt.TheVariants as halts
-use Rattle.spim_machine.specs.Machine.{MachineParts, state_of, IsIn}
+use Rattle.spim_machine.specs.MachineStates.{MachineParts, state_of, IsIn}
 use Rattle.spim_machine.specs.Ends.{call_stores, IsResultIn, IsResultOf, Cycled}
 use Rattle.spim_machine.proofs.RunsGoOn.{is_state}
 

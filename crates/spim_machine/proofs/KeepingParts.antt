@@ -1,7 +1,7 @@
 -- What no call changes, over several calls.
 use Rattle.std.proofs.Common.{◌≡◌, ◌∙◌, refl}
 use Rattle.spim_cpu.specs.Cpu.{KeepsSegments}
-use Rattle.spim_machine.specs.Machine.{MachineParts, Keeps}
+use Rattle.spim_machine.specs.MachineStates.{MachineParts, Keeps}
 
 -- nothing is done
 pub keeps_same : (m : MachineParts) → Keeps m m

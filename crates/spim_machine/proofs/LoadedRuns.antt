@@ -7,7 +7,7 @@ use Rattle.mips_isa.specs.Bytes.{Segments}
 use Rattle.mips_isa.specs.Calls.{State}
 use Rattle.mips_isa.specs.Run.{start}
 use Rattle.spim_memory.specs.Memory.{segments}
-use Rattle.spim_machine.specs.Machine.{MachineParts, state_of, IsIn}
+use Rattle.spim_machine.specs.MachineStates.{MachineParts, state_of, IsIn}
 
 -- a machine is in the state without output that has its parts, where its sink got nothing yet
 in_own_state : (m : MachineParts) (input : List ℕ) (left held : Option (List ℕ)) → left ≡ Some input → IsIn held (state_of m input []) m left held

@@ -5,7 +5,7 @@ use Rattle.mips_isa.specs.Machine.{set_register}
 use Rattle.mips_isa.specs.Calls.{sbrk, with_v0}
 use Rattle.spim_memory.specs.Memory.{MemoryParts, segments}
 use Rattle.spim_cpu.specs.Cpu.{CpuParts, core_of}
-use Rattle.spim_machine.specs.Machine.{MachineParts, state_of}
+use Rattle.spim_machine.specs.MachineStates.{MachineParts, state_of}
 use Rattle.spim_machine.specs.Ends.{stores_none, IsResultOf}
 use Rattle.spim_machine.proofs.PartsOfMachines.{a0_of, memory_of}
 

@@ -2,7 +2,7 @@
 use Rattle.std.proofs.Common.{ℕ}
 use Rattle.spim_memory.specs.Memory.{MemoryParts}
 use Rattle.spim_cpu.specs.Cpu.{core_of}
-use Rattle.spim_machine.specs.Machine.{MachineParts}
+use Rattle.spim_machine.specs.MachineStates.{MachineParts}
 
 -- what $a0 holds
 abbrev pub a0_of : MachineParts → ℕ

@@ -9,7 +9,7 @@ use Rattle.mips_isa.specs.Calls.{State, Outcome, Trapped, string_at, a0, print, 
 use Rattle.spim_memory.specs.Memory.{MemoryParts, segments, bytes_of}
 use Rattle.spim_machine.specs.declared.halt.Halt.{Halt}
 use Rattle.spim_machine.specs.declared.halt.Halt.TheVariants as halts
-use Rattle.spim_machine.specs.Machine.{MachineParts, state_of}
+use Rattle.spim_machine.specs.MachineStates.{MachineParts, state_of}
 use Rattle.spim_machine.specs.Ends.{stores_none, IsResultOf}
 use Rattle.spim_machine.proofs.PartsOfMachines.{a0_of, memory_of}
 

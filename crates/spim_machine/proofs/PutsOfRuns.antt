@@ -13,7 +13,7 @@ use Rattle.spim_cpu.specs.Advancing.{Goes}
 use Rattle.spim_cpu.specs.declared.step.Step.TheVariants as answer
 use Rattle.spim_machine.specs.declared.halt.Halt.{Halt}
 use Rattle.spim_machine.specs.declared.halt.Halt.TheVariants as halts
-use Rattle.spim_machine.specs.Machine.{MachineParts, IsIn}
+use Rattle.spim_machine.specs.MachineStates.{MachineParts, IsIn}
 use Rattle.spim_machine.specs.Ends.{Cycled}
 use Rattle.spim_machine.specs.Counting.{counted, before_break, moved, RanTo}
 use Rattle.spim_machine.specs.Puts.{call_puts, next_puts, cycle_puts, puts_then, run_puts, PutBy, PutIf, PutWithin}

@@ -7,7 +7,7 @@ use Rattle.mips_isa.specs.Calls.{State, Outcome, Running, Taken, after_taking}
 use Rattle.spim_cpu.specs.Cpu.{core_of}
 use Rattle.spim_machine.specs.declared.halt.Halt.TheVariants.{ReadFault}
 use Rattle.spim_machine.specs.Input.{TookAll, TookSome}
-use Rattle.spim_machine.specs.Machine.{MachineParts, state_of}
+use Rattle.spim_machine.specs.MachineStates.{MachineParts, state_of}
 use Rattle.spim_machine.specs.Ends.{stores_none, with_stored, IsResultIn, IsResultOf}
 use Rattle.cool_ports.proofs.GivingBytes.{front-told}
 

@@ -11,7 +11,7 @@ use Rattle.spim_cpu.specs.Cpu.{core_of}
 use Rattle.spim_machine.specs.declared.halt.Halt.{Halt}
 use Rattle.spim_machine.specs.declared.halt.Halt.TheVariants as halts
 use Rattle.spim_machine.specs.Input.{TookAll}
-use Rattle.spim_machine.specs.Machine.{MachineParts, state_of}
+use Rattle.spim_machine.specs.MachineStates.{MachineParts, state_of}
 use Rattle.spim_machine.specs.Ends.{stores_string, IsResultOf}
 use Rattle.spim_machine.proofs.FillingBuffers.{StoredSome, with_bytes}
 use Rattle.spim_machine.proofs.SameResults.{results_as}

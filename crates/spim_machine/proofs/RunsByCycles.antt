@@ -7,7 +7,7 @@ use Rattle.spim_memory.specs.Memory.{MemoryParts, segments}
 use Rattle.spim_cpu.specs.Cpu.{KeepsSegments}
 use Rattle.spim_machine.specs.declared.halt.Halt.{Halt}
 use Rattle.spim_machine.specs.declared.halt.Halt.TheVariants as halts
-use Rattle.spim_machine.specs.Machine.{MachineParts, IsIn, HasParts, Keeps}
+use Rattle.spim_machine.specs.MachineStates.{MachineParts, IsIn, HasParts, Keeps}
 use Rattle.spim_machine.specs.Ends.{Cycled, Ran}
 use Rattle.spim_machine.specs.Counting.{executed_in}
 

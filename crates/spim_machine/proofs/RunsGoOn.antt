@@ -9,7 +9,7 @@ use Rattle.mips_isa.specs.Run.{cycle, and_then, run}
 use Rattle.mips_isa.proofs.RunsInParts.{run_sum}
 use Rattle.spim_machine.specs.declared.halt.Halt.{Halt}
 use Rattle.spim_machine.specs.declared.halt.Halt.TheVariants as halts
-use Rattle.spim_machine.specs.Machine.{MachineParts, state_of, IsIn}
+use Rattle.spim_machine.specs.MachineStates.{MachineParts, state_of, IsIn}
 use Rattle.spim_cpu.specs.Cpu.{core_of}
 use Rattle.spim_machine.specs.Ends.{Cycled, ComesToCall, Ran}
 

@@ -10,7 +10,7 @@ use Rattle.spim_cpu.specs.Cpu.{CpuParts, core_of, KeepsSegments}
 use Rattle.spim_cpu.specs.Advancing.{Goes}
 use Rattle.spim_machine.specs.declared.halt.Halt.{Halt}
 use Rattle.spim_machine.specs.declared.halt.Halt.TheVariants as halts
-use Rattle.spim_machine.specs.Machine.{MachineParts, IsIn}
+use Rattle.spim_machine.specs.MachineStates.{MachineParts, IsIn}
 use Rattle.spim_machine.specs.Ends.{Cycled}
 use Rattle.spim_machine.specs.Counting.{counted, before_break, moved, executed_in, RanTo}
 use Rattle.spim_machine.proofs.RunsGoOn.{run_next, run_both, ran_ends}

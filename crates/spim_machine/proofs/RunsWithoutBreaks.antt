@@ -5,7 +5,7 @@ use Rattle.mips_isa.specs.Calls.{State, Outcome, Running, Exited, Trapped}
 use Rattle.mips_isa.specs.Run.{cycle, and_then, run}
 use Rattle.spim_machine.specs.declared.halt.Halt.{Halt}
 use Rattle.spim_machine.specs.declared.halt.Halt.TheVariants as halts
-use Rattle.spim_machine.specs.Machine.{MachineParts}
+use Rattle.spim_machine.specs.MachineStates.{MachineParts}
 use Rattle.spim_machine.specs.Ends.{ComesToCall, Ran}
 use Rattle.spim_machine.specs.Counting.{counted, before_break, moved}
 use Rattle.spim_machine.proofs.CountsOfRuns.{moved_within}

@@ -4,7 +4,7 @@ use Rattle.std.specs.Prelude.{Result, Ok, Err}
 use Rattle.mips_isa.specs.Calls.{State, Outcome}
 use Rattle.spim_machine.specs.declared.halt.Halt.{Halt}
 use Rattle.spim_machine.specs.declared.halt.Halt.TheVariants.{Exit, Trap, StepLimit, ReadFault, WriteFault}
-use Rattle.spim_machine.specs.Machine.{MachineParts, state_of, HasParts}
+use Rattle.spim_machine.specs.MachineStates.{MachineParts, state_of, HasParts}
 use Rattle.spim_machine.specs.Ends.{MetEnd, with_stored, IsResultIn, IsResultOf}
 
 -- a result of a call that does g, and stores `others`, is one of a call that does f, and stores `stores`

@@ -6,7 +6,7 @@ use Rattle.mips_isa.specs.Run.{cycle}
 use Rattle.spim_machine.specs.declared.halt.Halt.{Halt}
 use Rattle.spim_machine.specs.declared.halt.Halt.TheVariants.{Exit, Trap, StepLimit, ReadFault, WriteFault}
 use Rattle.spim_machine.specs.declared.halt.Stopped.{Stopped}
-use Rattle.spim_machine.specs.Machine.{MachineParts}
+use Rattle.spim_machine.specs.MachineStates.{MachineParts}
 use Rattle.spim_machine.specs.Ends.{Ran}
 
 -- an instruction, the one that exits or traps included, and those after it

@@ -9,7 +9,7 @@ use Rattle.mips_isa.specs.Calls.{State, Outcome, Running, Exited, Trapped, asked
 use Rattle.mips_isa.specs.Run.{cycle, run}
 use Rattle.spim_machine.specs.declared.halt.Halt.{Halt}
 use Rattle.spim_machine.specs.declared.halt.Halt.TheVariants.{Exit, Trap, StepLimit, ReadFault, WriteFault}
-use Rattle.spim_machine.specs.Machine.{MachineParts, state_of, IsIn, HasParts}
+use Rattle.spim_machine.specs.MachineStates.{MachineParts, state_of, IsIn, HasParts}
 
 -- Which count of faults rose, of the source (s, then s') and of the sink (k, then k').
 abbrev pub Counted : Halt → ℕ → ℕ → ℕ → ℕ → Type 0

@@ -1,6 +1,6 @@
 pub mod Input
 pub mod Numbers
-pub mod Machine
+pub mod MachineStates
 pub mod Ends
 pub mod Counting
 pub mod Puts

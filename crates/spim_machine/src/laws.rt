@@ -7,7 +7,7 @@ ghost use Rattle.mips_isa.specs.Bytes.{Segments};
 ghost use Rattle.mips_isa.specs.Calls.{State};
 ghost use Rattle.mips_isa.specs.Run.{run};
 ghost use Rattle.cool_ports.specs.Taking.{Took};
-ghost use Rattle.spim_machine.specs.Machine.{MachineParts, IsIn};
+ghost use Rattle.spim_machine.specs.MachineStates.{MachineParts, IsIn};
 ghost use Rattle.spim_machine.specs.Ends.{Ran};
 ghost use Rattle.spim_machine.specs.Puts.{run_puts, output_of};
 ghost use Rattle.spim_machine.specs.declared.halt.Halt.{Halt};

@@ -6,7 +6,7 @@ ghost use Rattle.mips_isa.specs.Calls.{State};
 ghost use Rattle.mips_isa.specs.Run.{start};
 ghost use Rattle.spim_memory.specs.Memory.{segments, IsLimits};
 ghost use Rattle.cool_ports.specs.Taking.{Took, OfAnyInput};
-ghost use Rattle.spim_machine.specs.Machine.{state_of, IsIn, Keeps, halted_by};
+ghost use Rattle.spim_machine.specs.MachineStates.{state_of, IsIn, Keeps, halted_by};
 ghost use Rattle.spim_machine.specs.Ends.{Counted, CountedIf, Cycled, Ran};
 ghost use Rattle.spim_machine.specs.Counting.{RanTo};
 ghost use Rattle.spim_machine.specs.Puts.{PutBy, PutIf, PutWithin, cycle_puts, run_puts};
@@ -33,7 +33,7 @@ pub struct Machine {
 }
 
 impl Model for Machine {
-    ghost use Rattle.spim_machine.specs.Machine.{MachineParts};
+    ghost use Rattle.spim_machine.specs.MachineStates.{MachineParts};
 
     ghost Value = { MachineParts };
 

@@ -29,7 +29,7 @@ use Rattle.mips_isa.specs.{Assembly.{image_of}, Calls.{Exited, Outcome, Running,
 use Rattle.spim_debug.specs.{Debugging.{CountedBy, Debugged, StandsEarlier, debuggee}, Scripts.{commands_in, place_of}, declared.debugger.DebugEnd.{DebugEnd}}
 use Rattle.spim_debug.specs.{declared.script.DebugCommand.{DebugCommand}, declared.script.ScriptFault.{ScriptFault}, declared.script.TheConstants.{MOST_SCRIPT_BYTES}}
 use Rattle.spim_debug.specs.Notes.{state_in}
-use Rattle.spim_machine.specs.{Machine.{IsIn, MachineParts}, declared.halt.Halt.{Halt}}
+use Rattle.spim_machine.specs.{MachineStates.{IsIn, MachineParts}, declared.halt.Halt.{Halt}}
 use Rattle.spim_debug.proofs.RunsLeft.{left_between, written_between}
 use Rattle.lists.specs.Bytes.{AreBytes}
 

@@ -10,7 +10,7 @@ ghost use Rattle.spim_memory.specs.Memory.{segments, bytes_of};
 ghost use Rattle.spim_cpu.specs.Cpu.{core_of};
 ghost use Rattle.cool_ports.specs.Taking.{Took, OfAnyInput};
 ghost use Rattle.spim_machine.specs.Input.{TookAll, TookSome};
-ghost use Rattle.spim_machine.specs.Machine.{Keeps};
+ghost use Rattle.spim_machine.specs.MachineStates.{Keeps};
 ghost use Rattle.spim_machine.specs.Puts.{PutIf, call_puts, string_puts};
 ghost use Rattle.spim_machine.specs.Ends.{CountedIf, IsResultOf, stores_none, stores_string, call_stores};
 

@@ -3,7 +3,7 @@ use Rattle.std.proofs.Common.{◌≡◌, Err, rules}
 use Rattle.cool_meaning.specs.Evaluation.{value_named}
 use Rattle.cool_eval.specs.Values.{value_of}
 use Rattle.cool_eval.specs.Configurations.{env_of, frames_of}
-use Rattle.cool_eval.specs.Machine.{begun}
+use Rattle.cool_eval.specs.StackMachine.{begun}
 use Rattle.cool_eval.proofs.ErrorsEnd.{does_end}
 use Rattle.cool_eval.proofs.expression.begin_leaf.Goals as goal
 

@@ -3,7 +3,7 @@ use Rattle.std.proofs.Common.{map, ap}
 use Rattle.cool_ports.specs.SinkPuts.{seen}
 use Rattle.cool_eval.specs.Values.{value_of}
 use Rattle.cool_eval.specs.Configurations.{class_name, frame_of, frames_of, state_of}
-use Rattle.cool_eval.specs.Machine.{returned}
+use Rattle.cool_eval.specs.StackMachine.{returned}
 use Rattle.cool_eval.proofs.QuietSteps.{quiet_reaches}
 use Rattle.cool_eval.proofs.StepsOnDevices.{receiver_reaches}
 use Rattle.cool_eval.proofs.step.give.Goals as goal

@@ -3,7 +3,7 @@ use Rattle.std.proofs.Common.{◌≡◌, Err, rules}
 use Rattle.cool_meaning.specs.Evaluation.{compare}
 use Rattle.cool_eval.specs.Values.{value_of}
 use Rattle.cool_eval.specs.Configurations.{frames_of, state_of}
-use Rattle.cool_eval.specs.Machine.{negated, operated, returned}
+use Rattle.cool_eval.specs.StackMachine.{negated, operated, returned}
 use Rattle.cool_eval.proofs.ErrorsEnd.{does_end}
 use Rattle.cool_eval.proofs.step.resume_operator.Goals as goal
 

@@ -4,7 +4,7 @@ use Rattle.mips_isa.specs.Calls.{State}
 use Rattle.spim_memory.specs.Memory.{segments}
 use Rattle.spim_machine.specs.Counting.{RanTo}
 use Rattle.spim_machine.specs.Ends.{Counted}
-use Rattle.spim_machine.specs.Machine.{IsIn}
+use Rattle.spim_machine.specs.MachineStates.{IsIn}
 use Rattle.spim_machine.specs.Puts.{run_puts}
 use Rattle.spim_debug.proofs.OneReference.{number_kept, kept_by, grew_by}
 use Rattle.spim_debug.proofs.counted_run.run_counted.Goals as goal

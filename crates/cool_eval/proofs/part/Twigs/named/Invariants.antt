@@ -1,7 +1,7 @@
 use Rattle.std.proofs.Common.{◌≡◌, map, drop}
 use Rattle.cool_syntax.specs.Tree.{of_twigs}
 use Rattle.cool_syntax.specs.NodeLists.{all_trees, twig_at}
-use Rattle.cool_eval.specs.Machine.{branch_named}
+use Rattle.cool_eval.specs.StackMachine.{branch_named}
 use Rattle.cool_eval.proofs.part.Twigs.named.Given as goal
 
 abbrev pub invariant-loop-branch : goal.invariant-loop-branch

@@ -2,7 +2,7 @@
 use Rattle.std.proofs.Common.{◌≡◌, ◌-◌, length, Some, None, ap, sym, ◌∙◌, refl, arith}
 use Rattle.cool_syntax.specs.Tree.{of_twigs}
 use Rattle.cool_classes.specs.Chains.{name_of, parent_of}
-use Rattle.cool_eval.specs.Machine.{branch_named}
+use Rattle.cool_eval.specs.StackMachine.{branch_named}
 use Rattle.cool_eval.specs.Views.{taken_of}
 use Rattle.cool_eval.proofs.NearestBranches.{nearest_begins, nearest_here, nearest_next, nearest_none, nearest_past, nearest_last}
 use Rattle.cool_eval.proofs.scene.Setting.nearest.Goals as goal

@@ -2,7 +2,7 @@
 use Rattle.std.proofs.Common.{◌≡◌, suc, ◌-◌, length, Some}
 use Rattle.cool_syntax.specs.Tree.{of_twigs}
 use Rattle.cool_classes.specs.ClimbedChains.{chain}
-use Rattle.cool_eval.specs.Machine.{nearest_branch}
+use Rattle.cool_eval.specs.StackMachine.{nearest_branch}
 use Rattle.cool_eval.proofs.NearestBranches.{nearest_up}
 use Rattle.cool_eval.proofs.scene.Setting.nearest.Given as goal
 

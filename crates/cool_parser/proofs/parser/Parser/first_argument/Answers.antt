@@ -1,6 +1,6 @@
 use Rattle.std.proofs.Common.{length, sym, subst, ◌∙◌, ap}
 use Rattle.cool_syntax.specs.NodeLists.{HasPartsBelow}
-use Rattle.cool_parser.specs.Machine as machine
+use Rattle.cool_parser.specs.ParsingMachine as machine
 use Rattle.cool_parser.proofs.GoodNodes.{receiver_stands_before}
 use Rattle.cool_parser.proofs.parser.Parser.first_argument.Goals as goal
 

@@ -1,5 +1,5 @@
 use Rattle.cool_syntax.specs.declared.node.Node.TheVariants as node
-use Rattle.cool_parser.specs.Machine as machine
+use Rattle.cool_parser.specs.ParsingMachine as machine
 use Rattle.cool_parser.proofs.GoodNodes.{named_good, good_as}
 use Rattle.cool_parser.proofs.parser.Parser.identifier.Goals as goal
 

@@ -1,6 +1,6 @@
 use Rattle.std.proofs.Common.{List, refl, sym, ◌∙◌, ap, arith}
 use Rattle.cool_parser.specs.declared.item.Item.{Item}
-use Rattle.cool_parser.specs.Machine.{Context, push}
+use Rattle.cool_parser.specs.ParsingMachine.{Context, push}
 use Rattle.cool_parser.proofs.GoodNodes.{operands_stand_before, good_as, turns}
 use Rattle.cool_parser.proofs.parser.Parser.reduce.Goals as goal
 

@@ -1,6 +1,6 @@
 use Rattle.std.proofs.Common.{◌≡◌, ◌≤◌, ◌+◌, length}
 use Rattle.cool_parser.specs.declared.mode.Mode.TheVariants as mode
-use Rattle.cool_parser.specs.Machine as machine
+use Rattle.cool_parser.specs.ParsingMachine as machine
 use Rattle.cool_parser.specs.Waiting.{Good}
 use Rattle.cool_parser.proofs.parser.Parser.reduce.Given as goal
 

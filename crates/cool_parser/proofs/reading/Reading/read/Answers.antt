@@ -1,6 +1,6 @@
 use Rattle.std.proofs.Common.{◌≡◌, ◌≤◌, ◌+◌, length, drop, get_or, Some, None, IfSome, if◌then◌else◌, sym, subst, ◌∙◌, ap, arith}
 use Rattle.std.proofs.lemmas.List.{drop_all}
-use Rattle.cool_parser.specs.Machine.{State, step, outcome, start, Unexpected}
+use Rattle.cool_parser.specs.ParsingMachine.{State, step, outcome, start, Unexpected}
 use Rattle.cool_parser.specs.Waiting.{Good}
 use Rattle.cool_parser.proofs.GoodNodes.{good_step, good_start}
 use Rattle.cool_parser.proofs.RoomForNodes.{weight, IsLight, step_light}

@@ -1,6 +1,6 @@
 use Rattle.std.proofs.Common.{◌≡◌, ◌≤◌, ◌*◌, drop, Some}
 use Rattle.cool_syntax.specs.declared.place.Place.{Place}
-use Rattle.cool_parser.specs.Machine.{outcome, parsed}
+use Rattle.cool_parser.specs.ParsingMachine.{outcome, parsed}
 use Rattle.cool_parser.specs.Waiting.{Good}
 use Rattle.cool_parser.proofs.RoomForNodes.{weight}
 use Rattle.cool_parser.proofs.reading.Reading.read.Given as goal

@@ -1,4 +1,4 @@
-use Rattle.spim_machine.specs.Machine.{MachineParts}
+use Rattle.spim_machine.specs.MachineStates.{MachineParts}
 use Rattle.cool_ports.proofs.InputsInParts.{leaves_same}
 use Rattle.spim_machine.proofs.Cycles.{cycled_next, cycled_call, cycled_trap}
 use Rattle.spim_machine.proofs.PutsOfRuns.{next_put, call_put, trap_put}

@@ -1,7 +1,7 @@
 use Rattle.std.proofs.Common.{◌∙◌, ◌-◌, ℕ, refl, sym, subst, arith, Some}
 use Rattle.spim_memory.specs.Memory.{segments}
 use Rattle.cool_ports.specs.Taking.{Took}
-use Rattle.spim_machine.specs.Machine.{MachineParts, Keeps}
+use Rattle.spim_machine.specs.MachineStates.{MachineParts, Keeps}
 use Rattle.spim_machine.specs.Counting.{before_break, moved, RanTo}
 use Rattle.cool_ports.proofs.InputsInParts.{took_nothing, took_both, in_two, leaves_same}
 use Rattle.spim_machine.proofs.AdvancesAreRuns.{advanced_keeps}

@@ -2,7 +2,7 @@ use Rattle.std.proofs.Common.{◌≡◌, ◌≤◌, ◌-◌, ◌++◌, ℕ, List
 use Rattle.mips_isa.specs.Calls.{State}
 use Rattle.spim_memory.specs.Memory.{segments}
 use Rattle.cool_ports.specs.Taking.{Took, OfAnyInput}
-use Rattle.spim_machine.specs.Machine.{IsIn, Keeps}
+use Rattle.spim_machine.specs.MachineStates.{IsIn, Keeps}
 use Rattle.spim_machine.specs.Counting.{moved}
 use Rattle.spim_machine.specs.Puts.{run_puts}
 use Rattle.spim_machine.proofs.RunsUpToBreaks.{Stands}

@@ -1,5 +1,5 @@
 use Rattle.std.proofs.Common.{◌≡◌, ◌+◌, ◌<◌, arith, ap, sym, subst, ◌∙◌}
-use Rattle.spim_machine.specs.Machine.{MachineParts}
+use Rattle.spim_machine.specs.MachineStates.{MachineParts}
 use Rattle.spim_machine.proofs.PartsOfMachines.{a0_of, memory_of}
 use Rattle.spim_machine.proofs.MovingBreak.{Moves, break_moved, break_stayed}
 use Rattle.spim_machine.proofs.machine.Machine.sbrk.Goals as goal

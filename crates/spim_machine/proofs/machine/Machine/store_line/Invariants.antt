@@ -1,7 +1,7 @@
 use Rattle.std.proofs.Common.{◌≡◌}
 use Rattle.spim_cpu.specs.Cpu.{core_of}
 use Rattle.cool_ports.specs.Taking.{Took, OfAnyInput}
-use Rattle.spim_machine.specs.Machine.{Keeps}
+use Rattle.spim_machine.specs.MachineStates.{Keeps}
 use Rattle.spim_machine.proofs.FillingBuffers.{StoredUpTo}
 use Rattle.spim_machine.proofs.machine.Machine.store_line.Given as goal
 
