@@ -49,6 +49,7 @@ module _ (p p' : List Class) (typed : IsTypedTable p) (same_tables : SameTables 
     (within : c.0 < length p) where
   abbrev IsOf : Ty → World → Value → Type 0
   IsOf t w v = Fits p w v (class_meant k t)
+
   -- New objects
 
   new_keeps : (w : World) (scope : List Binding) (env : Environment) (name : List ℕ) (t : Ty) → Scene p w c k self scope env → Denotes p name t
