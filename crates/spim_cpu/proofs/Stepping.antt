@@ -2,7 +2,7 @@
 use Rattle.std.proofs.Common.{◌≡◌, ◌∙◌, refl, sym, ap, subst, ℕ, ◌+◌, ◌-◌, ◌*◌, ◌/◌, ◌%◌, ◌<◌, ◌≤◌, Bool, true, false, List, length, get_or, arith}
 use Rattle.std.specs.Prelude.{Option, Ok, Err, IfSome, ◌==◌, if◌then◌else◌, not}
 use Rattle.mips_isa.specs.declared.instr.Instr.{Instr}
-use Rattle.mips_isa.specs.declared.address_map.TheConstants.{TEXT_START, DATA_START}
+use Rattle.mips_isa.specs.declared.address_map.TheConstants.{TEXT_START}
 use Rattle.mips_isa.specs.Bytes.{Segments, lies}
 use Rattle.mips_isa.specs.declared.trap.TrapKind.TheVariants as kind
 use Rattle.mips_isa.specs.Words.{InRange}
@@ -15,7 +15,7 @@ use Rattle.spim_memory.specs.declared.fault.MemFault.{MemFault}
 use Rattle.spim_memory.specs.declared.fault.MemFault.TheVariants.{Unaligned, BadAddress}
 use Rattle.spim_memory.proofs.DecodedInRange.{in_range}
 use Rattle.spim_cpu.specs.Cpu.{CpuParts, core_of, Stepped}
-use Rattle.spim_cpu.specs.Advancing.{at, word_index}
+use Rattle.spim_cpu.specs.Advancing.{at, word_index, IsInText}
 use Rattle.spim_cpu.specs.declared.step.Step.TheVariants as answer
 
 -- where an access answers a value, it is not refused
@@ -30,12 +30,13 @@ fetched text b s o found =
     let both = not_refused (s.pc % 4 == 0) (lies TEXT_START b.text_end s.pc 4) (Unaligned s.pc) (BadAddress s.pc) (decoded (word_of_text text s.pc)) o (Stop (record { kind = kind.Unaligned; address = s.pc; pc = s.pc })) (Stop (record { kind = kind.BadAddress; address = s.pc; pc = s.pc })) (act_or_none b (decoded (word_of_text text s.pc)) s) found in
     both.1 ∙ ap (λ i. act_or_none b i s) both.0
 
--- the step at pc, by what was found in a memory that is the processor's
-pub next_step : (now : CpuParts) (m : MemoryParts) (o : Option Instr) (pc : ℕ) (n : Next) → m ≡ now.memory → pc ≡ now.pc → accessed 4 (lies TEXT_START (segments m).text_end pc 4) pc (decoded (word_of_text m.text pc)) ≡ Ok o
-    → act_or_none (segments now.memory) o (at pc (core_of now)) ≡ n → step now.memory.text (segments now.memory) (core_of now) ≡ n
-next_step now m o pc n same_memory same found acts =
-    let here = subst (λ (q : MemoryParts). accessed 4 (lies TEXT_START (segments q).text_end pc 4) pc (decoded (word_of_text q.text pc)) ≡ Ok o) same_memory found in
-    sym (ap (λ a. step now.memory.text (segments now.memory) (at a (core_of now))) same) ∙ fetched now.memory.text (segments now.memory) (at pc (core_of now)) o here ∙ acts
+-- the step at pc, by what was found there in a memory that is the processor's
+pub next_step : (now : CpuParts) (m : MemoryParts) (o : Option Instr) (pc here : ℕ) (n : Next) → m ≡ now.memory → pc ≡ now.pc → here ≡ pc → accessed 4 (lies TEXT_START (segments m).text_end pc 4) pc (decoded (word_of_text m.text pc)) ≡ Ok o
+    → act_or_none (segments now.memory) o (at here (core_of now)) ≡ n → step now.memory.text (segments now.memory) (core_of now) ≡ n
+next_step now m o pc here n same_memory same is_here found acts =
+    let there = subst (λ (q : MemoryParts). accessed 4 (lies TEXT_START (segments q).text_end pc 4) pc (decoded (word_of_text q.text pc)) ≡ Ok o) same_memory found in
+    sym (ap (λ a. step now.memory.text (segments now.memory) (at a (core_of now))) same) ∙ fetched now.memory.text (segments now.memory) (at pc (core_of now)) o there
+    ∙ sym (ap (λ a. act_or_none (segments now.memory) o (at a (core_of now))) is_here) ∙ acts
 
 -- the operation at the address of a word is that of the word
 operation_is : (text : List ℕ) (all : List Operation) (pc i : ℕ) (op : Operation) → AreOf all text → length all ≤ 66060288 → pc < 4294967296 → i ≡ word_index pc
@@ -62,8 +63,12 @@ pub operation_in_range : (t : List ℕ) (all : List Operation) (pc i : ℕ) (op 
 operation_in_range t all pc i op are few fits is within found =
     in_range (word_of_text t pc) (instr_of op) (operation_is t all pc i op are few fits is within found).1
 
-pub in_text : (all : List Operation) (pc i : ℕ) → length all ≤ 66060288 → pc < 4294967296 → i ≡ word_index pc → i < length all → pc < DATA_START
-in_text all pc i few fits is within = omega (arith, is, within, few, fits)
+pub in_text : (all : List Operation) (pc i : ℕ) → length all ≤ 66060288 → pc < 4294967296 → i ≡ word_index pc → i < length all → IsInText pc
+in_text all pc i few fits is within = record {
+  even = omega (arith, is, within, few, fits);
+  from = omega (arith, is, within, few, fits);
+  to = omega (arith, is, within, few, fits);
+}
 
 -- what the definition does next, by a step that leads on, and by one that is a call
 led_on : (n : Next) (core : Core) (old new : CpuParts) → n ≡ On core → core_of new ≡ core → Stepped n answer.Next old new
@@ -81,10 +86,11 @@ called (On other) core old new is same = absurd cc
 called (Stop trap) core old new is same = absurd cc
 
 -- a step to the pc that an operation answers
-pub stepped_on : (n : Next) (after : ℕ) (old new : CpuParts) (l : List ℕ) (hi lo pc : ℕ) (m : MemoryParts)
-    → record { registers = l; hi = hi; lo = lo; pc = pc; memory = m } ≡ new → n ≡ On (at after (core_of new)) → Stepped n answer.Next old (record { registers = l; hi = hi; lo = lo; pc = after; memory = m })
-stepped_on n after old new l hi lo pc m same is =
-    led_on n (at after (core_of new)) old (record { registers = l; hi = hi; lo = lo; pc = after; memory = m }) is (ap (λ (c : CpuParts). at after (core_of c)) same)
+pub stepped_on : (n : Next) (after there : ℕ) (old new : CpuParts) (l : List ℕ) (hi lo pc : ℕ) (m : MemoryParts)
+    → record { registers = l; hi = hi; lo = lo; pc = pc; memory = m } ≡ new → there ≡ after → n ≡ On (at after (core_of new)) → Stepped n answer.Next old (record { registers = l; hi = hi; lo = lo; pc = there; memory = m })
+stepped_on n after there old new l hi lo pc m same is_there is =
+    led_on n (at after (core_of new)) old (record { registers = l; hi = hi; lo = lo; pc = there; memory = m }) is
+    (ap (λ a. at a (core_of (record { registers = l; hi = hi; lo = lo; pc = pc; memory = m }))) is_there ∙ ap (λ (c : CpuParts). at after (core_of c)) same)
 
 -- a system call
 pub stepped_call : (n : Next) (old new : CpuParts) (l : List ℕ) (hi lo pc : ℕ) (m : MemoryParts)

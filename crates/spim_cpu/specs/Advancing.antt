@@ -1,6 +1,6 @@
 -- Operations one after another: what one leads to, and where so many lead.
-use Rattle.std.specs.Prelude.{◌≡◌, refl, ℕ, zero, suc, ◌+◌, ◌-◌, ◌*◌, ◌/◌, ◌%◌, nat_lt, not, ◌||◌, Bool, true, false, List, [], ◌∷◌, get_or, Option, Some, None, Result, Ok, Err}
-use Rattle.mips_isa.specs.declared.address_map.TheConstants.{TEXT_START}
+use Rattle.std.specs.Prelude.{◌≡◌, refl, ℕ, zero, suc, ◌+◌, ◌-◌, ◌*◌, ◌/◌, ◌%◌, ◌<◌, ◌≤◌, nat_lt, not, ◌||◌, Bool, true, false, List, [], ◌∷◌, get_or, Option, Some, None, Result, Ok, Err}
+use Rattle.mips_isa.specs.declared.address_map.TheConstants.{TEXT_START, DATA_START}
 use Rattle.mips_isa.specs.Bytes.{Segments}
 use Rattle.mips_isa.specs.Machine.{Core, Next, On, Call, Stop, step}
 use Rattle.spim_cpu.specs.Cpu.{CpuParts, core_of}
@@ -33,6 +33,22 @@ second_word = refl
 
 no_word : word_index 0x00400006 ≡ 0x80000001
 no_word = refl
+
+-- The address of the word of an index, and back from each index: turned to the left by two, from the text's start on.
+abbrev pub address_of : ℕ → ℕ
+address_of i = (i % 1073741824 * 4 + i / 1073741824 + TEXT_START) % 4294967296
+
+of_second_word : address_of 1 ≡ 0x00400004
+of_second_word = refl
+
+of_no_word : address_of 0x80000001 ≡ 0x00400006
+of_no_word = refl
+
+-- an address at which a word of a text may be
+pub record IsInText (pc : ℕ) : Type 0 where
+  pub even : pc % 4 ≡ 0
+  pub from : TEXT_START ≤ pc
+  pub to : pc < DATA_START
 
 -- whether the word at an address has a mark that is set, of the marks of the words from the first one on
 abbrev pub is_marked : List Bool → ℕ → Bool

@@ -170,14 +170,6 @@ pub fn division(a: u32, b: u32) -> HiLo
     }
 }
 
-/// The address to which a taken branch at `pc` goes: `imm` instructions after the next one.
-pub fn branch_target(pc: u32, imm: i32) -> u32
-    ensures { result ≡ machine.wrap (pc + 4 + 4 * bits_of imm) }
-{
-    pc.wrapping_add(4)
-        .wrapping_add(imm.cast_unsigned().wrapping_mul(4))
-}
-
 /// The address to which a jump at `pc` goes: it keeps the upper four bits of the next instruction's address.
 pub fn jump_target(pc: u32, index: u32) -> u32
     requires index { index < 67108864 }

@@ -11,6 +11,7 @@ ghost use Rattle.spim_cpu.specs.Advancing.{Goes, word_index, is_past, is_stop};
 mod access;
 mod operate;
 
+use crate::program_counter::ProgramCounter;
 use crate::{Breaks, Step};
 use access::trap_of;
 use mips_isa::register::{GP, S6, S7, SP, ZERO};
@@ -121,9 +122,9 @@ impl Cpu {
             Ok(operation) => operation,
             Err(fault) => return Step::Trap(trap_of(fault, pc)),
         };
-        match self.operate::<()>(&operation, pc) {
+        match self.operate::<()>(&operation, ProgramCounter::at(pc)) {
             Ok(next) => {
-                self.pc = next;
+                self.pc = next.address();
                 Step::Next
             }
             Err(Step::Call) => {
@@ -160,10 +161,10 @@ impl Cpu {
         ensures segments { KeepsSegments self.old.memory self.new.memory }
     {
         let operations = self.memory.take_operations();
-        let mut pc = self.pc;
+        let mut pc = ProgramCounter::at(self.pc);
         let mut left = most;
         while left > 0 {
-            let Some(operation) = operations.get(word_index(pc)) else {
+            let Some(operation) = operations.get(pc.index()) else {
                 break;
             };
             let Ok(next) = self.operate::<Freely>(operation, pc) else {
@@ -172,7 +173,7 @@ impl Cpu {
             pc = next;
             left -= 1;
         }
-        self.pc = pc;
+        self.pc = pc.address();
         self.memory.put_operations(operations);
         most - left
     }
@@ -189,10 +190,10 @@ impl Cpu {
     {
         let operations = self.memory.take_operations();
         let marked = operations.len().min(marks.len());
-        let mut pc = self.pc;
+        let mut pc = ProgramCounter::at(self.pc);
         let mut left = most;
         while left > 0 {
-            let index = word_index(pc);
+            let index = pc.index();
             if index >= marked || marks[index] {
                 break;
             }
@@ -202,7 +203,7 @@ impl Cpu {
             pc = next;
             left -= 1;
         }
-        self.pc = pc;
+        self.pc = pc.address();
         self.memory.put_operations(operations);
         most - left
     }

@@ -7,6 +7,7 @@
 mod arithmetic;
 mod breaks;
 mod cpu;
+mod program_counter;
 mod step;
 
 pub use breaks::{Breaks, NoBreaks, contains};

@@ -5,11 +5,12 @@ ghost use Rattle.mips_isa.specs.Bytes.{writable, set_byte};
 ghost use Rattle.mips_isa.specs.Machine as machine;
 ghost use Rattle.spim_memory.specs.Memory.{segments, accessed};
 ghost use Rattle.spim_cpu.specs.Cpu.{core_of, trap_of, KeepsSegments, put_loaded};
-ghost use Rattle.spim_cpu.specs.Advancing.{Acted, at};
+ghost use Rattle.spim_cpu.specs.Advancing.{Acted, IsInText, at};
 
 use crate::arithmetic::{signed_byte, signed_half};
+use crate::program_counter::ProgramCounter;
 use crate::{Cpu, Step};
-use mips_isa::{DATA_START, MemOp, Trap, TrapKind};
+use mips_isa::{MemOp, Trap, TrapKind};
 use spim_memory::MemFault;
 
 /// The trap of an access that may not be, by the instruction at `pc`.
@@ -43,9 +44,15 @@ impl Cpu {
 
     /// A load into a register, or a store of one, at an address.
     #[inline(always)]
-    pub(super) fn access(&mut self, op: MemOp, r: u8, a: u32, pc: u32) -> Result<u32, Step>
+    pub(super) fn access(
+        &mut self,
+        op: MemOp,
+        r: u8,
+        a: u32,
+        pc: ProgramCounter,
+    ) -> Result<ProgramCounter, Step>
         requires r { r < 32 }
-        requires pc { pc < DATA_START }
+        requires pc { IsInText pc }
         ensures acted { Acted pc (machine.mem (segments self.old.memory) op (at pc (core_of self.old)) r a) result self.old self.new }
         ensures segments { KeepsSegments self.old.memory self.new.memory }
     {
@@ -77,57 +84,62 @@ impl Cpu {
     }
 
     #[inline(always)]
-    fn put_loaded(&mut self, r: u8, loaded: Result<u32, MemFault>, pc: u32) -> Result<u32, Step>
+    fn put_loaded(
+        &mut self,
+        r: u8,
+        loaded: Result<u32, MemFault>,
+        pc: ProgramCounter,
+    ) -> Result<ProgramCounter, Step>
         requires r { r < 32 }
-        requires pc { pc < DATA_START }
+        requires pc { IsInText pc }
         ensures acted { Acted pc (put_loaded (at pc (core_of self.old)) r loaded) result self.old self.new }
         ensures segments { KeepsSegments self.old.memory self.new.memory }
     {
         match loaded {
             Ok(v) => self.put(r, v, pc),
-            Err(fault) => Err(Step::Trap(trap_of(fault, pc))),
+            Err(fault) => Err(Step::Trap(trap_of(fault, pc.address()))),
         }
     }
 
     #[inline(always)]
-    fn execute_sb(&mut self, r: u8, a: u32, pc: u32) -> Result<u32, Step>
+    fn execute_sb(&mut self, r: u8, a: u32, pc: ProgramCounter) -> Result<ProgramCounter, Step>
         requires r { r < 32 }
-        requires pc { pc < DATA_START }
+        requires pc { IsInText pc }
         ensures acted { Acted pc (machine.mem (segments self.old.memory) MemOp.Sb (at pc (core_of self.old)) r a) result self.old self.new }
         ensures segments { KeepsSegments self.old.memory self.new.memory }
     {
         let v = self.read(r);
         match self.memory.store_byte(a, (v & 0xff) as u8) {
-            Ok(()) => Ok(pc + 4),
-            Err(fault) => Err(Step::Trap(trap_of(fault, pc))),
+            Ok(()) => Ok(pc.next()),
+            Err(fault) => Err(Step::Trap(trap_of(fault, pc.address()))),
         }
     }
 
     #[inline(always)]
-    fn execute_sh(&mut self, r: u8, a: u32, pc: u32) -> Result<u32, Step>
+    fn execute_sh(&mut self, r: u8, a: u32, pc: ProgramCounter) -> Result<ProgramCounter, Step>
         requires r { r < 32 }
-        requires pc { pc < DATA_START }
+        requires pc { IsInText pc }
         ensures acted { Acted pc (machine.mem (segments self.old.memory) MemOp.Sh (at pc (core_of self.old)) r a) result self.old self.new }
         ensures segments { KeepsSegments self.old.memory self.new.memory }
     {
         let v = self.read(r);
         match self.memory.store_half(a, (v & 0xffff) as u16) {
-            Ok(()) => Ok(pc + 4),
-            Err(fault) => Err(Step::Trap(trap_of(fault, pc))),
+            Ok(()) => Ok(pc.next()),
+            Err(fault) => Err(Step::Trap(trap_of(fault, pc.address()))),
         }
     }
 
     #[inline(always)]
-    fn execute_sw(&mut self, r: u8, a: u32, pc: u32) -> Result<u32, Step>
+    fn execute_sw(&mut self, r: u8, a: u32, pc: ProgramCounter) -> Result<ProgramCounter, Step>
         requires r { r < 32 }
-        requires pc { pc < DATA_START }
+        requires pc { IsInText pc }
         ensures acted { Acted pc (machine.mem (segments self.old.memory) MemOp.Sw (at pc (core_of self.old)) r a) result self.old self.new }
         ensures segments { KeepsSegments self.old.memory self.new.memory }
     {
         let v = self.read(r);
         match self.memory.store_word(a, v) {
-            Ok(()) => Ok(pc + 4),
-            Err(fault) => Err(Step::Trap(trap_of(fault, pc))),
+            Ok(()) => Ok(pc.next()),
+            Err(fault) => Err(Step::Trap(trap_of(fault, pc.address()))),
         }
     }
 }

@@ -7,17 +7,17 @@ ghost use Rattle.mips_isa.specs.Machine as machine;
 ghost use Rattle.spim_memory.specs.Memory.{segments};
 ghost use Rattle.spim_memory.specs.Operations.{instr_of};
 ghost use Rattle.spim_cpu.specs.Cpu.{core_of, KeepsSegments, moved_to};
-ghost use Rattle.spim_cpu.specs.Advancing.{Acted, at};
+ghost use Rattle.spim_cpu.specs.Advancing.{Acted, IsInText, at};
 
 use crate::arithmetic::{
-    branch_target, division, imm_result, jump_target, one_result, place_of_access, product,
-    shift_result, signed_division, signed_product, three_result, two_result,
+    division, imm_result, one_result, place_of_access, product, shift_result, signed_division,
+    signed_product, three_result, two_result,
 };
+use crate::program_counter::ProgramCounter;
 use crate::{Cpu, Step};
 use mips_isa::register::RA;
 use mips_isa::{
-    DATA_START, FromOp, ImmOp, MemOp, MulDivOp, OneOp, ShiftOp, ThreeOp, ToOp, Trap, TrapKind,
-    TwoOp,
+    FromOp, ImmOp, MemOp, MulDivOp, OneOp, ShiftOp, ThreeOp, ToOp, Trap, TrapKind, TwoOp,
 };
 use spim_memory::Operation;
 
@@ -27,17 +27,21 @@ impl Cpu {
     /// One case for each operation of the instruction table. `C` names the caller alone, so that each instance has just one: that of a
     /// loop of `advance` is compiled into it, and its answers stay in the processor's registers.
     #[inline(always)]
-    pub(super) fn operate<C>(&mut self, operation: &Operation, pc: u32) -> Result<u32, Step>
+    pub(super) fn operate<C>(
+        &mut self,
+        operation: &Operation,
+        pc: ProgramCounter,
+    ) -> Result<ProgramCounter, Step>
         requires range { IfSome (instr_of operation.now) InRange }
-        requires pc { pc < DATA_START }
+        requires pc { IsInText pc }
         ensures acted { Acted pc (machine.act_or_none (segments self.old.memory) (instr_of operation.now) (at pc (core_of self.old))) result self.old self.new }
         ensures segments { KeepsSegments self.old.memory self.new.memory }
     {
         match *operation {
             Operation::Unknown => Err(Step::Trap(Trap {
                 kind: TrapKind::NoInstruction,
-                address: pc,
-                pc,
+                address: pc.address(),
+                pc: pc.address(),
             })),
             Operation::Add { rd, rs, rt } => self.put_or_overflow(
                 rd,
@@ -119,8 +123,12 @@ impl Cpu {
                 shift_result(ShiftOp::Sra, self.read(rt), self.read(rs) % 32),
                 pc,
             ),
-            Operation::Jr { rs } => Ok(self.read(rs)),
-            Operation::Jalr { rd, rs } => self.go_with_return(rd, self.read(rs), pc),
+            Operation::Jr { rs } => Ok(ProgramCounter::at(self.read(rs))),
+            Operation::Jalr { rd, rs } => self.go_with_return(
+                rd,
+                ProgramCounter::at(self.read(rs)),
+                pc,
+            ),
             Operation::Syscall => Err(Step::Call),
             Operation::Mfhi { rd } => self.move_from(FromOp::Mfhi, rd, pc),
             Operation::Mflo { rd } => self.move_from(FromOp::Mflo, rd, pc),
@@ -216,8 +224,8 @@ impl Cpu {
                 i32::from(imm),
                 pc,
             ),
-            Operation::J { index } => Ok(jump_target(pc, index)),
-            Operation::Jal { index } => self.go_with_return(RA as u8, jump_target(pc, index), pc),
+            Operation::J { index } => Ok(pc.jump_target(index)),
+            Operation::Jal { index } => self.go_with_return(RA as u8, pc.jump_target(index), pc),
             Operation::Lb { rt, rs, imm } => self.access(
                 MemOp::Lb,
                 rt,
@@ -280,14 +288,14 @@ impl Cpu {
 
     /// Puts a result, and goes on. `$zero` is written, and then is 0 again.
     #[inline(always)]
-    pub(super) fn put(&mut self, r: u8, v: u32, pc: u32) -> Result<u32, Step>
+    pub(super) fn put(&mut self, r: u8, v: u32, pc: ProgramCounter) -> Result<ProgramCounter, Step>
         requires r { r < 32 }
-        requires pc { pc < DATA_START }
+        requires pc { IsInText pc }
         ensures acted { Acted pc (machine.put (at pc (core_of self.old)) r v) result self.old self.new }
         ensures segments { KeepsSegments self.old.memory self.new.memory }
     {
         self.write(r, v);
-        Ok(pc + 4)
+        Ok(pc.next())
     }
 
     /// Puts a number into a register. `$zero` is written, and then is 0 again.
@@ -302,9 +310,14 @@ impl Cpu {
     }
 
     #[inline(always)]
-    fn put_or_overflow(&mut self, r: u8, answer: Option<u32>, pc: u32) -> Result<u32, Step>
+    fn put_or_overflow(
+        &mut self,
+        r: u8,
+        answer: Option<u32>,
+        pc: ProgramCounter,
+    ) -> Result<ProgramCounter, Step>
         requires r { r < 32 }
-        requires pc { pc < DATA_START }
+        requires pc { IsInText pc }
         ensures acted { Acted pc (machine.put_or_overflow (at pc (core_of self.old)) r answer) result self.old self.new }
         ensures segments { KeepsSegments self.old.memory self.new.memory }
     {
@@ -312,40 +325,45 @@ impl Cpu {
             Some(v) => self.put(r, v, pc),
             None => Err(Step::Trap(Trap {
                 kind: TrapKind::Overflow,
-                address: pc,
-                pc,
+                address: pc.address(),
+                pc: pc.address(),
             })),
         }
     }
 
     #[inline(always)]
-    fn go_with_return(&mut self, r: u8, a: u32, pc: u32) -> Result<u32, Step>
+    fn go_with_return(
+        &mut self,
+        r: u8,
+        a: ProgramCounter,
+        pc: ProgramCounter,
+    ) -> Result<ProgramCounter, Step>
         requires r { r < 32 }
-        requires pc { pc < DATA_START }
+        requires pc { IsInText pc }
         ensures acted { Acted pc (machine.go_to_with_return (at pc (core_of self.old)) r a) result self.old self.new }
         ensures segments { KeepsSegments self.old.memory self.new.memory }
     {
-        self.write(r, pc + 4);
+        self.write(r, pc.next().address());
         Ok(a)
     }
 
     #[inline(always)]
-    fn branch(&mut self, taken: bool, imm: i32, pc: u32) -> Result<u32, Step>
-        requires { pc < DATA_START }
+    fn branch(&mut self, taken: bool, imm: i32, pc: ProgramCounter) -> Result<ProgramCounter, Step>
+        requires { IsInText pc }
         ensures acted { Acted pc (machine.branch (at pc (core_of self.old)) taken imm) result self.old self.new }
         ensures segments { KeepsSegments self.old.memory self.new.memory }
     {
         if taken {
-            Ok(branch_target(pc, imm))
+            Ok(pc.branch_target(imm))
         } else {
-            Ok(pc + 4)
+            Ok(pc.next())
         }
     }
 
     #[inline(always)]
-    fn move_from(&mut self, op: FromOp, r: u8, pc: u32) -> Result<u32, Step>
+    fn move_from(&mut self, op: FromOp, r: u8, pc: ProgramCounter) -> Result<ProgramCounter, Step>
         requires r { r < 32 }
-        requires pc { pc < DATA_START }
+        requires pc { IsInText pc }
         ensures acted { Acted pc (machine.act (segments self.old.memory) (instr.MoveFrom op r) (at pc (core_of self.old))) result self.old self.new }
         ensures segments { KeepsSegments self.old.memory self.new.memory }
     {
@@ -356,19 +374,19 @@ impl Cpu {
     }
 
     #[inline(always)]
-    fn put_hi_lo(&mut self, hi: u32, lo: u32, pc: u32) -> Result<u32, Step>
-        requires { pc < DATA_START }
+    fn put_hi_lo(&mut self, hi: u32, lo: u32, pc: ProgramCounter) -> Result<ProgramCounter, Step>
+        requires { IsInText pc }
         ensures acted { Acted pc (machine.put_hi_lo (at pc (core_of self.old)) hi lo) result self.old self.new }
         ensures segments { KeepsSegments self.old.memory self.new.memory }
     {
         self.hi = hi;
         self.lo = lo;
-        Ok(pc + 4)
+        Ok(pc.next())
     }
 
     #[inline(always)]
-    fn move_to(&mut self, op: ToOp, v: u32, pc: u32) -> Result<u32, Step>
-        requires { pc < DATA_START }
+    fn move_to(&mut self, op: ToOp, v: u32, pc: ProgramCounter) -> Result<ProgramCounter, Step>
+        requires { IsInText pc }
         ensures acted { Acted pc (moved_to op (at pc (core_of self.old)) v) result self.old self.new }
         ensures segments { KeepsSegments self.old.memory self.new.memory }
     {
@@ -380,8 +398,14 @@ impl Cpu {
 
     /// A divisor 0 leaves HI and LO.
     #[inline(always)]
-    fn mul_div(&mut self, op: MulDivOp, a: u32, b: u32, pc: u32) -> Result<u32, Step>
-        requires { pc < DATA_START }
+    fn mul_div(
+        &mut self,
+        op: MulDivOp,
+        a: u32,
+        b: u32,
+        pc: ProgramCounter,
+    ) -> Result<ProgramCounter, Step>
+        requires { IsInText pc }
         ensures acted { Acted pc (machine.mul_div op (at pc (core_of self.old)) a b) result self.old self.new }
         ensures segments { KeepsSegments self.old.memory self.new.memory }
     {

@@ -18,13 +18,13 @@ operate-requires-clause-range c =
     let same = sym c.deref.ensures.value in
     let are = subst (λ (all : List Operation). AreOf all c.self.inside.memory.text) same taken.operations in
     let few = subst (λ (all : List Operation). length all ≤ 66060288) same taken.few in
-    operation_in_range c.self.inside.memory.text c.deref.result.now c.loop-left.pc c.word_index.result c.in-Some.operation.now are few c.word_index.ensures.fits c.word_index.ensures.index found.0 found.1
+    operation_in_range c.self.inside.memory.text c.deref.result.now c.loop-left.pc c.index.result c.in-Some.operation.now are few c.index.ensures.fits c.index.ensures.index found.0 found.1
 
 pub operate-requires-clause-pc : goal.operate-requires-clause-pc
 operate-requires-clause-pc c =
     let taken = c.take_operations-operations.ensures in
     let few = subst (λ (all : List Operation). length all ≤ 66060288) (sym c.deref.ensures.value) taken.few in
-    in_text c.deref.result.now c.loop-left.pc c.word_index.result few c.word_index.ensures.fits c.word_index.ensures.index c.in-Some.ensures.lookup.3.0
+    in_text c.deref.result.now c.loop-left.pc c.index.result few c.index.ensures.fits c.index.ensures.index c.in-Some.ensures.lookup.3.0
 
 pub loop-left-preserved : goal.loop-left-preserved
 loop-left-preserved c =
@@ -38,10 +38,10 @@ loop-left-preserved c =
     let pc = c.loop-left.pc in
     let core = core_of c.loop-left.self in
     let next = at c.in-Ok.next (core_of c.operate.new.self) in
-    let steps = steps_by c.args.self.now.memory c.self.inside.memory.text c.deref.result.now pc c.word_index.result core c.in-Some.operation.now are text few c.word_index.ensures.fits c.word_index.ensures.index found.0 found.1 in
+    let steps = steps_by c.args.self.now.memory c.self.inside.memory.text c.deref.result.now pc c.index.result core c.in-Some.operation.now are text few c.index.ensures.fits c.index.ensures.index found.0 found.1 in
     let acted = subst (λ (b : Segments). act_or_none b (instr_of c.in-Some.operation.now) (at pc core) ≡ On next) i.keeps.segments c.in-Ok.ensures.acted in
     record {
-      goes = goes_on is_past c.args.self.now.memory.text (segments c.args.self.now.memory) c.args.most c.loop-left.left (core_of c.args.self.now) (at pc core) next i.within c.loop-left-test.true i.goes (not_past pc c.word_index.ensures.fits) (steps ∙ acted);
+      goes = goes_on is_past c.args.self.now.memory.text (segments c.args.self.now.memory) c.args.most c.loop-left.left (core_of c.args.self.now) (at pc core) next i.within c.loop-left-test.true i.goes (not_past pc c.index.ensures.fits) (steps ∙ acted);
       keeps = record { text = c.in-Ok.ensures.segments.text ∙ i.keeps.text; segments = c.in-Ok.ensures.segments.segments ∙ i.keeps.segments };
       within = omega (arith, i.within);
     }
