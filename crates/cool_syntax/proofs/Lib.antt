@@ -1,4 +1,5 @@
 pub mod ComparingLists
+pub mod ComparingShortNames
 pub mod ParsedTreesAreWritable
 pub mod PartsStandBefore
 pub mod TreesAtNumbers

@@ -1,6 +1,6 @@
 //! Names and string constants: bytes of their own, which contracts see as lists.
 
-ghost use Rattle.std.specs.Prelude.{◌≡◌, ◌≤◌, ◌↔◌, length, IfOk, IsTrue};
+ghost use Rattle.std.specs.Prelude.{◌≡◌, ◌≤◌, ◌↔◌, length, bytes_eq, IfOk, IsTrue};
 ghost use Rattle.cool_syntax.specs.Spellings.{IsSpelled, spelled};
 ghost use Rattle.cool_syntax.specs.declared.text.TheConstants.{MOST_SHORT_NAME};
 
@@ -119,13 +119,30 @@ impl Name {
             Spelling::Long(bytes) => bytes.as_slice(),
         }
     }
+
+    /// Whether this is the other name: two short ones are compared as a few words, at once.
+    #[inline(always)]
+    pub fn is(&self, other: &Name) -> bool
+        ensures { result ≡ bytes_eq self.now other.now }
+    {
+        match (&self.spelling, &other.spelling) {
+            (
+                Spelling::Short { count, bytes },
+                Spelling::Short {
+                    count: other_count,
+                    bytes: other_bytes,
+                },
+            ) => count == other_count && bytes == other_bytes,
+            _ => self.as_slice() == other.as_slice(),
+        }
+    }
 }
 
 /// Whether two names are one.
 pub fn same_name(a: &Name, b: &Name) -> bool
     ensures same { IsTrue result ↔ (a.now ≡ b.now) }
 {
-    a.as_slice() == b.as_slice()
+    a.is(b)
 }
 
 /// A name of few bytes.
