@@ -132,7 +132,7 @@ impl Name {
                     count: other_count,
                     bytes: other_bytes,
                 },
-            ) => count == other_count && bytes == other_bytes,
+            ) => count == other_count && same_room(bytes, other_bytes),
             _ => self.as_slice() == other.as_slice(),
         }
     }
@@ -143,6 +143,21 @@ pub fn same_name(a: &Name, b: &Name) -> bool
     ensures same { IsTrue result ↔ (a.now ≡ b.now) }
 {
     a.is(b)
+}
+
+/// Whether two rooms hold the same, word by word: as slices of some length they would be compared by a call.
+#[inline(always)]
+fn same_room(a: &[u8; MOST_SHORT_NAME], b: &[u8; MOST_SHORT_NAME]) -> bool
+    ensures { result ≡ bytes_eq a.now b.now }
+{
+    let fronts = (a.first_chunk::<8>(), b.first_chunk::<8>());
+    let backs = (a.last_chunk::<6>(), b.last_chunk::<6>());
+    match (fronts, backs) {
+        ((Some(a_front), Some(b_front)), (Some(a_back), Some(b_back))) => {
+            a_front == b_front && a_back == b_back
+        }
+        _ => a == b,
+    }
 }
 
 /// A name of few bytes.

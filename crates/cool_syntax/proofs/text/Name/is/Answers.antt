@@ -20,7 +20,7 @@ returns-then-count-other_count c =
     let rest : drop n xs ≡ drop n ys = a.2 ∙ ap (λ (i : ℕ). replicate (MOST_SHORT_NAME - i) 0) k ∙ sym b.2 ∙ ap (λ (i : ℕ). drop i ys) (sym k) in
     let here : take n xs ≡ c.args.self.now = ap spelled (sym c.in-Short-Short.is-0) ∙ c.self.view_is in
     let there : take n ys ≡ c.args.other.now = ap (λ (i : ℕ). take i ys) k ∙ ap spelled (sym c.in-Short-Short.is-1) ∙ c.other.view_is in
-    c.eq.ensures ∙ one_count n xs ys rest ∙ ap (λ (zs : List ℕ). bytes_eq zs (take n ys)) here ∙ ap (bytes_eq c.args.self.now) there
+    c.same_room.ensures ∙ one_count n xs ys rest ∙ ap (λ (zs : List ℕ). bytes_eq zs (take n ys)) here ∙ ap (bytes_eq c.args.self.now) there
 
 pub returns-else-count-other_count : goal.returns-else-count-other_count
 returns-else-count-other_count c =
