@@ -103,7 +103,7 @@ impl<'a> Setting<'a> {
             let Some(attribute) = attributes.get(index) else {
                 return Err(Ending::Stuck);
             };
-            if self.table.attribute_name(*attribute).as_slice() == name.as_slice() {
+            if self.table.attribute_name(*attribute).is(name) {
                 return Ok(location);
             }
             location = location_after(location, 1)?;
@@ -197,7 +197,7 @@ impl<'a> Scene<'a> {
     {
         for index in (0..self.locals.len()).rev() {
             let local = &self.locals[index];
-            if local.name.as_slice() == name.as_slice() {
+            if local.name.is(name) {
                 return Ok(local.location);
             }
         }

@@ -8,8 +8,8 @@ use Rattle.cool_eval.specs.Configurations.{locals_of}
 use Rattle.cool_eval.proofs.LocationsOfNames.{local_here, local_there, no_attribute}
 use Rattle.cool_eval.proofs.scene.Scene.location.Goals as goal
 
-pub returns-then-eq-clause-location : goal.returns-then-eq-clause-location
-returns-then-eq-clause-location c =
+pub returns-then-is-clause-location : goal.returns-then-is-clause-location
+returns-then-is-clause-location c =
     let ls = c.args.self.now.locals.items in
     let env = environment_of c.args.setting.now.table.now (value_of c.args.self.now.me) in
     let name = c.args.name.now in

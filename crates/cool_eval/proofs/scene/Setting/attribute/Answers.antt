@@ -9,8 +9,8 @@ use Rattle.cool_meaning.specs.Values.{location_of}
 use Rattle.cool_eval.proofs.LocationsOfNames.{located_from, attribute_here, attribute_further, location_nowhere}
 use Rattle.cool_eval.proofs.scene.Setting.attribute.Goals as goal
 
-pub returns-then-eq-clause-location : goal.returns-then-eq-clause-location
-returns-then-eq-clause-location c =
+pub returns-then-is-clause-location : goal.returns-then-is-clause-location
+returns-then-is-clause-location c =
     let p = c.args.self.now.table.now in
     let o = c.args.object.now in
     let name = c.args.name.now in
