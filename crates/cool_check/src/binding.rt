@@ -26,7 +26,7 @@ use cool_syntax::{Name, Node, NodeBranch, NodeId, Place, TypeRef};
 #[cycle(typing)]
 pub(crate) fn type_of_binding<'a>(
     setting: &Setting<'a, '_>,
-    locals: &mut Scope<'a>,
+    locals: &mut Scope<'a, Ty>,
     types: &mut Column<Ty>,
     id: NodeId,
     node: &'a Node,
@@ -68,7 +68,7 @@ pub(crate) fn type_of_binding<'a>(
 #[cycle(typing)]
 fn type_of_option<'a>(
     setting: &Setting<'a, '_>,
-    locals: &mut Scope<'a>,
+    locals: &mut Scope<'a, Ty>,
     types: &mut Column<Ty>,
     end: NodeId,
     init: Option<NodeId>,
@@ -117,7 +117,7 @@ fn bound_type(
 #[cycle(typing)]
 fn type_within<'a>(
     setting: &Setting<'a, '_>,
-    locals: &mut Scope<'a>,
+    locals: &mut Scope<'a, Ty>,
     types: &mut Column<Ty>,
     name: &'a Name,
     bound: Ty,
@@ -141,7 +141,7 @@ fn type_within<'a>(
 #[cycle(typing)]
 fn type_of_branches<'a>(
     setting: &Setting<'a, '_>,
-    locals: &mut Scope<'a>,
+    locals: &mut Scope<'a, Ty>,
     types: &mut Column<Ty>,
     end: NodeId,
     branches: &'a [NodeBranch],

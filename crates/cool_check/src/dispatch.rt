@@ -25,7 +25,7 @@ use cool_syntax::{Name, Node, NodeId, Place, TypeRef};
 #[cycle(typing)]
 pub(crate) fn type_of_call<'a>(
     setting: &Setting<'a, '_>,
-    locals: &mut Scope<'a>,
+    locals: &mut Scope<'a, Ty>,
     types: &mut Column<Ty>,
     id: NodeId,
     node: &'a Node,

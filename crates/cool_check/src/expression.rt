@@ -34,7 +34,7 @@ use cool_syntax::{Name, Node, NodeId, Place};
 #[cycle(typing)]
 pub(crate) fn type_of<'a>(
     setting: &Setting<'a, '_>,
-    locals: &mut Scope<'a>,
+    locals: &mut Scope<'a, Ty>,
     types: &mut Column<Ty>,
     id: NodeId,
 ) -> Result<Ty, CheckError>
@@ -54,7 +54,7 @@ pub(crate) fn type_of<'a>(
 #[cycle(typing)]
 fn type_of_node<'a>(
     setting: &Setting<'a, '_>,
-    locals: &mut Scope<'a>,
+    locals: &mut Scope<'a, Ty>,
     types: &mut Column<Ty>,
     id: NodeId,
     node: &'a Node,
@@ -92,7 +92,7 @@ fn type_of_node<'a>(
 /// The type of a name, a constant or a new object.
 fn type_of_leaf(
     setting: &Setting<'_, '_>,
-    locals: &Scope<'_>,
+    locals: &Scope<'_, Ty>,
     node: &Node,
 ) -> Result<Ty, CheckError>
     requires group { IsLeaf node.now }
@@ -116,7 +116,7 @@ fn type_of_leaf(
 /// The type of a name: that of `self`, of the latest variable of this name or else of the attribute.
 pub(crate) fn type_of_name(
     setting: &Setting<'_, '_>,
-    locals: &Scope<'_>,
+    locals: &Scope<'_, Ty>,
     at: Place,
     name: &Name,
 ) -> Result<Ty, CheckError>
@@ -145,7 +145,7 @@ pub(crate) fn is_self(name: &Name) -> bool
 #[cycle(typing)]
 fn type_of_control<'a>(
     setting: &Setting<'a, '_>,
-    locals: &mut Scope<'a>,
+    locals: &mut Scope<'a, Ty>,
     types: &mut Column<Ty>,
     id: NodeId,
     node: &'a Node,
@@ -206,7 +206,7 @@ pub(crate) fn is_class(a: Ty, class: ClassId) -> bool
 #[cycle(typing)]
 fn type_of_last<'a>(
     setting: &Setting<'a, '_>,
-    locals: &mut Scope<'a>,
+    locals: &mut Scope<'a, Ty>,
     types: &mut Column<Ty>,
     end: NodeId,
     items: &[NodeId],
@@ -230,7 +230,7 @@ fn type_of_last<'a>(
 #[cycle(typing)]
 pub(crate) fn types_of<'a>(
     setting: &Setting<'a, '_>,
-    locals: &mut Scope<'a>,
+    locals: &mut Scope<'a, Ty>,
     types: &mut Column<Ty>,
     end: NodeId,
     items: &[NodeId],

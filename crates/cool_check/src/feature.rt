@@ -19,7 +19,7 @@ ghost use Rattle.cool_check.specs.TypingFaults.{feature_checked};
 use crate::expression::type_of;
 use crate::fault::{CheckError, TypeKind};
 use crate::setting::Setting;
-use cool_classes::{AttributeRef, ClassId, ClassTable, MethodRef};
+use cool_classes::{AttributeRef, ClassId, ClassTable, MethodRef, Ty};
 use cool_pool::Column;
 use cool_rules::{NodeTypes, Scope};
 use cool_syntax::{AttributeDef, Feature, MethodDef};
@@ -62,7 +62,7 @@ pub(crate) fn attribute_scope(
     alloc: Global,
     t: &ClassTable,
     c: ClassId,
-) -> Result<Scope<'_>, AllocError>
+) -> Result<Scope<'_, Ty>, AllocError>
     requires table { IsTable t.now }
     requires class { c.0 < length t.now }
     ensures types { IfOk result (AreTypes t.now) }
@@ -80,7 +80,7 @@ pub(crate) fn check_among<'a>(
     alloc: Global,
     t: &'a ClassTable,
     c: ClassId,
-    attributes: &Scope<'a>,
+    attributes: &Scope<'a, Ty>,
     index: u32,
     feature: &'a Feature,
 ) -> Result<NodeTypes, CheckError>
@@ -101,7 +101,7 @@ fn check_method<'a>(
     alloc: Global,
     t: &'a ClassTable,
     c: ClassId,
-    attributes: &Scope<'a>,
+    attributes: &Scope<'a, Ty>,
     index: u32,
     method: &'a MethodDef,
 ) -> Result<NodeTypes, CheckError>
@@ -135,7 +135,7 @@ fn formal_scope<'a>(
     setting: &Setting<'a, '_>,
     index: u32,
     method: &'a MethodDef,
-) -> Result<Scope<'a>, AllocError>
+) -> Result<Scope<'a, Ty>, AllocError>
     requires sound { IsSound setting.now }
     requires method { slice_get (features_of setting.now.table.now setting.now.class) index ≡ Some (Method method.now) }
     ensures types { IfOk result (AreTypes setting.now.table.now) }
@@ -158,7 +158,7 @@ fn check_attribute<'a>(
     alloc: Global,
     t: &'a ClassTable,
     c: ClassId,
-    attributes: &Scope<'a>,
+    attributes: &Scope<'a, Ty>,
     index: u32,
     attribute: &'a AttributeDef,
 ) -> Result<NodeTypes, CheckError>

@@ -29,7 +29,7 @@ use cool_syntax::{CompareOp, Name, Node, NodeId, Place};
 #[cycle(typing)]
 pub(crate) fn type_of_unary<'a>(
     setting: &Setting<'a, '_>,
-    locals: &mut Scope<'a>,
+    locals: &mut Scope<'a, Ty>,
     types: &mut Column<Ty>,
     id: NodeId,
     node: &'a Node,
@@ -69,7 +69,7 @@ pub(crate) fn type_of_unary<'a>(
 /// The type of an assignment to a name of a value of this type.
 fn assigned(
     setting: &Setting<'_, '_>,
-    locals: &Scope<'_>,
+    locals: &Scope<'_, Ty>,
     at: Place,
     name: &Name,
     given: Ty,
@@ -107,7 +107,7 @@ fn expect(found: Ty, class: ClassId, kind: TypeKind, at: Place) -> Result<(), Ch
 #[cycle(typing)]
 pub(crate) fn type_of_binary<'a>(
     setting: &Setting<'a, '_>,
-    locals: &mut Scope<'a>,
+    locals: &mut Scope<'a, Ty>,
     types: &mut Column<Ty>,
     id: NodeId,
     node: &'a Node,

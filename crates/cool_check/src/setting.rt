@@ -17,7 +17,7 @@ pub(crate) struct Setting<'a, 's> {
     pub(crate) alloc: Global,
     pub(crate) table: &'a ClassTable,
     pub(crate) class: ClassId,
-    pub(crate) attributes: &'s Scope<'a>,
+    pub(crate) attributes: &'s Scope<'a, Ty>,
     pub(crate) body: &'a Body,
 }
 

@@ -3,35 +3,35 @@ use Rattle.std.proofs.Common.{◌≡◌, ℕ, suc, ◌-◌, ◌<◌, List, [], �
 use Rattle.std.proofs.Math.Seq.{take-suc, take-length}
 use Rattle.std.specs.Prelude.{bytes_eq, if◌then◌else◌}
 use Rattle.cool_rules.specs.declared.scope.Entry.{Entry}
-use Rattle.cool_rules.specs.Scopes.{Binding, binding_of, found, left, latest_first}
+use Rattle.cool_rules.specs.Scopes.{Bound, binding_of, found, left, latest_first}
 
 -- an entry at the end is the first that is seen
-pub latest_more : (es : List Entry) (e : Entry) → latest_first (es ++ e ∷ []) ≡ binding_of e ∷ latest_first es
-latest_more [] e = refl
-latest_more (x ∷ es) e = ap (λ (bs : List Binding). bs ++ binding_of x ∷ []) (latest_more es e)
+pub latest_more : {T : Type 0} (es : List (Entry T)) (e : Entry T) → latest_first (es ++ e ∷ []) ≡ binding_of e ∷ latest_first es
+latest_more {T} [] e = refl
+latest_more {T} (x ∷ es) e = ap (λ (bs : List (Bound T)). bs ++ binding_of x ∷ []) (latest_more es e)
 
 -- without the entry at the end, the rest is seen
-pub latest_less : (es : List Entry) → latest_first (take (length es - 1) es) ≡ left (latest_first es)
-latest_less [] = refl
-latest_less (x ∷ es) =
+pub latest_less : {T : Type 0} (es : List (Entry T)) → latest_first (take (length es - 1) es) ≡ left (latest_first es)
+latest_less {T} [] = refl
+latest_less {T} (x ∷ es) =
     let within : length es < length (x ∷ es) = omega arith in
     let shorter : length (x ∷ es) - 1 ≡ length es = omega arith in
     let all : x ∷ es ≡ take (length es) (x ∷ es) ++ get_or (x ∷ es) (length es) x ∷ [] = sym (take-length (x ∷ es)) ∙ take-suc (x ∷ es) (length es) x within in
     ap (λ (k : ℕ). latest_first (take k (x ∷ es))) shorter ∙ sym (ap left (ap latest_first all ∙ latest_more (take (length es) (x ∷ es)) (get_or (x ∷ es) (length es) x)))
 
 -- a name among the entries up to one is that one's, or else is found before it
-pub found_before : (es : List Entry) (k : ℕ) (e : Entry) (name : List ℕ) → k < length es → e ≡ get_or es k e
-    → found (latest_first (take (suc k) es)) name ≡ (if bytes_eq e.name.now name then Some e.ty else found (latest_first (take k es)) name)
-found_before es k e name within is =
-    let more : take (suc k) es ≡ take k es ++ e ∷ [] = take-suc es k e within ∙ ap (λ (x : Entry). take k es ++ x ∷ []) (sym is) in
-    ap (λ (xs : List Entry). found (latest_first xs) name) more ∙ ap (λ (bs : List Binding). found bs name) (latest_more (take k es) e)
+pub found_before : {T : Type 0} (es : List (Entry T)) (k : ℕ) (e : Entry T) (name : List ℕ) → k < length es → e ≡ get_or es k e
+    → found (latest_first (take (suc k) es)) name ≡ (if bytes_eq e.name.now name then Some e.value else found (latest_first (take k es)) name)
+found_before {T} es k e name within is =
+    let more : take (suc k) es ≡ take k es ++ e ∷ [] = take-suc es k e within ∙ ap (λ (x : Entry T). take k es ++ x ∷ []) (sym is) in
+    ap (λ (xs : List (Entry T)). found (latest_first xs) name) more ∙ ap (λ (bs : List (Bound T)). found bs name) (latest_more (take k es) e)
 
--- where the entry is the name's, its type is found; else it is looked for before it
-pub found_here : (es : List Entry) (k : ℕ) (e : Entry) (name : List ℕ) → k < length es → e ≡ get_or es k e → bytes_eq e.name.now name ≡ true → found (latest_first (take (suc k) es)) name ≡ Some e.ty
-found_here es k e name within is same =
-    found_before es k e name within is ∙ ap (λ (b : Bool). if b then Some e.ty else found (latest_first (take k es)) name) same
+-- where the entry is the name's, what it is bound to is found; else it is looked for before it
+pub found_here : {T : Type 0} (es : List (Entry T)) (k : ℕ) (e : Entry T) (name : List ℕ) → k < length es → e ≡ get_or es k e → bytes_eq e.name.now name ≡ true → found (latest_first (take (suc k) es)) name ≡ Some e.value
+found_here {T} es k e name within is same =
+    found_before es k e name within is ∙ ap (λ (b : Bool). if b then Some e.value else found (latest_first (take k es)) name) same
 
-pub found_there : (es : List Entry) (k : ℕ) (e : Entry) (name : List ℕ) → k < length es → e ≡ get_or es k e → bytes_eq e.name.now name ≡ false
+pub found_there : {T : Type 0} (es : List (Entry T)) (k : ℕ) (e : Entry T) (name : List ℕ) → k < length es → e ≡ get_or es k e → bytes_eq e.name.now name ≡ false
     → found (latest_first (take (suc k) es)) name ≡ found (latest_first (take k es)) name
-found_there es k e name within is other =
-    found_before es k e name within is ∙ ap (λ (b : Bool). if b then Some e.ty else found (latest_first (take k es)) name) other
+found_there {T} es k e name within is other =
+    found_before es k e name within is ∙ ap (λ (b : Bool). if b then Some e.value else found (latest_first (take k es)) name) other

@@ -1,4 +1,4 @@
--- The names in scope: bindings of names to types, the latest first (the Cool manual, section 12).
+-- The names in scope: bindings of names to their types, or to what else is known of them, the latest first (the Cool manual, section 12).
 use Rattle.std.specs.Prelude.{◌≡◌, ℕ, List, [], ◌∷◌, ◌++◌, codes, bytes_eq, if◌then◌else◌, Option, Some, None, refl}
 use Rattle.std.specs.List.{AllByRecursion}
 use Rattle.cool_classes.specs.declared.class_id.Ty.{Ty}
@@ -7,34 +7,39 @@ use Rattle.cool_classes.specs.Chains.{Class}
 use Rattle.cool_rules.specs.Conformance.{IsType}
 use Rattle.cool_rules.specs.declared.scope.Entry.{Entry}
 
-pub record Binding : Type 0 where
+-- a name and what it is bound to
+pub record Bound (T : Type 0) : Type 0 where
   pub name : List ℕ
-  pub type : Ty
+  pub type : T
+
+-- a name and its type
+abbrev pub Binding : Type 0
+Binding = Bound Ty
 
 -- the types of names in scope are types of the table
 abbrev pub AreTypes : List Class → List Binding → Type 0
 AreTypes p scope = AllByRecursion (λ b. IsType p b.type) scope
 
--- the type that the latest binding of a name gives
-abbrev pub found : List Binding → List ℕ → Option Ty
+-- what the latest binding of a name binds it to
+abbrev pub found : {T : Type 0} → List (Bound T) → List ℕ → Option T
 found [] name = None
 found (b ∷ bs) name = if bytes_eq b.name name then Some b.type else found bs name
 
 -- the bindings without the latest
-abbrev pub left : List Binding → List Binding
+abbrev pub left : {B : Type 0} → List B → List B
 left [] = []
 left (b ∷ bs) = bs
 
 -- bindings entered one after the other into a scope
-abbrev pub entered : List Binding → List Binding → List Binding
+abbrev pub entered : {B : Type 0} → List B → List B → List B
 entered [] o = o
 entered (b ∷ bs) o = entered bs (b ∷ o)
 
 -- entries in the order in which they were made, seen with the latest first
-abbrev pub binding_of : Entry → Binding
-binding_of e = record { name = e.name.now; type = e.ty }
+abbrev pub binding_of : {T : Type 0} → Entry T → Bound T
+binding_of e = record { name = e.name.now; type = e.value }
 
-abbrev pub latest_first : List Entry → List Binding
+abbrev pub latest_first : {T : Type 0} → List (Entry T) → List (Bound T)
 latest_first [] = []
 latest_first (e ∷ es) = latest_first es ++ binding_of e ∷ []
 

@@ -1,39 +1,38 @@
-//! The names in scope, with their types.
+//! The names in scope, each with what it is bound to.
 
-ghost use Rattle.std.specs.Prelude.{◌≡◌, ◌≢◌, [], ◌∷◌, Some, None, IsTrue, if◌then◌else◌};
+ghost use Rattle.std.specs.Prelude.{◌≡◌, ◌≢◌, [], ◌∷◌, if◌then◌else◌};
 ghost use Rattle.std.specs.Result.{is_ok};
-ghost use Rattle.cool_rules.specs.Scopes.{Binding, found, left};
+ghost use Rattle.cool_rules.specs.Scopes.{found, left};
 
-use cool_classes::Ty;
 use cool_syntax::Name;
 use std::alloc::{AllocError, Global};
 use std::marker::Model;
 
-/// A name that was entered, with its type.
+/// A name that was entered, with what it is bound to.
 #[derive(Clone, Copy)]
-struct Entry<'a> {
+struct Entry<'a, T: Copy> {
     name: &'a [u8],
-    ty: Ty,
+    value: T,
 }
 
-/// The names in scope with their types. A contract sees them with the latest first.
+/// The names in scope, each bound to its type or to what else is known of it. A contract sees them with the latest first.
 #[derive(Drop)]
-pub struct Scope<'a> {
-    entries: Vec<Entry<'a>>,
+pub struct Scope<'a, T: Copy> {
+    entries: Vec<Entry<'a, T>>,
 }
 
-impl<'a> Model for Scope<'a> {
+impl<'a, T: Copy> Model for Scope<'a, T> {
     ghost use Rattle.std.specs.Prelude.{List};
-    ghost use Rattle.cool_rules.specs.Scopes.{Binding, latest_first};
+    ghost use Rattle.cool_rules.specs.Scopes.{Bound, latest_first};
 
-    ghost Value = { List Binding };
+    ghost Value = { List (Bound T) };
 
     ghost view = { λ s. latest_first s.entries.items };
 }
 
-impl<'a> Scope<'a> {
+impl<'a, T: Copy> Scope<'a, T> {
     /// A scope without names.
-    pub fn new(alloc: Global) -> Scope<'a>
+    pub fn new(alloc: Global) -> Scope<'a, T>
         ensures { result ≡ [] }
     {
         Scope {
@@ -42,12 +41,12 @@ impl<'a> Scope<'a> {
     }
 
     /// Adds a name, in front of an earlier one of the same name. `Err` comes only for want of memory, and leaves the scope as it is.
-    pub fn enter(&mut self, name: &'a Name, ty: Ty) -> Result<(), AllocError>
-        ensures { self.new ≡ (if is_ok result then record { name = name.now; type = ty } ∷ self.old else self.old) }
+    pub fn enter(&mut self, name: &'a Name, value: T) -> Result<(), AllocError>
+        ensures { self.new ≡ (if is_ok result then record { name = name.now; type = value } ∷ self.old else self.old) }
     {
         self.entries.push(Entry {
             name: name.as_slice(),
-            ty,
+            value,
         })?;
         Ok(())
     }
@@ -60,14 +59,14 @@ impl<'a> Scope<'a> {
         self.entries.pop();
     }
 
-    /// The type of a name, by its latest entry. None exactly where there is no entry of the name.
-    pub fn find(&self, name: &Name) -> Option<Ty>
+    /// What a name is bound to, by its latest entry. None exactly where there is no entry of the name.
+    pub fn find(&self, name: &Name) -> Option<T>
         ensures { result ≡ found self.now name.now }
     {
         for index in (0..self.entries.len()).rev() {
             let entry = &self.entries[index];
             if entry.name == name.as_slice() {
-                return Some(entry.ty);
+                return Some(entry.value);
             }
         }
         None

@@ -1,10 +1,10 @@
 -- The name that was entered is the first that is seen.
 use Rattle.std.proofs.Common.{ap, ◌∙◌, ℕ, List, ◌∷◌}
-use Rattle.cool_rules.specs.Scopes.{Binding, latest_first}
+use Rattle.cool_rules.specs.Scopes.{Bound, latest_first}
 use Rattle.cool_rules.proofs.ScopesInOrder.{latest_more}
 use Rattle.cool_rules.proofs.scope.Scope.enter.Goals as goal
 
 pub returns : goal.returns
-returns c =
-    let name = ap (λ (n : List ℕ). record { name = n; type = c.args.ty } ∷ latest_first c.self.inside.entries.items) c.as_slice.ensures in
-    ap latest_first c.in_ok-push.ensures.items ∙ latest_more c.self.inside.entries.items _ ∙ name ∙ ap (λ (bs : List Binding). record { name = c.args.name.now; type = c.args.ty } ∷ bs) c.self.view_is
+returns g c =
+    let name = ap (λ (n : List ℕ). record { name = n; type = c.args.value } ∷ latest_first c.self.inside.entries.items) c.as_slice.ensures in
+    ap latest_first c.in_ok-push.ensures.items ∙ latest_more c.self.inside.entries.items _ ∙ name ∙ ap (λ (bs : List (Bound _)). record { name = c.args.name.now; type = c.args.value } ∷ bs) c.self.view_is

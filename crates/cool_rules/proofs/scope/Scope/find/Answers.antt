@@ -7,12 +7,12 @@ use Rattle.cool_rules.proofs.ScopesInOrder.{found_here, found_there}
 use Rattle.cool_rules.proofs.scope.Scope.find.Goals as goal
 
 pub loop-index-init : goal.loop-index-init
-loop-index-init c =
+loop-index-init g c =
     let es = c.self.inside.entries.items in
     ap (λ bs. found bs c.args.name.now) (sym c.self.view_is ∙ ap latest_first (sym (take-length es) ∙ ap (λ (k : ℕ). take k es) (sym (c.len-index.ensures ∙ c.self.inside.entries.ok.0))))
 
 pub returns-then-eq : goal.returns-then-eq
-returns-then-eq c =
+returns-then-eq g c =
     let es = c.self.inside.entries.items in
     let t = c.loop-index-test.true in
     let b = c.loop-index.auto.index in
@@ -25,7 +25,7 @@ returns-then-eq c =
     ∙ found_here es (c.loop-index.index - 1) c.index-entry.result.now c.args.name.now within c.index-entry.ensures same)
 
 pub loop-index-preserved : goal.loop-index-preserved
-loop-index-preserved c =
+loop-index-preserved g c =
     let es = c.self.inside.entries.items in
     let t = c.loop-index-test.true in
     let b = c.loop-index.auto.index in
@@ -38,7 +38,7 @@ loop-index-preserved c =
     ∙ found_there es (c.loop-index.index - 1) c.index-entry.result.now c.args.name.now within c.index-entry.ensures other
 
 pub returns : goal.returns
-returns c =
+returns g c =
     let es = c.self.inside.entries.items in
     let zero_there : c.loop-index.index ≡ 0 = let t = c.loop-index-test.false in omega arith in
     sym (c.loop-index.invariant ∙ ap (λ (k : ℕ). found (latest_first (take k es)) c.args.name.now) zero_there)
