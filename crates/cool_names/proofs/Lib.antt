@@ -1,6 +1,6 @@
 pub mod NamesMarked
 mod PartsLeft
 mod ProgramUsesTold
-mod ScopesInOrder
+mod FoundVariables
 mod SeenTypes
 mod UsesTold

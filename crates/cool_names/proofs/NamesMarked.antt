@@ -33,6 +33,7 @@ use Rattle.cool_names.specs.declared.mark.Meaning.{Meaning}
 use Rattle.cool_names.specs.declared.mark.Role.{Role}
 use Rattle.cool_names.specs.Marks.{Context, is_written, mark, marks_of, marks_of_all, marks_of_cases, with_variable}
 use Rattle.cool_names.specs.Programs.{class_context, class_marks, feature_marks, features_marks, formals_in_scope, formals_marks, marks_from, parent_marks}
+use Rattle.cool_rules.specs.Scopes.{Bound}
 use Rattle.cool_names.specs.Scopes.{Variable}
 use Rattle.cool_names.specs.WrittenNames.{AreFileNames, AreProgramNames, AreRead, Spot, names_in, names_of, spot_of}
 
@@ -213,7 +214,7 @@ of_self {ns} {ts} at name ms d =
 
 module _ (s : Context) where
   mutual
-    marked : (scope : List Variable) (e : Concrete) → Covers (marks_of s scope (plain e)) (reading e)
+    marked : (scope : List (Bound Variable)) (e : Concrete) → Covers (marks_of s scope (plain e)) (reading e)
     marked scope (Name name at) = after_object nothing
     marked scope (Literal (Int value) at) = after_token _ refl nothing
     marked scope (Literal (Str bytes) at) = after_token _ refl nothing
@@ -238,39 +239,39 @@ module _ (s : Context) where
     marked scope (Binary left (Compare op) at right) = both (marked scope left) (after_sign (marked scope right))
     marked scope (Before prefix e) = marked_prefix scope prefix (plain e) (reading e) (λ within. marked within e)
 
-    marked_call : (scope : List Variable) (callee : Callee) (args : Trees) (ts : List Token) → Covers (marks_of_all s scope args) ts → Covers (marks_of s scope (plain_call callee args)) (callee_reading callee ++ ts)
+    marked_call : (scope : List (Bound Variable)) (callee : Callee) (args : Trees) (ts : List Token) → Covers (marks_of_all s scope args) ts → Covers (marks_of s scope (plain_call callee args)) (callee_reading callee ++ ts)
     marked_call scope (OfSelf name at) args ts c = of_self at name (marks_of s scope (trees.Id at (codes "self"))) (after_object c)
     marked_call scope (Of receiver dot name at) args ts c = of_receiver receiver dot at name (marked scope receiver) (after_object c)
     marked_call scope (OfClass receiver sign_at class dot name at) args ts c =
         with_tokens (append_assoc (reading receiver) (symbol sign.At sign_at ∷ type class ∷ symbol sign.Dot dot ∷ object name at ∷ []) ts)
         (both (marked scope receiver) (after_sign (after_type (after_sign (after_object c)))))
 
-    marked_args : (scope : List Variable) (args : Args) → Covers (marks_of_all s scope (plain_args args)) (args_reading args)
+    marked_args : (scope : List (Bound Variable)) (args : Args) → Covers (marks_of_all s scope (plain_args args)) (args_reading args)
     marked_args scope NoArgs = nothing
     marked_args scope (Given firsts last) =
         marked_parts scope sign.Comma firsts (More (plain last) Last) (reading last) (with_marks (append-nil (marks_of s scope (plain last))) (marked scope last))
 
-    marked_parts : (scope : List Variable) (separator : Sign) (firsts : Parts) (rest : Trees) (ts : List Token) → Covers (marks_of_all s scope rest) ts
+    marked_parts : (scope : List (Bound Variable)) (separator : Sign) (firsts : Parts) (rest : Trees) (ts : List Token) → Covers (marks_of_all s scope rest) ts
         → Covers (marks_of_all s scope (plain_parts firsts rest)) (parts_reading separator firsts ++ ts)
     marked_parts scope separator NoPart rest ts c = c
     marked_parts scope separator (Then before e at) rest ts c =
         with_tokens (four (parts_reading separator before) (reading e) (symbol separator at ∷ []) ts)
         (marked_parts scope separator before (More (plain e) rest) (reading e ++ symbol separator at ∷ ts) (both (marked scope e) (after_sign c)))
 
-    marked_branches : (scope : List Variable) (firsts : Branches) (rest : Cases) (ts : List Token) → Covers (marks_of_cases s scope rest) ts
+    marked_branches : (scope : List (Bound Variable)) (firsts : Branches) (rest : Cases) (ts : List Token) → Covers (marks_of_cases s scope rest) ts
         → Covers (marks_of_cases s scope (plain_branches firsts rest)) (branches_reading firsts ++ ts)
     marked_branches scope NoBranch rest ts c = c
     marked_branches scope (Also before branch) rest ts c =
         with_tokens (append_assoc (branches_reading before) (branch_reading branch) ts)
         (marked_branches scope before (plain_branch branch rest) (branch_reading branch ++ ts) (marked_branch scope branch rest ts c))
 
-    marked_branch : (scope : List Variable) (branch : Branch) (rest : Cases) (ts : List Token) → Covers (marks_of_cases s scope rest) ts
+    marked_branch : (scope : List (Bound Variable)) (branch : Branch) (rest : Cases) (ts : List Token) → Covers (marks_of_cases s scope rest) ts
         → Covers (marks_of_cases s scope (plain_branch branch rest)) (branch_reading branch ++ ts)
     marked_branch scope (On v arrow body semi) rest ts c =
         after_object (after_sign (after_type (after_sign (with_tokens (append_assoc (reading body) (symbol sign.Semi semi ∷ []) ts)
         (both (marked (with_variable v.name v.declared v.at scope) body) (after_sign c))))))
 
-    marked_prefix : (scope : List Variable) (prefix : Prefix) (t : Tree) (ts : List Token) → ((within : List Variable) → Covers (marks_of s within t) ts)
+    marked_prefix : (scope : List (Bound Variable)) (prefix : Prefix) (t : Tree) (ts : List Token) → ((within : List (Bound Variable)) → Covers (marks_of s within t) ts)
         → Covers (marks_of s scope (plain_prefix prefix t)) (prefix_reading prefix ++ ts)
     marked_prefix scope (Let at firsts last within) t ts c =
         after_word (with_tokens (four (bindings_reading firsts) (binding_reading last) (word key.In within ∷ []) ts)
@@ -280,7 +281,7 @@ module _ (s : Context) where
     marked_prefix scope (Mark IsVoid at) t ts c = after_word (c scope)
     marked_prefix scope (Mark Neg at) t ts c = after_sign (c scope)
 
-    marked_bindings : (scope : List Variable) (firsts : Bindings) (t : Tree) (ts : List Token) → ((within : List Variable) → Covers (marks_of s within t) ts)
+    marked_bindings : (scope : List (Bound Variable)) (firsts : Bindings) (t : Tree) (ts : List Token) → ((within : List (Bound Variable)) → Covers (marks_of s within t) ts)
         → Covers (marks_of s scope (plain_bindings firsts t)) (bindings_reading firsts ++ ts)
     marked_bindings scope NoBinding t ts c = c scope
     marked_bindings scope (Next before binding comma) t ts c =
@@ -288,7 +289,7 @@ module _ (s : Context) where
         (marked_bindings scope before (plain_binding binding t) (binding_reading binding ++ symbol sign.Comma comma ∷ ts)
         (λ outer. marked_binding outer binding t (symbol sign.Comma comma ∷ ts) (λ within. after_sign (c within))))
 
-    marked_binding : (scope : List Variable) (binding : Binding) (t : Tree) (ts : List Token) → ((within : List Variable) → Covers (marks_of s within t) ts)
+    marked_binding : (scope : List (Bound Variable)) (binding : Binding) (t : Tree) (ts : List Token) → ((within : List (Bound Variable)) → Covers (marks_of s within t) ts)
         → Covers (marks_of s scope (plain_binding binding t)) (binding_reading binding ++ ts)
     marked_binding scope (Default v) t ts c = after_object (after_sign (after_type (c (with_variable v.name v.declared v.at scope))))
     marked_binding scope (Init v arrow e) t ts c =

@@ -1,6 +1,5 @@
 -- What is left from one position on: the part there, and what comes after it.
-use Rattle.std.proofs.Common.{◌≡◌, ℕ, ◌+◌, ◌<◌, List, ◌∷◌, ◌++◌, length, map, drop, get_or, ap, sym, ◌∙◌, append_assoc}
-use Rattle.std.specs.Prelude.{codes}
+use Rattle.std.proofs.Common.{◌≡◌, ℕ, ◌+◌, ◌<◌, List, ◌++◌, length, drop, get_or, ap, sym, ◌∙◌, append_assoc}
 use Rattle.cool_syntax.specs.declared.file_tree.ClassDef.{ClassDef}
 use Rattle.cool_syntax.specs.declared.file_tree.Feature.{Feature}
 use Rattle.cool_syntax.specs.declared.file_tree.Formal.{Formal}
@@ -8,9 +7,7 @@ use Rattle.cool_classes.specs.Chains.{Class}
 use Rattle.cool_names.specs.declared.mark.Mark.{Mark}
 use Rattle.cool_names.specs.declared.mark.Role.TheVariants as role
 use Rattle.cool_names.specs.Marks.{Context, declared_marks}
-use Rattle.cool_names.specs.Meanings.{separated}
-use Rattle.cool_names.specs.Programs.{class_marks, feature_marks, features_marks, formal_variable, formals_marks, marks_from}
-use Rattle.cool_names.specs.Scopes.{Variable, entered}
+use Rattle.cool_names.specs.Programs.{class_marks, feature_marks, features_marks, formals_marks, marks_from}
 use Rattle.lists.proofs.ItemsLeft.{drop_one}
 
 -- the marks of a formal come before those of the formals after it

@@ -17,7 +17,7 @@ use Rattle.cool_classes.proofs.ChainsOfTables.{chain_is}
 use Rattle.cool_classes.proofs.Climbs.{chain_unique}
 use Rattle.cool_rules.specs.Conformance.{IsType, class_of}
 use Rattle.cool_rules.specs.Rules.{method_of, type_meant, type_of_name}
-use Rattle.cool_rules.specs.Scopes.{Binding, found}
+use Rattle.cool_rules.specs.Scopes.{Binding, Bound, found}
 use Rattle.cool_rules.specs.Typing.{HasType, IsCall, IsImplementation, result_on}
 use Rattle.cool_rules.proofs.RulesDecided.{denoted, denotes_type, named_denotes}
 use Rattle.cool_rules.proofs.RulesOfTables.{meant_is}
@@ -25,7 +25,7 @@ use Rattle.cool_rules.proofs.TypesOfMethods.{basic_there}
 use Rattle.cool_names.specs.Laws.{AreAgreed, IsDeclaredRightly, IsSeenRightly, within}
 use Rattle.cool_names.specs.Marks.{seen_type, type_declared, type_of_call, type_of_result}
 use Rattle.cool_names.specs.Meanings.{self_meaning, variable_meaning}
-use Rattle.cool_names.specs.Scopes.{Variable, bound_in}
+use Rattle.cool_names.specs.Scopes.{Variable}
 
 -- the class that a type stands for is one of the table
 pub class_within : (p : List Class) (c : ClassId) (a : Ty) → c.0 < length p → IsType p a → (class_of c a).0 < length p
@@ -51,7 +51,7 @@ result_type : (p : List Class) (r u : Ty) → IsType p r → IsType p u → IsTy
 result_type p r (IsClass a) h k = k
 result_type p r SelfType h k = h
 
-module _ (p : List Class) (whole : IsWholeTable p) (ds : List ClassDef) (c : ClassId) (less : c.0 < length p) (attributes : List Variable) where
+module _ (p : List Class) (whole : IsWholeTable p) (ds : List ClassDef) (c : ClassId) (less : c.0 < length p) (attributes : List (Bound Variable)) where
   -- a type that is declared is one of the table
   declared_typed : (o : Option Variable) (t : Ty) → type_declared p o ≡ Some t → IsType p t
   declared_typed None t e = absurd (cc)
@@ -72,12 +72,12 @@ module _ (p : List Class) (whole : IsWholeTable p) (ds : List ClassDef) (c : Cla
   given_typed n t five e = let same : IsClass (class_number n) ≡ t = cc in subst (IsType p) same (basic_there p whole n five)
 
   -- a type that is seen is one of the table
-  pub seen_typed : (locals : List Variable) (e : Tree) (t : Ty) → seen_type (within p ds c attributes) locals e ≡ Some t → IsType p t
+  pub seen_typed : (locals : List (Bound Variable)) (e : Tree) (t : Ty) → seen_type (within p ds c attributes) locals e ≡ Some t → IsType p t
   seen_typed locals (trees.Id at name) t e = by (bytes_eq name (codes "self")) e
     where
-      by : (b : Bool) → (if b then Some SelfType else type_declared p (option_or (bound_in locals name) (bound_in attributes name))) ≡ Some t → IsType p t
+      by : (b : Bool) → (if b then Some SelfType else type_declared p (option_or (found locals name) (found attributes name))) ≡ Some t → IsType p t
       by true e = let same : SelfType ≡ t = cc in subst (IsType p) same tt
-      by false e = declared_typed (option_or (bound_in locals name) (bound_in attributes name)) t e
+      by false e = declared_typed (option_or (found locals name) (found attributes name)) t e
   seen_typed locals (trees.Assign at name e) t h = seen_typed locals e t h
   seen_typed locals (trees.Dispatch at e name es) t h = call_typed (seen_type (within p ds c attributes) locals e) (seen_type (within p ds c attributes) locals e) name t (λ r is. seen_typed locals e r is) h
   seen_typed locals (trees.StaticDispatch at e class name es) t h = call_typed (seen_type (within p ds c attributes) locals e) (type_of_name p class.name) name t (λ r is. seen_typed locals e r is) h
@@ -103,7 +103,7 @@ module _ (p : List Class) (whole : IsWholeTable p) (ds : List ClassDef) (c : Cla
       ∙ ap (λ (u : Ty). Some (result_on r u)) (meant_is p whole.table (result_of p call.method) call.result call.declared) ∙ ap Some (sym call.is)
 
   -- what is seen is what the rules say
-  seen_is : (locals : List Variable) (scope : List Binding) (e : Tree) (t : Ty) → AreAgreed p locals attributes scope → HasType p c scope e t
+  seen_is : (locals : List (Bound Variable)) (scope : List Binding) (e : Tree) (t : Ty) → AreAgreed p locals attributes scope → HasType p c scope e t
       → (seen_type (within p ds c attributes) locals e ≡ None) ⊎ (seen_type (within p ds c attributes) locals e ≡ Some t)
   seen_is locals scope (trees.Id at name) t agreed h = inr (ap (λ (o : Option Ty). if bytes_eq name (codes "self") then Some SelfType else o) (agreed name) ∙ h)
   seen_is locals scope (trees.Assign at name e) t agreed (d, other, has, there, conforms) = seen_is locals scope e t agreed has
@@ -150,6 +150,6 @@ pub declared_rightly : (p : List Class) → IsDeclaredRightly p
 unfolding type_of_name
 declared_rightly p c locals attributes scope at name t agreed h = by (bytes_eq name (codes "self")) h
   where
-    by : (b : Bool) → (if b then Some SelfType else found scope name) ≡ Some t → type_of_name p (if b then self_meaning else variable_meaning (option_or (bound_in locals name) (bound_in attributes name))).declared ≡ Some t
+    by : (b : Bool) → (if b then Some SelfType else found scope name) ≡ Some t → type_of_name p (if b then self_meaning else variable_meaning (option_or (found locals name) (found attributes name))).declared ≡ Some t
     by true e = e
-    by false e = declared_is p (option_or (bound_in locals name) (bound_in attributes name)) t (agreed name ∙ e)
+    by false e = declared_is p (option_or (found locals name) (found attributes name)) t (agreed name ∙ e)

@@ -28,8 +28,7 @@ use Rattle.cool_classes.proofs.Climbs.{all_within, chain_unique}
 use Rattle.cool_rules.specs.Conformance.{class_of}
 use Rattle.cool_rules.specs.NodeTypes.{own_scope}
 use Rattle.cool_rules.specs.Rules.{type_meant, type_of_name}
-use Rattle.cool_rules.specs.Scopes.{Binding, found}
-use Rattle.cool_rules.specs.Scopes as rules_scope
+use Rattle.cool_rules.specs.Scopes.{Binding, Bound, entered, found}
 use Rattle.cool_rules.specs.Typing.{HasType, HaveTypes, HaveItems, HasInit, HaveBranches, IsImplementation, IsTypedFeature, IsTypedInit, attributes_in_scope, formals_in_scope, type_in_scope, with_name}
 use Rattle.cool_rules.proofs.EnteredScopes.{entered_alone, entered_beside, formals_differ, own_differ}
 use Rattle.cool_rules.proofs.RulesDecided.{denoted}
@@ -41,7 +40,7 @@ use Rattle.cool_names.specs.Marks.{call_mark, is_written, marks_of, marks_of_all
 use Rattle.cool_names.specs.Meanings.{call_meaning, found_method, method_meaning, unknown}
 use Rattle.cool_names.specs.Programs as programs
 use Rattle.cool_names.specs.Programs.{attribute_variable, class_context, feature_marks, formal_variable, formals_marks, variable_there}
-use Rattle.cool_names.specs.Scopes.{Variable, bound_in, entered}
+use Rattle.cool_names.specs.Scopes.{Variable}
 use Rattle.cool_names.specs.Uses.{AreTold, AreUsesTold, Use, is_use, uses_among, uses_in, uses_in_all, uses_in_branches, uses_in_init, uses_in_items, uses_in_value, uses_of}
 use Rattle.cool_names.proofs.SeenTypes.{class_within, declared_rightly, method_is, seen_rightly, seen_typed}
 use Rattle.lists.specs.Different.{AreDifferent}
@@ -74,39 +73,39 @@ where_written p false xs us h = tt
 -- Variables and names in scope
 
 -- one variable more
-pub agreed_with : (p : List Class) (locals attributes : List Variable) (scope : List Binding) (name : List ℕ) (declared : TypeRef) (at : Place) (bound : Ty) → type_of_name p declared.name ≡ Some bound
+pub agreed_with : (p : List Class) (locals attributes : List (Bound Variable)) (scope : List Binding) (name : List ℕ) (declared : TypeRef) (at : Place) (bound : Ty) → type_of_name p declared.name ≡ Some bound
     → AreAgreed p locals attributes scope → AreAgreed p (with_variable name declared at locals) attributes (with_name name bound scope)
 agreed_with p locals attributes scope name declared at bound is agreed other = by (bytes_eq name other)
   where
     v : Variable
-    v = record { name = name; declared = declared.name; at = at }
+    v = record { declared = declared.name; at = at }
 
-    by : (b : Bool) → type_declared p (option_or (if b then Some v else bound_in locals other) (bound_in attributes other)) ≡ (if b then Some bound else found scope other)
+    by : (b : Bool) → type_declared p (option_or (if b then Some v else found locals other) (found attributes other)) ≡ (if b then Some bound else found scope other)
     by true = is
     by false = agreed other
 
 -- variables and bindings one by one: of one name and one type
-abbrev AreMatched : List Class → List Variable → List Binding → Type 0
+abbrev AreMatched : List Class → List (Bound Variable) → List Binding → Type 0
 AreMatched p [] [] = Unit {0}
 AreMatched p [] (b ∷ bs) = ⊥
 AreMatched p (v ∷ vs) [] = ⊥
-AreMatched p (v ∷ vs) (b ∷ bs) = ((v.name ≡ b.name) × (type_of_name p v.declared ≡ Some b.type)) × AreMatched p vs bs
+AreMatched p (v ∷ vs) (b ∷ bs) = ((v.name ≡ b.name) × (type_of_name p v.type.declared ≡ Some b.type)) × AreMatched p vs bs
 
-matched_entered : (p : List Class) (vs os : List Variable) (bs scope : List Binding) → AreMatched p vs bs → AreMatched p os scope → AreMatched p (entered vs os) (rules_scope.entered bs scope)
+matched_entered : (p : List Class) (vs os : List (Bound Variable)) (bs scope : List Binding) → AreMatched p vs bs → AreMatched p os scope → AreMatched p (entered vs os) (entered bs scope)
 matched_entered p [] os [] scope h k = k
 matched_entered p [] os (b ∷ bs) scope h k = absurd h
 matched_entered p (v ∷ vs) os [] scope h k = absurd h
 matched_entered p (v ∷ vs) os (b ∷ bs) scope h k = matched_entered p vs (v ∷ os) bs (b ∷ scope) h.1 (h.0, k)
 
 -- those of a feature before those of its class
-matched_agreed : (p : List Class) (locals attributes : List Variable) (inner outer : List Binding) → AreMatched p locals inner → AreMatched p attributes outer → AreAgreed p locals attributes (inner ++ outer)
+matched_agreed : (p : List Class) (locals attributes : List (Bound Variable)) (inner outer : List Binding) → AreMatched p locals inner → AreMatched p attributes outer → AreAgreed p locals attributes (inner ++ outer)
 matched_agreed p [] [] [] [] h k name = refl
 matched_agreed p [] [] [] (b ∷ outer) h k name = absurd k
 matched_agreed p [] (v ∷ attributes) [] [] h k name = absurd k
 matched_agreed p [] (v ∷ attributes) [] (b ∷ outer) h k name =
     by (bytes_eq v.name name) (bytes_eq b.name name) (ap (λ (n : List ℕ). bytes_eq n name) k.0.0) (matched_agreed p [] attributes [] outer tt k.1 name)
   where
-    by : (x y : Bool) → x ≡ y → type_declared p (bound_in attributes name) ≡ found outer name → type_declared p (if x then Some v else bound_in attributes name) ≡ (if y then Some b.type else found outer name)
+    by : (x y : Bool) → x ≡ y → type_declared p (found attributes name) ≡ found outer name → type_declared p (if x then Some v.type else found attributes name) ≡ (if y then Some b.type else found outer name)
     by true true e more = k.0.1
     by true false e more = absurd (cc)
     by false true e more = absurd (cc)
@@ -116,8 +115,8 @@ matched_agreed p (v ∷ locals) attributes [] outer h k name = absurd h
 matched_agreed p (v ∷ locals) attributes (b ∷ inner) outer h k name =
     by (bytes_eq v.name name) (bytes_eq b.name name) (ap (λ (n : List ℕ). bytes_eq n name) h.0.0) (matched_agreed p locals attributes inner outer h.1 k name)
   where
-    by : (x y : Bool) → x ≡ y → type_declared p (option_or (bound_in locals name) (bound_in attributes name)) ≡ found (inner ++ outer) name
-        → type_declared p (option_or (if x then Some v else bound_in locals name) (bound_in attributes name)) ≡ (if y then Some b.type else found (inner ++ outer) name)
+    by : (x y : Bool) → x ≡ y → type_declared p (option_or (found locals name) (found attributes name)) ≡ found (inner ++ outer) name
+        → type_declared p (option_or (if x then Some v.type else found locals name) (found attributes name)) ≡ (if y then Some b.type else found (inner ++ outer) name)
     by true true e more = h.0.1
     by true false e more = absurd (cc)
     by false true e more = absurd (cc)
@@ -136,7 +135,7 @@ module _ (p : List Class) (whole : IsWholeTable p) where
   formals_matched (f ∷ fs) h = ((refl, meant_named f.declared.name (class_is_type f.declared.name h.0)), formals_matched fs h.1)
 
   attribute_matched : (o : Option Feature) → IsAttribute o → ((x : Feature) → o ≡ Some x → IsTyped p x)
-      → ((variable_there o).name ≡ name_in o) × (type_of_name p (variable_there o).declared ≡ Some (type_meant p (result_in o)))
+      → ((variable_there o).name ≡ name_in o) × (type_of_name p (variable_there o).type.declared ≡ Some (type_meant p (result_in o)))
   attribute_matched None h types = absurd h
   attribute_matched (Some (Method m)) h types = absurd h
   attribute_matched (Some (Attribute a)) h types = (refl, meant_named a.declared.name (types (Attribute a) refl))
@@ -156,7 +155,7 @@ module _ (p : List Class) (whole : IsWholeTable p) where
     method_agreed : (fs : List Formal) → AllByRecursion (λ (f : Formal). IsClassName p f.declared.name) fs → AreDifferent (map (λ (f : Formal). f.name) fs)
         → AreAgreed p (programs.formals_in_scope fs) (programs.attributes_in_scope p c) (formals_in_scope p fs ++ own_scope p c)
     method_agreed fs classes different name =
-        matched_agreed p (programs.formals_in_scope fs) (programs.attributes_in_scope p c) (rules_scope.entered (formals_in_scope p fs) []) (rules_scope.entered (own_scope p c) [])
+        matched_agreed p (programs.formals_in_scope fs) (programs.attributes_in_scope p c) (entered (formals_in_scope p fs) []) (entered (own_scope p c) [])
         (matched_entered p (map formal_variable fs) [] (formals_in_scope p fs) [] (formals_matched fs classes) tt)
         (matched_entered p (map (attribute_variable p) (attributes_of p (chain p c))) [] (own_scope p c) [] own_matched tt) name
         ∙ entered_beside (formals_in_scope p fs) (own_scope p c) (formals_differ p fs different) (own_differ p whole.table lawful c less) name
@@ -164,7 +163,7 @@ module _ (p : List Class) (whole : IsWholeTable p) where
     -- the attributes of a class alone
     own_agreed : AreAgreed p [] (programs.attributes_in_scope p c) (own_scope p c)
     own_agreed name =
-        matched_agreed p [] (programs.attributes_in_scope p c) [] (rules_scope.entered (own_scope p c) []) tt
+        matched_agreed p [] (programs.attributes_in_scope p c) [] (entered (own_scope p c) []) tt
         (matched_entered p (map (attribute_variable p) (attributes_of p (chain p c))) [] (own_scope p c) [] own_matched tt) name
         ∙ entered_alone (own_scope p c) (own_differ p whole.table lawful c less) name
 
@@ -176,8 +175,8 @@ module _ (p : List Class) (whole : IsWholeTable p) where
 
   -- Expressions
 
-  module _ (ds : List ClassDef) (c : ClassId) (less : c.0 < length p) (attributes : List Variable) where
-    call_told : (locals : List Variable) (scope : List Binding) (e : Tree) (r : Ty) (name : List ℕ) (m : MethodRef) → AreAgreed p locals attributes scope → HasType p c scope e r → IsImplementation p (class_of c r) name m
+  module _ (ds : List ClassDef) (c : ClassId) (less : c.0 < length p) (attributes : List (Bound Variable)) where
+    call_told : (locals : List (Bound Variable)) (scope : List Binding) (e : Tree) (r : Ty) (name : List ℕ) (m : MethodRef) → AreAgreed p locals attributes scope → HasType p c scope e r → IsImplementation p (class_of c r) name m
         → (call_meaning p (option_map (class_of c) (seen_type (within p ds c attributes) locals e)) name ≡ unknown)
         ⊎ (call_meaning p (option_map (class_of c) (seen_type (within p ds c attributes) locals e)) name ≡ method_meaning p m)
     call_told locals scope e r name m agreed has found = by (seen_rightly p whole ds c locals attributes scope e r less agreed has)
@@ -195,7 +194,7 @@ module _ (p : List Class) (whole : IsWholeTable p) where
             inr (ap (λ (o : Option Ty). call_meaning p (option_map (class_of c) o) name) some ∙ found_is (class_of c r) name m there found)
 
     mutual
-      told : (locals : List Variable) (scope : List Binding) (e : Tree) (t : Ty) → AreAgreed p locals attributes scope → (typed : HasType p c scope e t)
+      told : (locals : List (Bound Variable)) (scope : List Binding) (e : Tree) (t : Ty) → AreAgreed p locals attributes scope → (typed : HasType p c scope e t)
           → AreTold p (uses_among (marks_of (within p ds c attributes) locals e)) (uses_in p c scope e t typed)
       told locals scope (trees.Id at name) t agreed typed = ((refl, refl, refl, declared_rightly p c locals attributes scope at name t agreed typed), tt)
       told locals scope (trees.Assign at name e) t agreed (declared, other, has, there, conforms) =
@@ -234,24 +233,24 @@ module _ (p : List Class) (whole : IsWholeTable p) where
       told locals scope (trees.Str at bytes) t agreed typed = tt
       told locals scope (trees.Bool at value) t agreed typed = tt
 
-      told_all : (locals : List Variable) (scope : List Binding) (es : Trees) (ts : List Ty) → AreAgreed p locals attributes scope → (have : HaveTypes p c scope es ts)
+      told_all : (locals : List (Bound Variable)) (scope : List Binding) (es : Trees) (ts : List Ty) → AreAgreed p locals attributes scope → (have : HaveTypes p c scope es ts)
           → AreTold p (uses_among (marks_of_all (within p ds c attributes) locals es)) (uses_in_all p c scope es ts have)
       told_all locals scope Last [] agreed have = tt
       told_all locals scope Last (t ∷ ts) agreed have = absurd have
       told_all locals scope (More e es) [] agreed have = absurd have
       told_all locals scope (More e es) (t ∷ ts) agreed (has, have) = join p (marks_of (within p ds c attributes) locals e) (marks_of_all (within p ds c attributes) locals es) (uses_in p c scope e t has) (uses_in_all p c scope es ts have) (told locals scope e t agreed has) (told_all locals scope es ts agreed have)
 
-      told_items : (locals : List Variable) (scope : List Binding) (before : Ty) (es : Trees) (t : Ty) → AreAgreed p locals attributes scope → (have : HaveItems p c scope before es t)
+      told_items : (locals : List (Bound Variable)) (scope : List Binding) (before : Ty) (es : Trees) (t : Ty) → AreAgreed p locals attributes scope → (have : HaveItems p c scope before es t)
           → AreTold p (uses_among (marks_of_all (within p ds c attributes) locals es)) (uses_in_items p c scope before es t have)
       told_items locals scope before Last t agreed have = tt
       told_items locals scope before (More e es) t agreed (u, has, have) = join p (marks_of (within p ds c attributes) locals e) (marks_of_all (within p ds c attributes) locals es) (uses_in p c scope e u has) (uses_in_items p c scope u es t have) (told locals scope e u agreed has) (told_items locals scope u es t agreed have)
 
-      told_maybe : (locals : List Variable) (scope : List Binding) (bound : Ty) (o : MaybeTree) → AreAgreed p locals attributes scope → (fits : HasInit p c scope bound o)
+      told_maybe : (locals : List (Bound Variable)) (scope : List Binding) (bound : Ty) (o : MaybeTree) → AreAgreed p locals attributes scope → (fits : HasInit p c scope bound o)
           → AreTold p (uses_among (marks_of_maybe (within p ds c attributes) locals o)) (uses_in_init p c scope bound o fits)
       told_maybe locals scope bound Without agreed fits = tt
       told_maybe locals scope bound (With e) agreed (t, has, conforms) = told locals scope e t agreed has
 
-      told_cases : (locals : List Variable) (scope : List Binding) (cs : Cases) (ts : List Ty) → AreAgreed p locals attributes scope → (have : HaveBranches p c scope cs ts)
+      told_cases : (locals : List (Bound Variable)) (scope : List Binding) (cs : Cases) (ts : List Ty) → AreAgreed p locals attributes scope → (have : HaveBranches p c scope cs ts)
           → AreTold p (uses_among (marks_of_cases (within p ds c attributes) locals cs)) (uses_in_branches p c scope cs ts have)
       told_cases locals scope NoCase [] agreed have = tt
       told_cases locals scope NoCase (t ∷ ts) agreed have = absurd have

@@ -15,13 +15,14 @@ use Rattle.cool_classes.specs.Chains.{Class}
 use Rattle.cool_classes.specs.Features.{result_of}
 use Rattle.cool_rules.specs.Conformance.{class_of}
 use Rattle.cool_rules.specs.Rules.{method_of, type_meant, type_of_name}
+use Rattle.cool_rules.specs.Scopes.{Bound, found}
 use Rattle.cool_rules.specs.Typing.{bool_type, int_type, object_type, result_on, string_type}
 use Rattle.cool_names.specs.declared.mark.Mark.{Mark}
 use Rattle.cool_names.specs.declared.mark.Meaning.{Meaning}
 use Rattle.cool_names.specs.declared.mark.Role.{Role}
 use Rattle.cool_names.specs.declared.mark.Role.TheVariants as role
 use Rattle.cool_names.specs.declared.mark.Target.TheVariants.{At}
-use Rattle.cool_names.specs.Scopes.{Variable, bound_in}
+use Rattle.cool_names.specs.Scopes.{Variable}
 use Rattle.cool_names.specs.Meanings.{call_meaning, name_meaning, type_meaning}
 
 -- where an expression stands: the class table and the definitions of its classes, the class whose feature it is, and the attributes of
@@ -30,7 +31,7 @@ pub record Context : Type 0 where
   pub table : List Class
   pub definitions : List ClassDef
   pub class : ClassId
-  pub attributes : List Variable
+  pub attributes : List (Bound Variable)
 
 abbrev pub mark : Place → Role → List ℕ → Meaning → Mark
 mark at kind name meaning = record { at = at; role = kind; name = name; meaning = meaning }
@@ -43,8 +44,8 @@ type_mark p ds r = mark r.at role.Type r.name (type_meaning p ds r.name)
 abbrev pub declared_marks : List Class → List ClassDef → Role → Place → List ℕ → TypeRef → List Mark
 declared_marks p ds kind at name declared = mark at kind name (record { declared = declared.name; target = At at }) ∷ type_mark p ds declared ∷ []
 
-abbrev pub with_variable : List ℕ → TypeRef → Place → List Variable → List Variable
-with_variable name declared at scope = record { name = name; declared = declared.name; at = at } ∷ scope
+abbrev pub with_variable : List ℕ → TypeRef → Place → List (Bound Variable) → List (Bound Variable)
+with_variable name declared at scope = record { name = name; type = record { declared = declared.name; at = at } } ∷ scope
 
 -- The rules type a whole feature or nothing of it, and what is being edited is often not typed yet. So a call's method is found by the type
 -- that its receiver has at first sight; where the rules give the receiver a type, it is that one (`law_seen_type`).
@@ -56,9 +57,9 @@ abbrev pub type_declared : List Class → Option Variable → Option Ty
 type_declared p None = None
 type_declared p (Some v) = type_of_name p v.declared
 
-abbrev pub type_of_variable : Context → List Variable → List ℕ → Option Ty
+abbrev pub type_of_variable : Context → List (Bound Variable) → List ℕ → Option Ty
 type_of_variable s scope name =
-    if bytes_eq name (codes "self") then Some SelfType else type_declared s.table (option_or (bound_in scope name) (bound_in s.attributes name))
+    if bytes_eq name (codes "self") then Some SelfType else type_declared s.table (option_or (found scope name) (found s.attributes name))
 
 abbrev pub type_of_result : List Class → Ty → Option MethodRef → Option Ty
 type_of_result p receiver None = None
@@ -70,7 +71,7 @@ type_of_call s None owner name = None
 type_of_call s (Some receiver) None name = None
 type_of_call s (Some receiver) (Some owner) name = type_of_result s.table receiver (method_of s.table (class_of s.class owner) name)
 
-abbrev pub seen_type : Context → List Variable → Tree → Option Ty
+abbrev pub seen_type : Context → List (Bound Variable) → Tree → Option Ty
 seen_type s scope (trees.Id at name) = type_of_variable s scope name
 seen_type s scope (trees.Assign at name t) = seen_type s scope t
 seen_type s scope (trees.Dispatch at t name ts) = type_of_call s (seen_type s scope t) (seen_type s scope t) name
@@ -100,7 +101,7 @@ is_written at t = not (nat_eq (place_of t).byte at.byte)
 
 abbrev mutual
   -- the marks of an expression, with these variables in scope
-  pub marks_of : Context → List Variable → Tree → List Mark
+  pub marks_of : Context → List (Bound Variable) → Tree → List Mark
   marks_of s scope (trees.Id at name) = mark at role.Variable name (name_meaning scope s.attributes name) ∷ []
   marks_of s scope (trees.Assign at name t) = mark at role.Assigned name (name_meaning scope s.attributes name) ∷ marks_of s scope t
   marks_of s scope (trees.Dispatch at t name ts) =
@@ -124,17 +125,17 @@ abbrev mutual
   marks_of s scope (trees.Bool at value) = []
 
   -- of expressions in order
-  pub marks_of_all : Context → List Variable → Trees → List Mark
+  pub marks_of_all : Context → List (Bound Variable) → Trees → List Mark
   marks_of_all s scope Last = []
   marks_of_all s scope (More t ts) = marks_of s scope t ++ marks_of_all s scope ts
 
   -- of an initial value, where there is one
-  pub marks_of_maybe : Context → List Variable → MaybeTree → List Mark
+  pub marks_of_maybe : Context → List (Bound Variable) → MaybeTree → List Mark
   marks_of_maybe s scope Without = []
   marks_of_maybe s scope (With t) = marks_of s scope t
 
   -- of the branches of a case, each with its variable in scope
-  pub marks_of_cases : Context → List Variable → Cases → List Mark
+  pub marks_of_cases : Context → List (Bound Variable) → Cases → List Mark
   marks_of_cases s scope NoCase = []
   marks_of_cases s scope (CaseOf at name declared t cs) =
       declared_marks s.table s.definitions role.Case at name declared ++ (marks_of s (with_variable name declared at scope) t ++ marks_of_cases s scope cs)

@@ -16,10 +16,11 @@ use Rattle.cool_classes.specs.Chains.{Class, features_of}
 use Rattle.cool_classes.specs.Features.{basic_formals, basic_result}
 use Rattle.cool_classes.specs.Names.{self_type}
 use Rattle.cool_rules.specs.Rules.{method_of, type_of_name}
+use Rattle.cool_rules.specs.Scopes.{Bound, found}
 use Rattle.cool_names.specs.declared.mark.Target.{Target}
 use Rattle.cool_names.specs.declared.mark.Target.TheVariants.{Unknown, Given, At}
 use Rattle.cool_names.specs.declared.mark.Meaning.{Meaning}
-use Rattle.cool_names.specs.Scopes.{Variable, bound_in}
+use Rattle.cool_names.specs.Scopes.{Variable}
 
 -- a name that is bound to nothing
 abbrev pub unknown : Meaning
@@ -36,9 +37,9 @@ abbrev pub self_meaning : Meaning
 self_meaning = record { declared = self_type; target = Given }
 
 -- a name among the variables of an expression and then the attributes of its class
-abbrev pub name_meaning : List Variable → List Variable → List ℕ → Meaning
+abbrev pub name_meaning : List (Bound Variable) → List (Bound Variable) → List ℕ → Meaning
 name_meaning locals attributes name =
-    if bytes_eq name (codes "self") then self_meaning else variable_meaning (option_or (bound_in locals name) (bound_in attributes name))
+    if bytes_eq name (codes "self") then self_meaning else variable_meaning (option_or (found locals name) (found attributes name))
 
 -- Classes
 

@@ -12,32 +12,33 @@ use Rattle.cool_classes.specs.Chains.{Class, class_number, features_of}
 use Rattle.cool_classes.specs.ClimbedChains.{chain}
 use Rattle.cool_classes.specs.Features.{attributes_of}
 use Rattle.cool_classes.specs.declared.class_id.ClassId.{ClassId}
+use Rattle.cool_rules.specs.Scopes.{Bound, entered}
 use Rattle.cool_names.specs.declared.mark.Mark.{Mark}
 use Rattle.cool_names.specs.declared.mark.Role.TheVariants as role
 use Rattle.cool_names.specs.declared.mark.Target.TheVariants.{At}
-use Rattle.cool_names.specs.Scopes.{Variable, entered}
+use Rattle.cool_names.specs.Scopes.{Variable}
 use Rattle.cool_names.specs.Meanings.{feature_meaning}
 use Rattle.cool_names.specs.Marks.{Context, mark, type_mark, declared_marks, marks_of}
 
 -- Variables of features
 
-abbrev pub variable_there : Option Feature → Variable
-variable_there None = record { name = []; declared = []; at = nowhere }
-variable_there (Some (Method m)) = record { name = []; declared = []; at = nowhere }
-variable_there (Some (Attribute a)) = record { name = a.name; declared = a.declared.name; at = a.at }
+abbrev pub variable_there : Option Feature → Bound Variable
+variable_there None = record { name = []; type = record { declared = []; at = nowhere } }
+variable_there (Some (Method m)) = record { name = []; type = record { declared = []; at = nowhere } }
+variable_there (Some (Attribute a)) = record { name = a.name; type = record { declared = a.declared.name; at = a.at } }
 
-abbrev pub attribute_variable : List Class → AttributeRef → Variable
+abbrev pub attribute_variable : List Class → AttributeRef → Bound Variable
 attribute_variable p r = variable_there (slice_get (features_of p r.owner) r.index)
 
 -- the attributes of a class with those that it inherits, the latest first
-abbrev pub attributes_in_scope : List Class → ClassId → List Variable
+abbrev pub attributes_in_scope : List Class → ClassId → List (Bound Variable)
 attributes_in_scope p c = entered (map (attribute_variable p) (attributes_of p (chain p c))) []
 
-abbrev pub formal_variable : Formal → Variable
-formal_variable f = record { name = f.name; declared = f.declared.name; at = f.at }
+abbrev pub formal_variable : Formal → Bound Variable
+formal_variable f = record { name = f.name; type = record { declared = f.declared.name; at = f.at } }
 
 -- the formals of a method, the latest first
-abbrev pub formals_in_scope : List Formal → List Variable
+abbrev pub formals_in_scope : List Formal → List (Bound Variable)
 formals_in_scope fs = entered (map formal_variable fs) []
 
 -- Features

@@ -1,15 +1,11 @@
 -- In what an expression is walked through: a class of a whole table, whose classes are the basic ones and these definitions.
-use Rattle.std.specs.Prelude.{◌≡◌, ℕ, ◌+◌, ◌<◌, List, length, map, Option}
-use Rattle.std.specs.Option.{option_map}
+use Rattle.std.specs.Prelude.{◌≡◌, ℕ, ◌+◌, ◌<◌, List, length}
 use Rattle.cool_syntax.specs.declared.file_tree.ClassDef.{ClassDef}
-use Rattle.cool_syntax.specs.declared.node.Node.{Node}
-use Rattle.cool_syntax.specs.declared.node.NodeBranch.{NodeBranch}
-use Rattle.cool_syntax.specs.declared.node.NodeId.{NodeId}
-use Rattle.cool_syntax.specs.Tree.{Tree, Trees, MaybeTree, Cases, of_list, of_option, of_twigs, tree_size}
-use Rattle.cool_syntax.specs.NodeLists.{all_trees, at_id, made, twig_at}
+use Rattle.cool_syntax.specs.Tree.{tree_size}
 use Rattle.cool_classes.specs.Chains.{Class}
 use Rattle.cool_classes.specs.Tables.{IsTable}
 use Rattle.cool_names.specs.declared.setting.Setting.{Setting}
+use Rattle.cool_names.specs.Scopes.{variables}
 use Rattle.cool_names.specs.Marks.{Context}
 
 -- a whole table, with a definition of each class that is not a basic one
@@ -21,7 +17,7 @@ abbrev pub IsSound : Setting → Type 0
 IsSound s = AreClasses s.program.table.now s.program.definitions.now × (s.class.0 < length s.program.table.now)
 
 abbrev pub context : Setting → Context
-context s = record { table = s.program.table.now; definitions = s.program.definitions.now; class = s.class; attributes = s.attributes.now }
+context s = record { table = s.program.table.now; definitions = s.program.definitions.now; class = s.class; attributes = variables s.attributes.now }
 
 -- the expressions before this number of the body can be walked through
 pub record IsReady (s : Setting) (number : ℕ) : Type 0 where

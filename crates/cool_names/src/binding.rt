@@ -5,21 +5,22 @@ ghost use Rattle.std.specs.List.{AllByRecursion};
 ghost use Rattle.cool_syntax.specs.NodeGroups.{IsBinding};
 ghost use Rattle.cool_syntax.specs.NodeLists.{tree_at, HasPartsBelow, cases_of, maybe_tree_of, tree_of_node};
 ghost use Rattle.cool_names.specs.Marks.{marks_of, marks_of_cases, marks_of_maybe};
-ghost use Rattle.cool_names.specs.Scopes.{variable_of};
+ghost use Rattle.cool_names.specs.Scopes.{variable_of, variables};
 ghost use Rattle.cool_names.specs.Settings.{IsReady, context};
 
+use crate::declaration::Declaration;
 use crate::expression::add_marks;
 use crate::mark::{Mark, Role};
-use crate::scope::{Entry, Scope};
 use crate::setting::Setting;
-use cool_syntax::{Node, NodeBranch, NodeId};
+use cool_rules::Scope;
+use cool_syntax::{Name, Node, NodeBranch, NodeId};
 use std::alloc::AllocError;
 
 /// Adds the marks of a `let` or a `case`, whose parts have numbers below this one. `Err` comes only for want of memory.
 #[cycle(walk)]
 pub(crate) fn add_binding<'a>(
     setting: &Setting<'a, '_>,
-    locals: &mut Scope<'a>,
+    locals: &mut Scope<'a, Declaration<'a>>,
     marks: &mut Vec<Mark>,
     id: NodeId,
     node: &'a Node,
@@ -28,7 +29,7 @@ pub(crate) fn add_binding<'a>(
     requires parts { HasPartsBelow id.0 node.now }
     requires ready { IsReady setting.now id.0 }
     ensures scope { OnOk result (locals.new ≡ locals.old) }
-    ensures marks { OnOk result (marks.new.items ≡ marks.old.items ++ marks_of (context setting.now) locals.old (tree_of_node setting.now.body.now node.now)) }
+    ensures marks { OnOk result (marks.new.items ≡ marks.old.items ++ marks_of (context setting.now) (variables locals.old) (tree_of_node setting.now.body.now node.now)) }
 {
     match node {
         Node::Let {
@@ -42,12 +43,11 @@ pub(crate) fn add_binding<'a>(
                 .program
                 .add_declared(marks, Role::Let, *at, name, declared)?;
             add_option(setting, locals, marks, id, *init)?;
-            let entry = Entry {
-                name,
+            let variable = Declaration {
                 declared: &declared.name,
                 at: *at,
             };
-            add_within(setting, locals, marks, entry, *body)
+            add_within(setting, locals, marks, name, variable, *body)
         }
         Node::Case {
             value,
@@ -65,7 +65,7 @@ pub(crate) fn add_binding<'a>(
 #[cycle(walk)]
 fn add_option<'a>(
     setting: &Setting<'a, '_>,
-    locals: &mut Scope<'a>,
+    locals: &mut Scope<'a, Declaration<'a>>,
     marks: &mut Vec<Mark>,
     end: NodeId,
     init: Option<NodeId>,
@@ -73,7 +73,7 @@ fn add_option<'a>(
     requires init { IfSome init (λ value. value.0 < end.0) }
     requires ready { IsReady setting.now end.0 }
     ensures scope { OnOk result (locals.new ≡ locals.old) }
-    ensures marks { OnOk result (marks.new.items ≡ marks.old.items ++ marks_of_maybe (context setting.now) locals.old (maybe_tree_of setting.now.body.now init)) }
+    ensures marks { OnOk result (marks.new.items ≡ marks.old.items ++ marks_of_maybe (context setting.now) (variables locals.old) (maybe_tree_of setting.now.body.now init)) }
 {
     match init {
         Some(value) => add_marks(setting, locals, marks, value),
@@ -85,16 +85,17 @@ fn add_option<'a>(
 #[cycle(walk)]
 fn add_within<'a>(
     setting: &Setting<'a, '_>,
-    locals: &mut Scope<'a>,
+    locals: &mut Scope<'a, Declaration<'a>>,
     marks: &mut Vec<Mark>,
-    variable: Entry<'a>,
+    name: &'a Name,
+    variable: Declaration<'a>,
     body: NodeId,
 ) -> Result<(), AllocError>
     requires ready { IsReady setting.now body.0 }
     ensures scope { OnOk result (locals.new ≡ locals.old) }
-    ensures marks { OnOk result (marks.new.items ≡ marks.old.items ++ marks_of (context setting.now) (variable_of variable.entry ∷ locals.old) (tree_at setting.now.body.now body)) }
+    ensures marks { OnOk result (marks.new.items ≡ marks.old.items ++ marks_of (context setting.now) (record { name = name.now; type = variable_of variable.entry } ∷ variables locals.old) (tree_at setting.now.body.now body)) }
 {
-    locals.enter(variable)?;
+    locals.enter(name, variable)?;
     add_marks(setting, locals, marks, body)?;
     locals.leave();
     Ok(())
@@ -104,7 +105,7 @@ fn add_within<'a>(
 #[cycle(walk)]
 fn add_branches<'a>(
     setting: &Setting<'a, '_>,
-    locals: &mut Scope<'a>,
+    locals: &mut Scope<'a, Declaration<'a>>,
     marks: &mut Vec<Mark>,
     end: NodeId,
     branches: &'a [NodeBranch],
@@ -112,16 +113,15 @@ fn add_branches<'a>(
     requires branches { AllByRecursion (λ branch. branch.body.0 < end.0) branches.now }
     requires ready { IsReady setting.now end.0 }
     ensures scope { OnOk result (locals.new ≡ locals.old) }
-    ensures marks { OnOk result (marks.new.items ≡ marks.old.items ++ marks_of_cases (context setting.now) locals.old (cases_of setting.now.body.now branches.now)) }
+    ensures marks { OnOk result (marks.new.items ≡ marks.old.items ++ marks_of_cases (context setting.now) (variables locals.old) (cases_of setting.now.body.now branches.now)) }
 {
     for branch in branches {
         setting.program.add_declared(marks, Role::Case, branch.at, &branch.name, &branch.declared)?;
-        let entry = Entry {
-            name: &branch.name,
+        let variable = Declaration {
             declared: &branch.declared.name,
             at: branch.at,
         };
-        add_within(setting, locals, marks, entry, branch.body)?;
+        add_within(setting, locals, marks, &branch.name, variable, branch.body)?;
     }
     Ok(())
 }

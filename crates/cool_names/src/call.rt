@@ -5,13 +5,15 @@ ghost use Rattle.cool_syntax.specs.NodeGroups.{IsCall};
 ghost use Rattle.cool_syntax.specs.NodeLists.{tree_at, HasPartsBelow, tree_of_node};
 ghost use Rattle.cool_rules.specs.Conformance.{IsType};
 ghost use Rattle.cool_names.specs.Marks.{is_written, marks_of, seen_type};
+ghost use Rattle.cool_names.specs.Scopes.{variables};
 ghost use Rattle.cool_names.specs.Settings.{IsReady, context};
 
+use crate::declaration::Declaration;
 use crate::expression::{add_all, add_marks};
 use crate::mark::Mark;
-use crate::scope::Scope;
 use crate::setting::Setting;
 use cool_classes::{BOOL, INT, OBJECT, STRING, Ty};
+use cool_rules::Scope;
 use cool_syntax::{Node, NodeId, Place};
 use std::alloc::AllocError;
 
@@ -19,7 +21,7 @@ use std::alloc::AllocError;
 #[cycle(walk)]
 pub(crate) fn add_call<'a>(
     setting: &Setting<'a, '_>,
-    locals: &mut Scope<'a>,
+    locals: &mut Scope<'a, Declaration<'a>>,
     marks: &mut Vec<Mark>,
     id: NodeId,
     node: &'a Node,
@@ -28,7 +30,7 @@ pub(crate) fn add_call<'a>(
     requires parts { HasPartsBelow id.0 node.now }
     requires ready { IsReady setting.now id.0 }
     ensures scope { OnOk result (locals.new ≡ locals.old) }
-    ensures marks { OnOk result (marks.new.items ≡ marks.old.items ++ marks_of (context setting.now) locals.old (tree_of_node setting.now.body.now node.now)) }
+    ensures marks { OnOk result (marks.new.items ≡ marks.old.items ++ marks_of (context setting.now) (variables locals.old) (tree_of_node setting.now.body.now node.now)) }
 {
     match node {
         Node::Dispatch {
@@ -61,14 +63,14 @@ pub(crate) fn add_call<'a>(
 #[cycle(walk)]
 fn add_receiver<'a>(
     setting: &Setting<'a, '_>,
-    locals: &mut Scope<'a>,
+    locals: &mut Scope<'a, Declaration<'a>>,
     marks: &mut Vec<Mark>,
     at: Place,
     receiver: NodeId,
 ) -> Result<(), AllocError>
     requires ready { IsReady setting.now receiver.0 }
     ensures scope { OnOk result (locals.new ≡ locals.old) }
-    ensures marks { OnOk result (marks.new.items ≡ marks.old.items ++ (if is_written at (tree_at setting.now.body.now receiver) then marks_of (context setting.now) locals.old (tree_at setting.now.body.now receiver) else [])) }
+    ensures marks { OnOk result (marks.new.items ≡ marks.old.items ++ (if is_written at (tree_at setting.now.body.now receiver) then marks_of (context setting.now) (variables locals.old) (tree_at setting.now.body.now receiver) else [])) }
 {
     if setting.body.node(receiver).place().byte == at.byte {
         return Ok(());
@@ -77,10 +79,14 @@ fn add_receiver<'a>(
 }
 
 /// The type that the expression at this number has at first sight, where it has one.
-fn seen_type<'a>(setting: &Setting<'a, '_>, locals: &Scope<'a>, id: NodeId) -> Option<Ty>
+fn seen_type<'a>(
+    setting: &Setting<'a, '_>,
+    locals: &Scope<'a, Declaration<'a>>,
+    id: NodeId,
+) -> Option<Ty>
     requires ready { IsReady setting.now id.0 }
     ensures is_type { IfSome result (IsType setting.now.program.table.now) }
-    ensures seen { result ≡ seen_type (context setting.now) locals.now (tree_at setting.now.body.now id) }
+    ensures seen { result ≡ seen_type (context setting.now) (variables locals.now) (tree_at setting.now.body.now id) }
 {
     match setting.body.node(id) {
         Node::Id { name, .. } => setting.type_of_variable(locals, name),

@@ -5,13 +5,15 @@ ghost use Rattle.std.specs.List.{AllByRecursion};
 ghost use Rattle.cool_syntax.specs.NodeGroups.{IsBinary, IsControl, IsLeaf, IsUnary};
 ghost use Rattle.cool_syntax.specs.NodeLists.{tree_at, HasPartsBelow, tree_of_node, trees_of};
 ghost use Rattle.cool_names.specs.Marks.{marks_of, marks_of_all};
+ghost use Rattle.cool_names.specs.Scopes.{variables};
 ghost use Rattle.cool_names.specs.Settings.{IsReady, IsSound, context};
 
 use crate::binding::add_binding;
 use crate::call::add_call;
+use crate::declaration::Declaration;
 use crate::mark::{Mark, Role};
-use crate::scope::Scope;
 use crate::setting::Setting;
+use cool_rules::Scope;
 use cool_syntax::{Node, NodeId};
 use std::alloc::AllocError;
 
@@ -19,13 +21,13 @@ use std::alloc::AllocError;
 #[cycle(walk)]
 pub(crate) fn add_marks<'a>(
     setting: &Setting<'a, '_>,
-    locals: &mut Scope<'a>,
+    locals: &mut Scope<'a, Declaration<'a>>,
     marks: &mut Vec<Mark>,
     id: NodeId,
 ) -> Result<(), AllocError>
     requires ready { IsReady setting.now id.0 }
     ensures scope { OnOk result (locals.new ≡ locals.old) }
-    ensures marks { OnOk result (marks.new.items ≡ marks.old.items ++ marks_of (context setting.now) locals.old (tree_at setting.now.body.now id)) }
+    ensures marks { OnOk result (marks.new.items ≡ marks.old.items ++ marks_of (context setting.now) (variables locals.old) (tree_at setting.now.body.now id)) }
 {
     let node = setting.body.node(id);
     match node {
@@ -54,13 +56,13 @@ pub(crate) fn add_marks<'a>(
 /// Adds the mark of a name or a new object; a constant has none. `Err` comes only for want of memory.
 fn add_leaf<'a>(
     setting: &Setting<'a, '_>,
-    locals: &Scope<'a>,
+    locals: &Scope<'a, Declaration<'a>>,
     marks: &mut Vec<Mark>,
     node: &Node,
 ) -> Result<(), AllocError>
     requires group { IsLeaf node.now }
     requires sound { IsSound setting.now }
-    ensures { OnOk result (marks.new.items ≡ marks.old.items ++ marks_of (context setting.now) locals.now (tree_of_node setting.now.body.now node.now)) }
+    ensures { OnOk result (marks.new.items ≡ marks.old.items ++ marks_of (context setting.now) (variables locals.now) (tree_of_node setting.now.body.now node.now)) }
 {
     match node {
         Node::Id { at, name } => {
@@ -77,7 +79,7 @@ fn add_leaf<'a>(
 #[cycle(walk)]
 fn add_unary<'a>(
     setting: &Setting<'a, '_>,
-    locals: &mut Scope<'a>,
+    locals: &mut Scope<'a, Declaration<'a>>,
     marks: &mut Vec<Mark>,
     id: NodeId,
     node: &'a Node,
@@ -86,7 +88,7 @@ fn add_unary<'a>(
     requires parts { HasPartsBelow id.0 node.now }
     requires ready { IsReady setting.now id.0 }
     ensures scope { OnOk result (locals.new ≡ locals.old) }
-    ensures marks { OnOk result (marks.new.items ≡ marks.old.items ++ marks_of (context setting.now) locals.old (tree_of_node setting.now.body.now node.now)) }
+    ensures marks { OnOk result (marks.new.items ≡ marks.old.items ++ marks_of (context setting.now) (variables locals.old) (tree_of_node setting.now.body.now node.now)) }
 {
     match node {
         Node::Assign { at, name, value } => {
@@ -104,7 +106,7 @@ fn add_unary<'a>(
 #[cycle(walk)]
 fn add_control<'a>(
     setting: &Setting<'a, '_>,
-    locals: &mut Scope<'a>,
+    locals: &mut Scope<'a, Declaration<'a>>,
     marks: &mut Vec<Mark>,
     id: NodeId,
     node: &'a Node,
@@ -113,7 +115,7 @@ fn add_control<'a>(
     requires parts { HasPartsBelow id.0 node.now }
     requires ready { IsReady setting.now id.0 }
     ensures scope { OnOk result (locals.new ≡ locals.old) }
-    ensures marks { OnOk result (marks.new.items ≡ marks.old.items ++ marks_of (context setting.now) locals.old (tree_of_node setting.now.body.now node.now)) }
+    ensures marks { OnOk result (marks.new.items ≡ marks.old.items ++ marks_of (context setting.now) (variables locals.old) (tree_of_node setting.now.body.now node.now)) }
 {
     match node {
         Node::If { test, yes, no, .. } => {
@@ -134,7 +136,7 @@ fn add_control<'a>(
 #[cycle(walk)]
 pub(crate) fn add_all<'a>(
     setting: &Setting<'a, '_>,
-    locals: &mut Scope<'a>,
+    locals: &mut Scope<'a, Declaration<'a>>,
     marks: &mut Vec<Mark>,
     end: NodeId,
     items: &[NodeId],
@@ -142,7 +144,7 @@ pub(crate) fn add_all<'a>(
     requires items { AllByRecursion (λ item. item.0 < end.0) items.now }
     requires ready { IsReady setting.now end.0 }
     ensures scope { OnOk result (locals.new ≡ locals.old) }
-    ensures marks { OnOk result (marks.new.items ≡ marks.old.items ++ marks_of_all (context setting.now) locals.old (trees_of setting.now.body.now items.now)) }
+    ensures marks { OnOk result (marks.new.items ≡ marks.old.items ++ marks_of_all (context setting.now) (variables locals.old) (trees_of setting.now.body.now items.now)) }
 {
     for item in items {
         add_marks(setting, locals, marks, *item)?;

@@ -1,21 +1,23 @@
 //! The marks of features, and the variables that they have in scope.
 
-ghost use Rattle.std.specs.Prelude.{◌≡◌, ◌<◌, ◌++◌, [], length, IfOk, OnOk, Some};
+ghost use Rattle.std.specs.Prelude.{◌≡◌, ◌<◌, ◌++◌, [], length, IfOk, OnOk, Some, slice_get};
 ghost use Rattle.cool_syntax.specs.declared.file_tree.Feature.TheVariants as feature;
+ghost use Rattle.cool_classes.specs.Chains.{features_of};
 ghost use Rattle.cool_classes.specs.Features.{HasAttribute};
 ghost use Rattle.cool_classes.specs.Tables.{IsTable};
 ghost use Rattle.cool_names.specs.Marks.{marks_of, type_mark};
-ghost use Rattle.cool_names.specs.Programs.{attribute_variable, attributes_in_scope, feature_marks, features_marks, formals_in_scope, formals_marks, class_context};
-ghost use Rattle.cool_names.specs.Scopes.{variable_of};
+ghost use Rattle.cool_names.specs.Programs.{attributes_in_scope, feature_marks, features_marks, formals_in_scope, formals_marks, class_context};
+ghost use Rattle.cool_names.specs.Scopes.{variables};
 ghost use Rattle.cool_names.specs.Settings.{AreClasses};
 
+use crate::declaration::Declaration;
 use crate::expression::add_marks;
 use crate::mark::{Mark, Role};
 use crate::meaning::defined_method;
 use crate::program::Program;
-use crate::scope::{Entry, Scope};
 use crate::setting::Setting;
 use cool_classes::{AttributeRef, ClassId, ClassTable};
+use cool_rules::Scope;
 use cool_syntax::{AttributeDef, Body, Feature, Formal, MethodDef};
 use std::alloc::{AllocError, Global};
 
@@ -47,12 +49,12 @@ fn add_method<'a>(
     program: &Program<'a>,
     marks: &mut Vec<Mark>,
     class: ClassId,
-    attributes: &Scope<'a>,
+    attributes: &Scope<'a, Declaration<'a>>,
     method: &'a MethodDef,
 ) -> Result<(), AllocError>
     requires classes { AreClasses program.now.table.now program.now.definitions.now }
     requires class { class.0 < length program.now.table.now }
-    requires attributes { attributes.now ≡ attributes_in_scope program.now.table.now class }
+    requires attributes { variables attributes.now ≡ attributes_in_scope program.now.table.now class }
     ensures { OnOk result (marks.new.items ≡ marks.old.items ++ feature_marks (class_context program.now.table.now program.now.definitions.now class) (feature.Method method.now)) }
 {
     marks.push(Mark {
@@ -77,10 +79,10 @@ fn add_formals<'a>(
     program: &Program<'a>,
     marks: &mut Vec<Mark>,
     formals: &'a [Formal],
-) -> Result<Scope<'a>, AllocError>
+) -> Result<Scope<'a, Declaration<'a>>, AllocError>
     requires classes { AreClasses program.now.table.now program.now.definitions.now }
     ensures marks { OnOk result (marks.new.items ≡ marks.old.items ++ formals_marks program.now.table.now program.now.definitions.now formals.now) }
-    ensures scope { IfOk result (λ scope. scope ≡ formals_in_scope formals.now) }
+    ensures scope { IfOk result (λ scope. variables scope ≡ formals_in_scope formals.now) }
 {
     let mut locals = Scope::new(program.alloc);
     for formal in formals {
@@ -91,11 +93,11 @@ fn add_formals<'a>(
             &formal.name,
             &formal.declared,
         )?;
-        locals.enter(Entry {
-            name: &formal.name,
+        let variable = Declaration {
             declared: &formal.declared.name,
             at: formal.at,
-        })?;
+        };
+        locals.enter(&formal.name, variable)?;
     }
     Ok(locals)
 }
@@ -105,12 +107,12 @@ fn add_attribute<'a>(
     program: &Program<'a>,
     marks: &mut Vec<Mark>,
     class: ClassId,
-    attributes: &Scope<'a>,
+    attributes: &Scope<'a, Declaration<'a>>,
     attribute: &'a AttributeDef,
 ) -> Result<(), AllocError>
     requires classes { AreClasses program.now.table.now program.now.definitions.now }
     requires class { class.0 < length program.now.table.now }
-    requires attributes { attributes.now ≡ attributes_in_scope program.now.table.now class }
+    requires attributes { variables attributes.now ≡ attributes_in_scope program.now.table.now class }
     ensures { OnOk result (marks.new.items ≡ marks.old.items ++ feature_marks (class_context program.now.table.now program.now.definitions.now class) (feature.Attribute attribute.now)) }
 {
     program.add_declared(
@@ -137,29 +139,30 @@ fn attribute_scope(
     alloc: Global,
     table: &ClassTable,
     class: ClassId,
-) -> Result<Scope<'_>, AllocError>
+) -> Result<Scope<'_, Declaration<'_>>, AllocError>
     requires table { IsTable table.now }
     requires class { class.0 < length table.now }
-    ensures { IfOk result (λ scope. scope ≡ attributes_in_scope table.now class) }
+    ensures { IfOk result (λ scope. variables scope ≡ attributes_in_scope table.now class) }
 {
     let mut scope = Scope::new(alloc);
     for attribute in table.attributes(alloc, class)? {
-        scope.enter(attribute_entry(table, attribute))?;
+        let found = attribute_definition(table, attribute);
+        let variable = Declaration {
+            declared: &found.declared.name,
+            at: found.at,
+        };
+        scope.enter(&found.name, variable)?;
     }
     Ok(scope)
 }
 
-/// An attribute as an entry of a scope.
-fn attribute_entry(table: &ClassTable, attribute: AttributeRef) -> Entry<'_>
+/// The definition of an attribute.
+fn attribute_definition(table: &ClassTable, attribute: AttributeRef) -> &AttributeDef
     requires has { HasAttribute table.now attribute }
-    ensures { variable_of result ≡ attribute_variable table.now attribute }
+    ensures { slice_get (features_of table.now attribute.owner) attribute.index ≡ Some (feature.Attribute result.now) }
 {
     match &table.features(attribute.owner)[attribute.index as usize] {
-        Feature::Attribute(found) => Entry {
-            name: &found.name,
-            declared: &found.declared.name,
-            at: found.at,
-        },
+        Feature::Attribute(found) => found,
         Feature::Method(_) => unreachable!(),
     }
 }

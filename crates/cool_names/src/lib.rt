@@ -6,13 +6,13 @@
 
 mod binding;
 mod call;
+mod declaration;
 mod expression;
 mod feature;
 mod laws;
 mod mark;
 mod meaning;
 mod program;
-mod scope;
 mod setting;
 
 pub use laws::{

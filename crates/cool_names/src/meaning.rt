@@ -7,8 +7,8 @@ ghost use Rattle.cool_names.specs.declared.mark.Target.TheVariants as to;
 ghost use Rattle.cool_names.specs.Meanings.{feature_meaning, method_meaning, self_meaning, signature, unknown, variable_meaning};
 ghost use Rattle.cool_names.specs.Scopes.{variable_of};
 
+use crate::declaration::Declaration;
 use crate::mark::{Meaning, Target};
-use crate::scope::Entry;
 use cool_classes::{BasicMethod, ClassTable, MethodRef};
 use cool_syntax::{Bytes, Feature, MethodDef, Place};
 use std::alloc::{AllocError, Global};
@@ -40,12 +40,12 @@ pub(crate) fn self_meaning(alloc: Global) -> Result<Meaning, AllocError>
 /// The meaning of a variable, if there is one. `Err` comes only for want of memory.
 pub(crate) fn variable_meaning(
     alloc: Global,
-    found: Option<Entry<'_>>,
+    found: Option<Declaration<'_>>,
 ) -> Result<Meaning, AllocError>
     ensures { IfOk result (λ meaning. meaning ≡ variable_meaning (option_map variable_of found.entry)) }
 {
     match found {
-        Some(entry) => meaning(alloc, entry.declared.as_slice(), Target::At(entry.at)),
+        Some(variable) => meaning(alloc, variable.declared.as_slice(), Target::At(variable.at)),
         None => unknown(alloc),
     }
 }

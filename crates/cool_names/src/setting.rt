@@ -5,18 +5,19 @@ ghost use Rattle.std.specs.Option.{option_or};
 ghost use Rattle.cool_classes.specs.Features.{HasMethod, result_of};
 ghost use Rattle.cool_rules.specs.Conformance.{IsType, class_of};
 ghost use Rattle.cool_rules.specs.Rules.{method_of, type_meant, type_of_name};
+ghost use Rattle.cool_rules.specs.Scopes.{found};
 ghost use Rattle.cool_rules.specs.Typing.{result_on};
 ghost use Rattle.cool_names.specs.Marks.{mark, call_mark, type_mark, type_of_call, type_of_variable};
 ghost use Rattle.cool_names.specs.Meanings.{call_meaning, name_meaning};
-ghost use Rattle.cool_names.specs.Scopes.{variable_of, bound_in};
+ghost use Rattle.cool_names.specs.Scopes.{variable_of, variables};
 ghost use Rattle.cool_names.specs.Settings.{IsSound, context};
 
+use crate::declaration::Declaration;
 use crate::mark::{Mark, Meaning, Role};
 use crate::meaning::{method_meaning, self_meaning, unknown, variable_meaning};
 use crate::program::Program;
-use crate::scope::{Entry, Scope};
 use cool_classes::{ClassId, MethodRef, Ty};
-use cool_rules::class_of;
+use cool_rules::{Scope, class_of};
 use cool_syntax::{Body, Name, Place, TypeRef};
 use std::alloc::AllocError;
 
@@ -25,7 +26,7 @@ use std::alloc::AllocError;
 pub(crate) struct Setting<'a, 's> {
     pub(crate) program: Program<'a>,
     pub(crate) class: ClassId,
-    pub(crate) attributes: &'s Scope<'a>,
+    pub(crate) attributes: &'s Scope<'a, Declaration<'a>>,
     pub(crate) body: &'a Body,
 }
 
@@ -33,12 +34,12 @@ impl<'a, 's> Setting<'a, 's> {
     /// The mark of a variable that is read or assigned to, or of `self`. `Err` comes only for want of memory.
     pub(crate) fn variable_mark(
         &self,
-        locals: &Scope<'a>,
+        locals: &Scope<'a, Declaration<'a>>,
         role: Role,
         at: Place,
         name: &Name,
     ) -> Result<Mark, AllocError>
-        ensures { IfOk result (λ m. m ≡ mark at role name.now (name_meaning locals.now self.now.attributes.now name.now)) }
+        ensures { IfOk result (λ m. m ≡ mark at role name.now (name_meaning (variables locals.now) (variables self.now.attributes.now) name.now)) }
     {
         let alloc = self.program.alloc;
         let meaning = if is_self(name) {
@@ -55,26 +56,30 @@ impl<'a, 's> Setting<'a, 's> {
     }
 
     /// The variable of a name: the latest local one, or else the attribute.
-    fn variable(&self, locals: &Scope<'a>, name: &Name) -> Option<Entry<'a>>
-        ensures { option_map variable_of result ≡ option_or (bound_in locals.now name.now) (bound_in self.now.attributes.now name.now) }
+    fn variable(&self, locals: &Scope<'a, Declaration<'a>>, name: &Name) -> Option<Declaration<'a>>
+        ensures { option_map variable_of result ≡ option_or (found (variables locals.now) name.now) (found (variables self.now.attributes.now) name.now) }
     {
         match locals.find(name) {
-            Some(entry) => Some(entry),
+            Some(variable) => Some(variable),
             None => self.attributes.find(name),
         }
     }
 
     /// The type of a variable, or of `self`, where it is known.
-    pub(crate) fn type_of_variable(&self, locals: &Scope<'a>, name: &Name) -> Option<Ty>
+    pub(crate) fn type_of_variable(
+        &self,
+        locals: &Scope<'a, Declaration<'a>>,
+        name: &Name,
+    ) -> Option<Ty>
         requires sound { IsSound self.now }
         ensures is_type { IfSome result (IsType self.now.program.table.now) }
-        ensures seen { result ≡ type_of_variable (context self.now) locals.now name.now }
+        ensures seen { result ≡ type_of_variable (context self.now) (variables locals.now) name.now }
     {
         if is_self(name) {
             return Some(Ty::SelfType);
         }
         match self.variable(locals, name) {
-            Some(entry) => self.program.type_named(entry.declared),
+            Some(variable) => self.program.type_named(variable.declared),
             None => None,
         }
     }

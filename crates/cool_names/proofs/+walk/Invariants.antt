@@ -5,6 +5,7 @@ use Rattle.std.specs.List.{AllByRecursion}
 use Rattle.cool_syntax.specs.Tree.{of_list, of_twigs}
 use Rattle.cool_syntax.specs.NodeLists.{all_trees, at_id, twig_at}
 use Rattle.cool_names.specs.Marks.{marks_of_all, marks_of_cases}
+use Rattle.cool_names.specs.Scopes.{variables}
 use Rattle.cool_names.specs.Settings.{context}
 use Rattle.cool_names.proofs.+walk.Given as goal
 
@@ -41,15 +42,15 @@ decreases-expression::add_all l = 8 * l.end.0
 abbrev pub invariant-binding::add_branches-loop-branch : goal.invariant-binding::add_branches-loop-branch
 invariant-binding::add_branches-loop-branch l = record {
   scope : l.locals ≡ l.fn.locals;
-  goes_on : l.marks.items ++ marks_of_cases (context l.setting) l.fn.locals (of_twigs (map (twig_at (all_trees l.setting.body.now)) (drop l.branch-index l.branches)))
-      ≡ l.fn.marks.items ++ marks_of_cases (context l.setting) l.fn.locals (of_twigs (map (twig_at (all_trees l.setting.body.now)) l.branches));
+  goes_on : l.marks.items ++ marks_of_cases (context l.setting) (variables l.fn.locals) (of_twigs (map (twig_at (all_trees l.setting.body.now)) (drop l.branch-index l.branches)))
+      ≡ l.fn.marks.items ++ marks_of_cases (context l.setting) (variables l.fn.locals) (of_twigs (map (twig_at (all_trees l.setting.body.now)) l.branches));
   below : AllByRecursion (λ branch. branch.body.0 < l.fn.end.0) (drop l.branch-index l.branches);
 }
 
 abbrev pub invariant-expression::add_all-loop-item : goal.invariant-expression::add_all-loop-item
 invariant-expression::add_all-loop-item l = record {
   scope : l.locals ≡ l.fn.locals;
-  goes_on : l.marks.items ++ marks_of_all (context l.setting) l.fn.locals (of_list (map (at_id (all_trees l.setting.body.now)) (drop l.item-index l.items)))
-      ≡ l.fn.marks.items ++ marks_of_all (context l.setting) l.fn.locals (of_list (map (at_id (all_trees l.setting.body.now)) l.items));
+  goes_on : l.marks.items ++ marks_of_all (context l.setting) (variables l.fn.locals) (of_list (map (at_id (all_trees l.setting.body.now)) (drop l.item-index l.items)))
+      ≡ l.fn.marks.items ++ marks_of_all (context l.setting) (variables l.fn.locals) (of_list (map (at_id (all_trees l.setting.body.now)) l.items));
   below : AllByRecursion (λ item. item.0 < l.fn.end.0) (drop l.item-index l.items);
 }

@@ -1,11 +1,12 @@
 -- The marks and the scope go on with the formals that are left.
 use Rattle.std.proofs.Common.{◌≡◌, ◌++◌, drop, map}
 use Rattle.cool_names.specs.Programs.{formal_variable, formals_in_scope, formals_marks}
-use Rattle.cool_names.specs.Scopes.{entered}
+use Rattle.cool_rules.specs.Scopes.{entered}
+use Rattle.cool_names.specs.Scopes.{variables}
 use Rattle.cool_names.proofs.feature.add_formals.Given as goal
 
 abbrev pub invariant-loop-formal : goal.invariant-loop-formal
 invariant-loop-formal l = record {
   goes_on : l.marks.items ++ formals_marks l.program.table.now l.program.definitions.now (drop l.formal-index l.formals) ≡ l.fn.marks.items ++ formals_marks l.program.table.now l.program.definitions.now l.formals;
-  scope : entered (map formal_variable (drop l.formal-index l.formals)) l.locals ≡ formals_in_scope l.formals;
+  scope : entered (map formal_variable (drop l.formal-index l.formals)) (variables l.locals) ≡ formals_in_scope l.formals;
 }

@@ -1,7 +1,6 @@
 -- The nearest method on the chain is that of the chain by the table.
 use Rattle.std.proofs.Common.{◌≡◌, ◌<◌, length, sym, subst}
 use Rattle.cool_classes.specs.declared.class_id.ClassId.{ClassId}
-use Rattle.cool_rules.specs.Conformance.{class_of}
 use Rattle.cool_rules.specs.Rules.{method_of}
 use Rattle.cool_rules.proofs.RulesOfTables.{method_of_is}
 use Rattle.cool_names.proofs.setting.Setting.method.Goals as goal

@@ -1,0 +1,10 @@
+//! What is known of a variable in scope.
+
+use cool_syntax::{Name, Place};
+
+/// The name of a variable's type, and where the variable is declared.
+#[derive(Clone, Copy)]
+pub(crate) struct Declaration<'a> {
+    pub(crate) declared: &'a Name,
+    pub(crate) at: Place,
+}
