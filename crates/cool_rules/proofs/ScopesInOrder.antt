@@ -1,7 +1,10 @@
 -- Entries of a scope seen with the latest first: adding one, taking one out, and looking for a name from the end.
 use Rattle.std.proofs.Common.{◌≡◌, ℕ, suc, ◌-◌, ◌<◌, List, [], ◌∷◌, ◌++◌, length, take, get_or, Some, Bool, true, false, ap, sym, ◌∙◌, refl, arith}
 use Rattle.std.proofs.Math.Seq.{take-suc, take-length}
-use Rattle.std.specs.Prelude.{bytes_eq, if◌then◌else◌}
+use Rattle.std.proofs.lemmas.List.{length-append}
+use Rattle.std.specs.Prelude.{bytes_eq, if◌then◌else◌, slice_get}
+use Rattle.std.specs.Option.{option_map}
+use Rattle.lists.proofs.ItemsAt.{front_get}
 use Rattle.cool_rules.specs.declared.scope.Entry.{Entry}
 use Rattle.cool_rules.specs.Scopes.{Bound, binding_of, found, left, latest_first}
 
@@ -35,3 +38,16 @@ pub found_there : {T : Type 0} (es : List (Entry T)) (k : ℕ) (e : Entry T) (na
     → found (latest_first (take (suc k) es)) name ≡ found (latest_first (take k es)) name
 found_there {T} es k e name within is other =
     found_before es k e name within is ∙ ap (λ (b : Bool). if b then Some e.value else found (latest_first (take k es)) name) other
+
+-- as many names as entries, and the entry at the end first
+pub as_many : {T : Type 0} (es : List (Entry T)) → length (latest_first es) ≡ length es
+as_many {T} [] = refl
+as_many {T} (e ∷ es) = omega (arith, as_many es, length-append (latest_first es) (binding_of e ∷ []))
+
+pub last_is : {T : Type 0} (es : List (Entry T)) → slice_get (latest_first es) 0 ≡ option_map binding_of (slice_get es (length es - 1))
+last_is {T} [] = refl
+last_is {T} (e ∷ []) = refl
+last_is {T} (e ∷ x ∷ es) =
+    let some : 0 < length (latest_first (x ∷ es)) = omega (arith, as_many (x ∷ es)) in
+    let one : suc (length (x ∷ es) - 1) ≡ length (e ∷ x ∷ es) - 1 = omega arith in
+    front_get (latest_first (x ∷ es)) (binding_of e ∷ []) 0 some ∙ last_is (x ∷ es) ∙ ap (λ (k : ℕ). option_map binding_of (slice_get (e ∷ x ∷ es) k)) one

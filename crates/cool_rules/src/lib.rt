@@ -17,6 +17,6 @@ pub use conformance::{conforms, join_types};
 pub use laws::{law_node_types, law_static_type};
 pub use meant::{method_meant, type_meant};
 pub use node_types::NodeTypes;
-pub use scope::Scope;
+pub use scope::{Entry, Scope};
 pub use typed_program::TypedProgram;
 pub use types::{class_of, type_named};

@@ -1,8 +1,8 @@
 //! The names in scope, each with what it is bound to.
 
-ghost use Rattle.std.specs.Prelude.{◌≡◌, ◌≢◌, [], ◌∷◌, if◌then◌else◌};
+ghost use Rattle.std.specs.Prelude.{◌≡◌, ◌≢◌, [], ◌∷◌, length, option_map, slice_get, if◌then◌else◌};
 ghost use Rattle.std.specs.Result.{is_ok};
-ghost use Rattle.cool_rules.specs.Scopes.{found, left};
+ghost use Rattle.cool_rules.specs.Scopes.{binding_of, found, left};
 
 use cool_syntax::Name;
 use std::alloc::{AllocError, Global};
@@ -10,9 +10,9 @@ use std::marker::Model;
 
 /// A name that was entered, with what it is bound to.
 #[derive(Clone, Copy)]
-struct Entry<'a, T: Copy> {
-    name: &'a [u8],
-    value: T,
+pub struct Entry<'a, T: Copy> {
+    pub name: &'a [u8],
+    pub value: T,
 }
 
 /// The names in scope, each bound to its type or to what else is known of it. A contract sees them with the latest first.
@@ -57,6 +57,20 @@ impl<'a, T: Copy> Scope<'a, T> {
         ensures { self.new ≡ left self.old }
     {
         self.entries.pop();
+    }
+
+    /// How many names are in scope.
+    pub fn count(&self) -> usize
+        ensures { result ≡ length self.now }
+    {
+        self.entries.len()
+    }
+
+    /// The name that was entered last, with what it is bound to.
+    pub fn latest(&self) -> Option<Entry<'a, T>>
+        ensures { option_map binding_of result ≡ slice_get self.now 0 }
+    {
+        self.entries.last().copied()
     }
 
     /// What a name is bound to, by its latest entry. None exactly where there is no entry of the name.
