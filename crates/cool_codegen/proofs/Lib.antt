@@ -13,7 +13,6 @@ mod LinesAlone
 pub mod FeaturesThere
 mod NumbersStay
 mod SameSettings
-mod VariablesInOrder
 pub mod SpansOfCode
 pub mod SpansStand
 pub mod MovedSpans

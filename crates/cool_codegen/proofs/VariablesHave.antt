@@ -8,14 +8,14 @@ use Rattle.cool_rules.specs.Conformance.{IsType}
 use Rattle.cool_rules.specs.Scopes as scopes
 use Rattle.cool_codegen.specs.declared.variables.Variable.{Variable}
 use Rattle.cool_codegen.specs.Settings.{HaveTypes}
-use Rattle.cool_codegen.specs.Variables.{Named, found, scope_of}
+use Rattle.cool_codegen.specs.Variables.{Named, scope_of}
 
-pub found_in_scope : (vs : List Named) (name : List ℕ) → scopes.found (scope_of vs) name ≡ option_map (λ (v : Variable). v.ty) (found vs name)
+pub found_in_scope : (vs : List Named) (name : List ℕ) → scopes.found (scope_of vs) name ≡ option_map (λ (v : Variable). v.ty) (scopes.found vs name)
 found_in_scope [] name = refl
 found_in_scope (v ∷ vs) name = by (bytes_eq v.name name) (found_in_scope vs name)
   where
-    by : (b : Bool) → scopes.found (scope_of vs) name ≡ option_map (λ (w : Variable). w.ty) (found vs name)
-        → (if b then Some v.variable.ty else scopes.found (scope_of vs) name) ≡ option_map (λ (w : Variable). w.ty) (if b then Some v.variable else found vs name)
+    by : (b : Bool) → scopes.found (scope_of vs) name ≡ option_map (λ (w : Variable). w.ty) (scopes.found vs name)
+        → (if b then Some v.type.ty else scopes.found (scope_of vs) name) ≡ option_map (λ (w : Variable). w.ty) (if b then Some v.type else scopes.found vs name)
     by true same = refl
     by false same = same
 

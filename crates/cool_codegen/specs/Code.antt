@@ -31,7 +31,8 @@ use Rattle.cool_consts.specs.Labels.{int_constant, string_constant}
 use Rattle.cool_codegen.specs.declared.variables.Variable.{Variable}
 use Rattle.cool_codegen.specs.Pieces.{pop_lines, load_lines, store_lines, take_self_lines, take_void_lines, take_lines, test_lines, mark_lines, turn_lines, repeat_lines, values_lines, compare_equal_lines, less_lines, less_equal_lines, is_void_lines, complement_lines, flag_lines, add_lines, subtract_lines, multiply_lines, divide_lines, negate_lines, is_zero_lines, ends_where_lines, create_lines, create_self_lines, call_lines, call_static_lines, case_begin_lines, try_tags_lines, case_end_lines}
 use Rattle.cool_codegen.specs.Labels.{inner}
-use Rattle.cool_codegen.specs.Variables.{Named, found, bind, scope_of}
+use Rattle.cool_rules.specs.Scopes.{found}
+use Rattle.cool_codegen.specs.Variables.{Named, bind, scope_of, register}
 use Rattle.cool_rules.specs.Meant.{method_in}
 use Rattle.cool_codegen.specs.Types.{is_self, class_meant, trees_count}
 use Rattle.cool_codegen.specs.Arms.{Arm, with_arm, arms_lines}
@@ -63,14 +64,14 @@ file_label s t at = string_label t (file_name s at)
 
 abbrev pub load_of : Option Variable → List Line
 load_of None = []
-load_of (Some v) = load_lines v.offset v.base
+load_of (Some v) = load_lines v.offset (register v.base)
 
 abbrev pub name_code : List Named → List ℕ → List Line
 name_code vs name = if is_self name then take_self_lines else load_of (found vs name)
 
 abbrev pub store_of : Option Variable → List Line
 store_of None = []
-store_of (Some v) = store_lines v.offset v.base
+store_of (Some v) = store_lines v.offset (register v.base)
 
 abbrev pub assign_code : List Named → List ℕ → List Line
 assign_code vs name = if is_self name then [] else store_of (found vs name)

@@ -5,7 +5,7 @@ use Rattle.cool_syntax.specs.declared.file_tree.Feature.TheVariants.{Method, Att
 use Rattle.cool_syntax.specs.declared.file_tree.Formal.{Formal}
 use Rattle.cool_syntax.specs.Tree.{Tree}
 use Rattle.mips_isa.specs.Lines.{Line}
-use Rattle.mips_isa.specs.declared.register.TheConstants.{FP, S0}
+use Rattle.mips_isa.specs.declared.register.TheConstants.{S0}
 use Rattle.cool_classes.specs.declared.class_id.ClassId.{ClassId}
 use Rattle.cool_classes.specs.declared.method.AttributeRef.{AttributeRef}
 use Rattle.cool_classes.specs.declared.method.MethodRef.TheVariants.{User}
@@ -18,6 +18,7 @@ use Rattle.cool_layout.specs.Members.{offset}
 use Rattle.cool_layout.specs.Labels.{method_label}
 use Rattle.cool_consts.specs.Constants.{Constants}
 use Rattle.cool_codegen.specs.Pieces.{mark_lines, leave_lines, store_lines}
+use Rattle.cool_codegen.specs.declared.variables.Base.TheVariants.{Frame, Object}
 use Rattle.cool_codegen.specs.Variables.{Named}
 use Rattle.cool_codegen.specs.Code.{Context, code}
 use Rattle.cool_codegen.specs.Asked.{integers_in, strings_in}
@@ -28,7 +29,7 @@ with_attributes p c [] vs = vs
 with_attributes p c (a ∷ as') vs =
     with_attributes p c as' (record {
       name = attribute_name p a;
-      variable = record { base = S0; offset = pos (offset p c a); ty = type_meant p (attribute_type p a) };
+      type = record { base = Object; offset = pos (offset p c a); ty = type_meant p (attribute_type p a) };
     } ∷ vs)
 
 -- formals, entered after names: the last one is nearest to the frame
@@ -37,7 +38,7 @@ with_formals p [] vs = vs
 with_formals p (f ∷ fs) vs =
     with_formals p fs (record {
       name = f.name;
-      variable = record { base = FP; offset = pos (12 + 4 * length fs); ty = type_meant p f.declared.name };
+      type = record { base = Frame; offset = pos (12 + 4 * length fs); ty = type_meant p f.declared.name };
     } ∷ vs)
 
 -- the attributes of a class in scope

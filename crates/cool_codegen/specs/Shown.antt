@@ -16,7 +16,8 @@ use Rattle.cool_codegen.specs.declared.span.Span as declared_span
 use Rattle.cool_codegen.specs.declared.setting.Wanted.{Wanted}
 use Rattle.cool_codegen.specs.declared.setting.Wanted.TheVariants.{Lines, Spans}
 use Rattle.cool_codegen.specs.Arms.{arm_of}
-use Rattle.cool_codegen.specs.Variables.{Named, named_of}
+use Rattle.cool_rules.specs.Scopes.{binding_of}
+use Rattle.cool_codegen.specs.Variables.{Named}
 use Rattle.cool_codegen.specs.Code.{Context}
 use Rattle.cool_codegen.specs.Spans.{Span, Branch, code_of}
 
@@ -74,7 +75,7 @@ shown_of x = record {
   to = x.to;
   depth = x.depth;
   names = x.names;
-  latest = option_map named_of x.latest;
+  latest = option_map binding_of x.latest;
 }
 
 -- what is noted of spans: all where they are wanted, and nothing where lines alone are

@@ -31,7 +31,7 @@ use crate::operation::take_default;
 use crate::piece::{case_begin, case_end, pop, try_tags, turn};
 use crate::setting::Setting;
 use crate::span::Span;
-use crate::variables::Variable;
+use crate::variables::{Base, Variable};
 use cool_classes::{ClassId, Ty};
 use cool_consts::Consts;
 use cool_rules::{class_of, type_meant};
@@ -39,7 +39,6 @@ use cool_runtime::draft::write;
 use cool_runtime::piece::push;
 use cool_syntax::{Name, Node, NodeBranch, NodeId, Place};
 use mips_isa::Line;
-use mips_isa::register::FP;
 use std::alloc::AllocError;
 use std::mem::replace;
 
@@ -232,7 +231,7 @@ fn pushed(depth: u32, ty: Ty) -> Variable
     ensures { result ≡ pushed depth ty }
 {
     Variable {
-        base: FP,
+        base: Base::Frame,
         offset: negative(4 * depth + 4),
         ty,
     }

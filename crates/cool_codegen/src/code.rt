@@ -10,8 +10,9 @@ ghost use Rattle.cool_codegen.specs.declared.setting.Wanted.TheVariants.{Spans};
 
 use crate::setting::{Setting, Wanted};
 use crate::span::{Span, form_of};
-use crate::variables::Variables;
+use crate::variables::Variable;
 use cool_consts::Consts;
+use cool_rules::Scope;
 use cool_syntax::Node;
 use mips_isa::Line;
 use std::alloc::AllocError;
@@ -21,7 +22,7 @@ use std::alloc::AllocError;
 #[derive(Drop)]
 pub struct Code<'a> {
     pub setting: Setting<'a>,
-    pub variables: Variables<'a>,
+    pub variables: Scope<'a, Variable>,
     pub consts: Consts,
     pub lines: Vec<Line>,
     pub spans: Vec<Span<'a>>,

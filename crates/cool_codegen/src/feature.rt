@@ -30,16 +30,16 @@ use crate::number::signed;
 use crate::piece::{leave, mark, store};
 use crate::setting::{Setting, Wanted};
 use crate::span::Span;
-use crate::variables::{Variable, Variables};
+use crate::variables::{Base, Variable};
 use cool_classes::{AttributeRef, ClassId, ClassTable, MethodRef, Ty};
 use cool_consts::Consts;
 use cool_layout::{Layout, method_label};
-use cool_rules::{TypedProgram, type_meant};
+use cool_rules::{Scope, TypedProgram, type_meant};
 use cool_runtime::draft::write;
 use cool_runtime::piece::enter;
 use cool_syntax::{Body, Feature, Formal};
 use mips_isa::Line;
-use mips_isa::register::{FP, S0};
+use mips_isa::register::S0;
 use std::alloc::{AllocError, Global};
 use std::mem::replace;
 
@@ -48,7 +48,7 @@ use std::mem::replace;
 pub struct FeatureCode<'a> {
     pub lines: Vec<Line>,
     pub spans: Vec<Span<'a>>,
-    pub names: Variables<'a>,
+    pub names: Scope<'a, Variable>,
 }
 
 /// The lines of a feature of a class, by its number among the features of the class: a method under its label, or the part of an initializer
@@ -177,7 +177,7 @@ fn wanted_code<'a>(
 /// The constants stand in the code while it is made, and are put back whether that fails or not.
 fn body_code<'a>(
     setting: &Setting<'a>,
-    variables: Variables<'a>,
+    variables: Scope<'a, Variable>,
     consts: &mut Consts,
     lines: Vec<Line>,
 ) -> Result<FeatureCode<'a>, AllocError>
@@ -218,17 +218,17 @@ pub fn attribute_variables<'a>(
     table: &'a ClassTable,
     layout: &Layout,
     class: ClassId,
-) -> Result<Variables<'a>, AllocError>
+) -> Result<Scope<'a, Variable>, AllocError>
     requires whole { IsWholeTable table.now }
     requires class { class.0 < length table.now }
     requires layout { IsLayoutOf layout.now table.now }
     ensures variables { IfOk result (λ vs. vs ≡ attributes_in table.now class) }
     ensures types { IfOk result (HaveTypes table.now) }
 {
-    let mut variables = Variables::new(alloc);
+    let mut variables = Scope::new(alloc);
     for attribute in table.attributes(alloc, class)? {
         let variable = Variable {
-            base: S0,
+            base: Base::Object,
             offset: signed(layout.offset(class, attribute)),
             ty: declared_type(table, attribute),
         };
@@ -250,7 +250,7 @@ fn declared_type(table: &ClassTable, attribute: AttributeRef) -> Ty
 /// Adds the formals of a method to the names in scope: the last one is nearest to the frame.
 fn formal_variables<'a>(
     setting: &Setting<'a>,
-    variables: &mut Variables<'a>,
+    variables: &mut Scope<'a, Variable>,
     formals: &'a [Formal],
 ) -> Result<(), AllocError>
     requires few { length formals.now < 2 ^ 28 }
@@ -262,7 +262,7 @@ fn formal_variables<'a>(
     for formal in formals {
         after -= 1;
         let variable = Variable {
-            base: FP,
+            base: Base::Frame,
             offset: signed(12 + 4 * after),
             ty: type_meant(setting.table, &formal.declared.name),
         };

@@ -24,4 +24,4 @@ mod variables;
 
 pub use feature::{FeatureCode, attribute_variables, feature_code, feature_lines};
 pub use span::{Form, Span};
-pub use variables::{Entry, Variable, Variables};
+pub use variables::{Base, Variable};

@@ -16,10 +16,11 @@ use crate::piece::{
     take, take_self, take_void, values,
 };
 use crate::setting::Setting;
-use crate::variables::Variables;
+use crate::variables::Variable;
 use cool_classes::{BOOL, INT, STRING, Ty};
 use cool_consts::Consts;
 use cool_layout::{initializer_label, prototype_label};
+use cool_rules::Scope;
 use cool_runtime::draft::write;
 use cool_runtime::piece::new_int;
 use cool_syntax::{CompareOp, Name, NodeId, Place};
@@ -102,7 +103,7 @@ fn is_self(name: &Name) -> bool
 /// Adds the load of a name: of `self`, or of a variable.
 pub fn take_name(
     alloc: Global,
-    variables: &Variables<'_>,
+    variables: &Scope<'_, Variable>,
     name: &Name,
     lines: &mut Vec<Line>,
 ) -> Result<(), AllocError>
@@ -113,7 +114,11 @@ pub fn take_name(
         return Ok(());
     }
     if let Some(variable) = variables.find(name) {
-        write(alloc, lines, &load(variable.offset, variable.base))?;
+        write(
+            alloc,
+            lines,
+            &load(variable.offset, variable.base.register()),
+        )?;
     }
     Ok(())
 }
@@ -121,7 +126,7 @@ pub fn take_name(
 /// Adds the store of a value to a name.
 pub fn assign(
     alloc: Global,
-    variables: &Variables<'_>,
+    variables: &Scope<'_, Variable>,
     name: &Name,
     lines: &mut Vec<Line>,
 ) -> Result<(), AllocError>
@@ -131,7 +136,11 @@ pub fn assign(
         return Ok(());
     }
     if let Some(variable) = variables.find(name) {
-        write(alloc, lines, &store(variable.offset, variable.base))?;
+        write(
+            alloc,
+            lines,
+            &store(variable.offset, variable.base.register()),
+        )?;
     }
     Ok(())
 }

@@ -5,7 +5,8 @@ ghost use Rattle.cool_syntax.specs.NodeLists.{made};
 ghost use Rattle.cool_syntax.specs.Tree.{Tree};
 ghost use Rattle.cool_codegen.specs.Shown.{form_of};
 
-use crate::variables::Entry;
+use crate::variables::Variable;
+use cool_rules::Entry;
 use cool_syntax::{ArithOp, CompareOp, Node, Place};
 
 /// The form of an expression.
@@ -42,7 +43,7 @@ pub struct Span<'a> {
     pub to: usize,
     pub depth: u32,
     pub names: usize,
-    pub latest: Option<Entry<'a>>,
+    pub latest: Option<Entry<'a, Variable>>,
 }
 
 /// The form of a node.

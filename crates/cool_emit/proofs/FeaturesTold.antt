@@ -9,7 +9,6 @@ use Rattle.cool_syntax.specs.declared.file_tree.Formal.{Formal}
 use Rattle.mips_isa.specs.Lines.{Line}
 use Rattle.cool_classes.specs.declared.class_id.ClassId.{ClassId}
 use Rattle.cool_classes.specs.Chains.{Class}
-use Rattle.mips_isa.specs.declared.register.TheConstants.{FP}
 use Rattle.cool_rules.specs.Rules.{type_meant}
 use Rattle.cool_runtime.specs.Standing.{sizes}
 use Rattle.cool_consts.specs.Constants.{Constants}
@@ -17,6 +16,7 @@ use Rattle.cool_codegen.specs.Code.{Context}
 use Rattle.cool_codegen.specs.Features.{feature_code, with_formals}
 use Rattle.cool_codegen.specs.Shown.{Shown, shown}
 use Rattle.cool_codegen.specs.Spans.{Span, StandsBehind, code_of, feature_spans}
+use Rattle.cool_codegen.specs.declared.variables.Base.TheVariants.{Frame}
 use Rattle.cool_codegen.specs.Variables.{Named}
 use Rattle.cool_emit.proofs.KindsInAll.{kinds, kinds_of_feature}
 use Rattle.cool_codegen.proofs.SpansOfCode.{Stands, law_feature}
@@ -42,7 +42,7 @@ formals_first p (f ∷ fs) vs =
 pub length_formals : (p : List Class) (fs : List Formal) → length (with_formals p fs []) ≡ length fs
 length_formals p [] = refl
 length_formals p (f ∷ fs) =
-    let e : Named = record { name = f.name; variable = record { base = FP; offset = pos (12 + 4 * length fs); ty = type_meant p f.declared.name } } in
+    let e : Named = record { name = f.name; type = record { base = Frame; offset = pos (12 + 4 * length fs); ty = type_meant p f.declared.name } } in
     let l : length (with_formals p fs (e ∷ [])) ≡ length (with_formals p fs []) + 1 = ap length (formals_first p fs (e ∷ [])) ∙ length-append (with_formals p fs []) (e ∷ []) in
     let k : length (with_formals p fs []) ≡ length fs = length_formals p fs in
     l ∙ omega (arith, k)

@@ -47,7 +47,8 @@ use Rattle.cool_codegen.specs.Pieces.{ends_where_lines, create_lines, create_sel
 use Rattle.cool_codegen.specs.Pieces.{call_static_lines, case_begin_lines, try_tags_lines, case_end_lines}
 use Rattle.cool_rules.specs.Meant.{method_in}
 use Rattle.cool_codegen.specs.Types.{is_self, class_meant, trees_count}
-use Rattle.cool_codegen.specs.Variables.{Named, bind, found, scope_of}
+use Rattle.cool_rules.specs.Scopes.{found}
+use Rattle.cool_codegen.specs.Variables.{Named, bind, scope_of}
 use Rattle.cool_emit.specs.SoundLines.{labels_of}
 use Rattle.cool_emit.proofs.CountedNames.{times, times-append, total_from, total_from-append, total_from_more}
 use Rattle.cool_emit.proofs.NamesApart.{kinds}

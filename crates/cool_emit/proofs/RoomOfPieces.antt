@@ -26,7 +26,8 @@ use Rattle.cool_codegen.specs.Pieces.{multiply_lines, divide_lines, negate_lines
 use Rattle.cool_codegen.specs.Pieces.{ends_where_lines, create_lines, create_self_lines, call_lines}
 use Rattle.cool_codegen.specs.Pieces.{call_static_lines, case_begin_lines, try_tags_lines, case_end_lines}
 use Rattle.cool_codegen.specs.Pieces.{leave_lines, begin_init_lines, call_init_lines, return_basic_lines}
-use Rattle.cool_codegen.specs.Variables.{Named, found}
+use Rattle.cool_rules.specs.Scopes.{found}
+use Rattle.cool_codegen.specs.Variables.{Named, register}
 use Rattle.cool_codegen.specs.Types.{is_self}
 use Rattle.cool_codegen.specs.Arms.{Arm, with_arm, arms_lines}
 use Rattle.cool_codegen.specs.Code.{Context, label_at, file_label, divisor_code, load_of}
@@ -188,7 +189,7 @@ room_name vs name = by (is_self name)
   where
     loaded : (o : Option Variable) → text_room (load_of o) ≤ 1
     loaded None = omega arith
-    loaded (Some v) = omega (arith, room_load v.offset v.base)
+    loaded (Some v) = omega (arith, room_load v.offset (register v.base))
 
     by : (b : Truth) → text_room (if b then take_self_lines else load_of (found vs name)) ≤ 1
     by true = omega (arith, room_take_self)
@@ -199,7 +200,7 @@ room_assign vs name = by (is_self name)
   where
     stored : (o : Option Variable) → text_room (store_of o) ≤ 1
     stored None = omega arith
-    stored (Some v) = omega (arith, room_store v.offset v.base)
+    stored (Some v) = omega (arith, room_store v.offset (register v.base))
 
     by : (b : Truth) → text_room (if b then [] else store_of (found vs name)) ≤ 1
     by true = omega arith

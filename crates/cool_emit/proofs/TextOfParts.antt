@@ -28,7 +28,8 @@ use Rattle.cool_layout.specs.Members.{slot}
 use Rattle.cool_layout.specs.Labels.{prototype, initializer, method_label}
 use Rattle.cool_consts.specs.Constants.{Constants}
 use Rattle.cool_codegen.specs.declared.variables.Variable.{Variable}
-use Rattle.cool_codegen.specs.Variables.{Named, found, bind}
+use Rattle.cool_rules.specs.Scopes.{found}
+use Rattle.cool_codegen.specs.Variables.{Named, bind, register}
 use Rattle.cool_rules.specs.Meant.{method_in}
 use Rattle.cool_codegen.specs.Types.{is_self, class_meant}
 use Rattle.cool_codegen.specs.Asked.{files_of}
@@ -76,10 +77,10 @@ pub record Serves (target known : Name → Type 0) (p : List Class) : Type 0 whe
 
 -- variables that an instruction can address
 abbrev pub CanBeReached : Variable → Type 0
-CanBeReached v = (v.base < 32) × IsSigned v.offset
+CanBeReached v = (register v.base < 32) × IsSigned v.offset
 
 abbrev pub AreReached : List Named → Type 0
-AreReached vs = AllByRecursion (λ v. CanBeReached v.variable) vs
+AreReached vs = AllByRecursion (λ v. CanBeReached v.type) vs
 
 -- the constants of a table that have known labels
 abbrev pub AreNumbers : (Name → Type 0) → Constants → List ℕ → Type 0
@@ -96,7 +97,7 @@ found_here false v o h k = k
 
 found_reached : (vs : List Named) (name : List ℕ) → AreReached vs → IfSome (found vs name) CanBeReached
 found_reached [] name h = tt
-found_reached (v ∷ vs) name h = found_here (bytes_eq v.name name) v.variable (found vs name) h.0 (found_reached vs name h.1)
+found_reached (v ∷ vs) name h = found_here (bytes_eq v.name name) v.type (found vs name) h.0 (found_reached vs name h.1)
 
 -- a variable on the stack is reached while few words are pushed
 pub bound_reached : (d : ℕ) (name : List ℕ) (type : Ty) (vs : List Named) → d < MOST_TOKENS → AreReached vs
@@ -154,7 +155,7 @@ module _ (target known : Name → Type 0) (s : Context) (u : Serves target known
       by : (b : Bool) (o : Option Variable) → IfSome o CanBeReached → AreText target known (if b then take_self_lines else load_of o)
       by true o r = text_of_take_self target known
       by false None r = tt
-      by false (Some v) r = text_of_load target known v.offset v.base r.1 r.0
+      by false (Some v) r = text_of_load target known v.offset (register v.base) r.1 r.0
 
   pub text_of_assign : (vs : List Named) (name : List ℕ) → AreReached vs → AreText target known (assign_code vs name)
   text_of_assign vs name h = by (is_self name) (found vs name) (found_reached vs name h)
@@ -162,7 +163,7 @@ module _ (target known : Name → Type 0) (s : Context) (u : Serves target known
       by : (b : Bool) (o : Option Variable) → IfSome o CanBeReached → AreText target known (if b then [] else store_of o)
       by true o r = tt
       by false None r = tt
-      by false (Some v) r = text_of_store target known v.offset v.base r.1 r.0
+      by false (Some v) r = text_of_store target known v.offset (register v.base) r.1 r.0
 
   -- new objects, and what a variable holds without a value
 

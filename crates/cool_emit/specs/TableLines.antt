@@ -10,7 +10,7 @@
 --
 -- FROM is where code begins, and TO the address behind it. FILE is the number of the file, from 0. DEPTH is how many words are pushed in the
 -- frame where the code begins, NAMES how many names are in scope there, and NAME the one that was entered last.
-use Rattle.std.specs.Prelude.{◌≡◌, refl, ℕ, negsuc, List, [], ◌++◌, codes, decimal, nat_eq, if◌then◌else◌, Option, Some, None}
+use Rattle.std.specs.Prelude.{◌≡◌, refl, ℕ, negsuc, List, [], ◌++◌, codes, decimal, Option, Some, None}
 use Rattle.std.specs.Fmt as decimals
 use Rattle.std.specs.Fmt.{signed_decimal}
 use Rattle.std.specs.List.{flat_map}
@@ -19,13 +19,14 @@ use Rattle.cool_syntax.specs.declared.operator.ArithOp.TheVariants.{Add, Sub, Mu
 use Rattle.cool_syntax.specs.declared.operator.CompareOp.{CompareOp}
 use Rattle.cool_syntax.specs.declared.operator.CompareOp.TheVariants.{Less, LessEqual, Equal}
 use Rattle.cool_syntax.specs.declared.place.Place.{Place}
-use Rattle.mips_isa.specs.declared.register.TheConstants.{FP}
 use Rattle.cool_classes.specs.declared.class_id.Ty.{Ty}
 use Rattle.cool_classes.specs.declared.class_id.Ty.TheVariants as types
 use Rattle.cool_classes.specs.Chains.{Class, name_of}
 use Rattle.cool_codegen.specs.declared.span.Form.{Form}
 use Rattle.cool_codegen.specs.declared.span.Form.TheVariants as forms
 use Rattle.cool_codegen.specs.Shown.{Shown}
+use Rattle.cool_codegen.specs.declared.variables.Base.{Base}
+use Rattle.cool_codegen.specs.declared.variables.Base.TheVariants.{Frame, Object}
 use Rattle.cool_codegen.specs.Variables.{Named}
 use Rattle.cool_emit.specs.CodeTables.{Row, class_row, attribute_row, initial_row, method_row, formal_row, code_row, table_rows}
 
@@ -67,13 +68,14 @@ type_text p types.SelfType = codes "SELF_TYPE"
 type_text p (types.Class c) = name_of p c
 
 -- the register from which a word is addressed: the frame, or self
-abbrev pub base_text : ℕ → List ℕ
-base_text base = if nat_eq base FP then codes "$fp" else codes "$s0"
+abbrev pub base_text : Base → List ℕ
+base_text Frame = codes "$fp"
+base_text Object = codes "$s0"
 
 -- a name, where its word is, and its type
 abbrev pub named_text : List Class → Named → List ℕ
 named_text p v =
-    v.name ++ (codes " " ++ (signed_decimal v.variable.offset ++ (codes "(" ++ (base_text v.variable.base ++ (codes ") " ++ type_text p v.variable.ty)))))
+    v.name ++ (codes " " ++ (signed_decimal v.type.offset ++ (codes "(" ++ (base_text v.type.base ++ (codes ") " ++ type_text p v.type.ty)))))
 
 abbrev pub place_text : Place → List ℕ
 place_text at = decimal at.file ++ (codes ":" ++ (decimal at.line ++ (codes ":" ++ decimal at.byte)))
@@ -110,7 +112,7 @@ unfolding decimals.digits
 line_of_method p = refl
 
 line_of_operand : (p : List Class)
-    → row_line p (code_row 4196208 4196212 (record { at = record { file = 0; line = 3; byte = 45 }; form = forms.Name; from = 8; to = 9; depth = 1; names = 1; latest = Some (record { name = codes "x"; variable = record { base = FP; offset = negsuc 3; ty = types.SelfType } }) }))
+    → row_line p (code_row 4196208 4196212 (record { at = record { file = 0; line = 3; byte = 45 }; form = forms.Name; from = 8; to = 9; depth = 1; names = 1; latest = Some (record { name = codes "x"; type = record { base = Frame; offset = negsuc 3; ty = types.SelfType } }) }))
     ≡ codes "code 4196208 4196212 name 0:3:45 1 1 x -4($fp) SELF_TYPE\n"
 unfolding decimals.digits
 line_of_operand p = refl

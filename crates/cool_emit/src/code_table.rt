@@ -22,10 +22,10 @@ use crate::emission::{Emission, Part};
 use crate::initializer::{BASIC_CLASSES, add_basic, add_begin, add_end};
 use crate::row::{class_line, code_line, feature_line, named_line};
 use cool_classes::ClassId;
-use cool_codegen::{FeatureCode, Span, Variables, attribute_variables, feature_code};
+use cool_codegen::{FeatureCode, Span, Variable, attribute_variables, feature_code};
 use cool_consts::Consts;
 use cool_layout::Layout;
-use cool_rules::TypedProgram;
+use cool_rules::{Scope, TypedProgram};
 use cool_runtime::routines;
 use cool_syntax::Feature;
 use mips_asm::words_of_statement;
@@ -105,7 +105,7 @@ fn class_text(emission: &Emission<'_>, c: ClassId) -> Result<Vec<u8>, AllocError
 fn names_text(
     emission: &Emission<'_>,
     words: &[u8],
-    mut names: Variables<'_>,
+    mut names: Scope<'_, Variable>,
     count: usize,
 ) -> Result<Vec<u8>, AllocError>
     requires few { count ≤ length names }
@@ -122,7 +122,7 @@ fn names_text(
 fn add_name(
     emission: &Emission<'_>,
     words: &[u8],
-    names: &mut Variables<'_>,
+    names: &mut Scope<'_, Variable>,
     text: &mut Vec<u8>,
 ) -> Result<(), AllocError>
     ensures { OnOk result ((v : Named) (vs : List Named) → names.old ≡ v ∷ vs
@@ -265,7 +265,7 @@ fn head_text(
     emission: &Emission<'_>,
     c: ClassId,
     feature: u32,
-    names: Variables<'_>,
+    names: Scope<'_, Variable>,
     from: u32,
     to: u32,
 ) -> Result<Vec<u8>, AllocError>

@@ -4,14 +4,14 @@ ghost use Rattle.std.specs.Prelude.{◌≡◌, ◌++◌, ◌<◌, codes, length,
 ghost use Rattle.std.specs.Option.{option_map};
 ghost use Rattle.cool_classes.specs.Chains.{name_of};
 ghost use Rattle.cool_codegen.specs.Shown.{shown_of};
-ghost use Rattle.cool_codegen.specs.Variables.{named_of};
+ghost use Rattle.cool_rules.specs.Scopes.{binding_of};
 ghost use Rattle.cool_emit.specs.CodeTables.{class_row, code_row};
 ghost use Rattle.cool_emit.specs.TableLines.{arith_word, base_text, compare_word, form_word, latest_text, named_text, place_text, range_text, row_line, shown_text, type_text};
 
 use cool_classes::{ClassId, ClassTable, Ty};
-use cool_codegen::{Entry, Form, Span};
+use cool_codegen::{Base, Form, Span, Variable};
+use cool_rules::Entry;
 use cool_syntax::{ArithOp, CompareOp, Place};
-use mips_isa::register::FP;
 use std::alloc::{AllocError, Global};
 
 /// The line of a class. `Err` comes only for want of memory.
@@ -34,9 +34,9 @@ pub(crate) fn named_line(
     alloc: Global,
     table: &ClassTable,
     words: &[u8],
-    entry: &Entry<'_>,
+    entry: &Entry<'_, Variable>,
 ) -> Result<Vec<u8>, AllocError>
-    ensures { IfOk result (λ line. line.items ≡ words.now ++ (named_text table.now (named_of entry.now) ++ codes "\n")) }
+    ensures { IfOk result (λ line. line.items ≡ words.now ++ (named_text table.now (binding_of entry.now) ++ codes "\n")) }
 {
     let mut line = Vec::from_slice(alloc, words)?;
     line.extend_from_slice(&named_text(alloc, table, entry)?)?;
@@ -98,9 +98,9 @@ fn span_text(alloc: Global, table: &ClassTable, span: &Span<'_>) -> Result<Vec<u
 fn latest_text(
     alloc: Global,
     table: &ClassTable,
-    latest: Option<Entry<'_>>,
+    latest: Option<Entry<'_, Variable>>,
 ) -> Result<Vec<u8>, AllocError>
-    ensures { IfOk result (λ text. text.items ≡ latest_text table.now (option_map named_of latest.entry)) }
+    ensures { IfOk result (λ text. text.items ≡ latest_text table.now (option_map binding_of latest.entry)) }
 {
     match latest {
         Some(entry) => {
@@ -113,10 +113,14 @@ fn latest_text(
 }
 
 /// A name, where its word is, and its type. `Err` comes only for want of memory.
-fn named_text(alloc: Global, table: &ClassTable, entry: &Entry<'_>) -> Result<Vec<u8>, AllocError>
-    ensures { IfOk result (λ text. text.items ≡ named_text table.now (named_of entry.now)) }
+fn named_text(
+    alloc: Global,
+    table: &ClassTable,
+    entry: &Entry<'_, Variable>,
+) -> Result<Vec<u8>, AllocError>
+    ensures { IfOk result (λ text. text.items ≡ named_text table.now (binding_of entry.now)) }
 {
-    let variable = entry.variable;
+    let variable = entry.value;
     let offset = variable.offset;
     let mut text = Vec::from_slice(alloc, entry.name)?;
     text.extend_from_slice(format!(in alloc; " {offset}(")?.as_bytes())?;
@@ -174,10 +178,13 @@ fn compare_word(op: CompareOp) -> &'static [u8]
 }
 
 /// The register from which a word is addressed: the frame, or self.
-fn base_text(base: u32) -> &'static [u8]
+fn base_text(base: Base) -> &'static [u8]
     ensures { result.now ≡ base_text base }
 {
-    if base == FP { b"$fp" } else { b"$s0" }
+    match base {
+        Base::Frame => b"$fp",
+        Base::Object => b"$s0",
+    }
 }
 
 /// A type: a class of the table, or `SELF_TYPE`.

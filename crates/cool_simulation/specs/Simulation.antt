@@ -23,9 +23,9 @@ use Rattle.cool_runtime.specs.Reaches.{Goal, OnTheWay, Reaches, stands, exits}
 use Rattle.cool_runtime.specs.Standing.{HasLines, sizes}
 use Rattle.cool_runtime.specs.Machines.{At, Pointers, Console}
 use Rattle.cool_layout.specs.Labels.{method_label, initializer}
+use Rattle.cool_codegen.specs.declared.variables.Base.TheVariants.{Frame, Object}
 use Rattle.cool_codegen.specs.declared.variables.Variable.{Variable}
 use Rattle.cool_codegen.specs.Variables.{Named}
-use Rattle.cool_codegen.specs.Variables as variables
 use Rattle.cool_codegen.specs.Code.{code, arguments_code}
 use Rattle.cool_codegen.specs.Spans.{Span, arguments_spans, method_spans, spans}
 use Rattle.cool_emit.specs.SpansOfPrograms.{initializer_spans}
@@ -51,12 +51,12 @@ IsWordAt (negsuc k) base a = (a + suc k ≡ base) × (k < 32768)
 
 -- the word of a variable: from the frame, or from self
 abbrev pub IsVariableAt : Pointers → Variable → ℕ → Type 0
-IsVariableAt q v a = ((v.base ≡ 30) × IsWordAt v.offset q.fp a) ⊎ ((v.base ≡ 16) × IsWordAt v.offset q.self a)
+IsVariableAt q v a = ((v.base ≡ Frame) × IsWordAt v.offset q.fp a) ⊎ ((v.base ≡ Object) × IsWordAt v.offset q.self a)
 
 -- The names in scope have the types that the rules give them, and each is at home in the word that the code finds for it.
 pub record Variables (map : Map) (q : Pointers) (scope : List Binding) (vs : List Named) (env : Environment) : Type 0 where
-  pub typed : (name : List ℕ) (t : Ty) → scopes.found scope name ≡ Some t → (v : Variable) × (variables.found vs name ≡ Some v) × (v.ty ≡ t)
-  pub homes : (name : List ℕ) (v : Variable) → variables.found vs name ≡ Some v
+  pub typed : (name : List ℕ) (t : Ty) → scopes.found scope name ≡ Some t → (v : Variable) × (scopes.found vs name ≡ Some v) × (v.ty ≡ t)
+  pub homes : (name : List ℕ) (v : Variable) → scopes.found vs name ≡ Some v
       → (l : ℕ) × (location_of env name ≡ Some l) × (0 < map.home l) × IsVariableAt q v (map.home l)
 
 -- The machine stands at the code of an expression of class c with so many words pushed, evaluated by self, an object of class k, in a store

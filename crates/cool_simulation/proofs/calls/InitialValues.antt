@@ -25,6 +25,7 @@ use Rattle.cool_runtime.specs.Standing.{HasLines, sizes}
 use Rattle.cool_runtime.specs.Machines.{Pointers, Console}
 use Rattle.cool_runtime.proofs.Pieces.{has_front, has_back, sizes_append, done, next}
 use Rattle.cool_layout.specs.Members.{offset, is_attribute}
+use Rattle.cool_codegen.specs.declared.variables.Base.TheVariants.{Object}
 use Rattle.cool_codegen.specs.Code.{code}
 use Rattle.cool_codegen.specs.Features.{attributes_in, initial_integers, initial_strings}
 use Rattle.cool_codegen.specs.Pieces.{store_lines}
@@ -131,12 +132,12 @@ module _ (l : Loading) (loaded : IsLoaded l) (calls : Calls) (begun_in : Call �
         ap (λ (xs : List AttributeRef). position_or_len (is_attribute (record { owner = c; index = j })) xs) parts
         ∙ place_is p front rest (record { owner = c; index = j }) (subst (λ (xs : List AttributeRef). AreDifferent (each (attribute_name p) xs)) parts differ) in
         let short : length front < length (attributes p c) = subst (λ (xs : List AttributeRef). length front < length xs) (sym parts) (longer front (record { owner = c; index = j }) rest) in
-        let there' : IsVariableAt q (record { base = 16; offset = pos (offset p c (record { owner = c; index = j })); ty = typed.type }) (d.map'.home i) = inr (refl, (omega arith, omega arith)) in
+        let there' : IsVariableAt q (record { base = Object; offset = pos (offset p c (record { owner = c; index = j })); ty = typed.type }) (d.map'.home i) = inr (refl, (omega arith, omega arith)) in
         let append = sizes_append l.world value_code store_code in
         let four = four_bytes in
         next l.world u 1 0 1 _ _
         (stores l.world 16 (pos (offset p c (record { owner = c; index = j }))) (d.map'.home i) _ d.memory d.console u has d.at
-        (variable_address l.world (record { base = 16; offset = pos (offset p c (record { owner = c; index = j })); ty = typed.type }) _ d.memory d.console u (d.map'.home i) d.at there' (home_small l.world (d.map'.home i) d.gp q.sp home.room numbers.gp_to))
+        (variable_address l.world (record { base = Object; offset = pos (offset p c (record { owner = c; index = j })); ty = typed.type }) _ d.memory d.console u (d.map'.home i) d.at there' (home_small l.world (d.map'.home i) d.gp q.sp home.room numbers.gp_to))
         (home_ok l.world (d.map'.home i) d.gp q.sp home.even home.room numbers.gp_to numbers.sp_from)) (omega arith)
         (λ u' at'. done l.world 0 u' _ (
           v,

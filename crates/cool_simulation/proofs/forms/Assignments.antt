@@ -9,6 +9,7 @@ use Rattle.cool_runtime.specs.Standing.{HasLines, sizes}
 use Rattle.cool_runtime.specs.Machines.{At, Pointers}
 use Rattle.cool_runtime.proofs.Pieces.{next, done, has_front, has_back, sizes_append}
 use Rattle.cool_codegen.specs.declared.variables.Variable.{Variable}
+use Rattle.cool_rules.specs.Scopes as scopes
 use Rattle.cool_codegen.specs.Variables as variables
 use Rattle.cool_codegen.specs.Pieces.{store_lines}
 use Rattle.cool_codegen.specs.Code.{code, assign_code, store_of}
@@ -35,8 +36,8 @@ value_stored : (env : Environment) (name : List ℕ) (st : State) (n i : ℕ) (v
 value_stored env name st n i v there = ap (λ (o : Option ℕ). (given o >>= λ l. store l v >> give v) st n) there
 
 -- the words for a name other than self
-stored_lines : (vs : List variables.Named) (name : List ℕ) (v : Variable) → bytes_eq name (codes "self") ≡ false → variables.found vs name ≡ Some v → assign_code vs name ≡ store_lines v.offset v.base
-stored_lines vs name v other found = ap (λ x. if x then [] else store_of (variables.found vs name)) other ∙ ap store_of found
+stored_lines : (vs : List variables.Named) (name : List ℕ) (v : Variable) → bytes_eq name (codes "self") ≡ false → scopes.found vs name ≡ Some v → assign_code vs name ≡ store_lines v.offset (register v.base)
+stored_lines vs name v other found = ap (λ x. if x then [] else store_of (scopes.found vs name)) other ∙ ap store_of found
 
 module _ (l : Loading) (loaded : IsLoaded l) (calls : Calls) (begun_in : Call → Visits) (b : ℕ) (sound : AllCallsSound l.table calls b) (later : CallsLater calls) where
   pub assign_correct : (at : Place) (name : List ℕ) (t : Tree) → Correct l calls begun_in b t → Correct l calls begun_in b (trees.Assign at name t)
@@ -64,9 +65,9 @@ module _ (l : Loading) (loaded : IsLoaded l) (calls : Calls) (begun_in : Call �
         (λ v t1 left u e j x sum rest.
         let (variable, found, same_type) = x.begins.variables.typed name declared there in
         let (i, located, some, word_at) = x.begins.variables.homes name variable found in
-        let lines : assign_code vs name ≡ store_lines variable.offset variable.base = stored_lines vs name variable other found in
+        let lines : assign_code vs name ≡ store_lines variable.offset (register variable.base) = stored_lines vs name variable other found in
         let four : sizes (assign_code vs name) ≡ 4 = ap sizes lines in
-        let has_lines : HasLines w pc1 (store_lines variable.offset variable.base) = subst (λ xs. HasLines w pc1 xs) lines store_there in
+        let has_lines : HasLines w pc1 (store_lines variable.offset (register variable.base)) = subst (λ xs. HasLines w pc1 xs) lines store_there in
         let home = j.pictures.homes i some in
         let numbers1 = j.at.numbers in
         let q1 : Pointers = record q { pc = pc1; gp = j.gp; acc = j.acc; ra = j.ra } in
@@ -74,7 +75,7 @@ module _ (l : Loading) (loaded : IsLoaded l) (calls : Calls) (begun_in : Call �
         let words : whole ≡ (eval l.table calls self env t st n).words + 0 = sum ∙ ap (λ (r : Metered Value). (eval l.table calls self env t st n).words + r.words) is in
         subst (λ (r : Metered Value). Runs l u left (64 * r.work + 60) L r.outcome) (sym is)
         (run_gives l v (record t1 { store = slice_set t1.store i v }) u left 1 60 L (omega arith)
-        (next w u 1 0 1 _ _ (stores w variable.base variable.offset (j.map'.home i) q1 j.memory j.console u has_lines j.at
+        (next w u 1 0 1 _ _ (stores w (register variable.base) variable.offset (j.map'.home i) q1 j.memory j.console u has_lines j.at
         (variable_address w variable q1 j.memory j.console u (j.map'.home i) j.at word_at (home_small w (j.map'.home i) j.gp q.sp home.room numbers1.gp_to))
         (home_ok w (j.map'.home i) j.gp q.sp home.even home.room numbers1.gp_to numbers1.sp_from)) (omega arith)
         (λ u2 at2. done w 0 u2 _

@@ -17,8 +17,9 @@ use Rattle.cool_runtime.specs.Reaches.{World, stands}
 use Rattle.cool_runtime.specs.Standing.{HasLines, sizes}
 use Rattle.cool_runtime.specs.Walk.{OkWord}
 use Rattle.cool_runtime.specs.Machines.{At, Pointers, Console}
+use Rattle.cool_codegen.specs.declared.variables.Base.{Base}
 use Rattle.cool_codegen.specs.declared.variables.Variable.{Variable}
-use Rattle.cool_codegen.specs.Variables.{Named}
+use Rattle.cool_codegen.specs.Variables.{Named, register}
 use Rattle.cool_codegen.specs.Variables as variables
 use Rattle.cool_codegen.specs.Pieces.{take_self_lines, load_lines}
 use Rattle.cool_codegen.specs.Code.{load_of}
@@ -44,9 +45,9 @@ word_address (negsuc k) base a r e at small = let is = at.0 in let few = at.1 in
 
 module _ (w : World) where
   -- the address that the code computes for a variable
-  pub variable_address : (v : Variable) (q : Pointers) (m : Bytes) (c : Console) (s : Machine) (a : ℕ) → At w q m c s → IsVariableAt q v a → a < 4294967296 → wrap (s.core.registers v.base + bits_of v.offset) ≡ a
-  variable_address v q m c s a at (inl h) small = word_address v.offset q.fp a _ (ap s.core.registers h.0 ∙ at.numbers.fp_is) h.1 small
-  variable_address v q m c s a at (inr h) small = word_address v.offset q.self a _ (ap s.core.registers h.0 ∙ at.numbers.self_is) h.1 small
+  pub variable_address : (v : Variable) (q : Pointers) (m : Bytes) (c : Console) (s : Machine) (a : ℕ) → At w q m c s → IsVariableAt q v a → a < 4294967296 → wrap (s.core.registers (register v.base) + bits_of v.offset) ≡ a
+  variable_address v q m c s a at (inl h) small = word_address v.offset q.fp a _ (ap (λ (b : Base). s.core.registers (register b)) h.0 ∙ at.numbers.fp_is) h.1 small
+  variable_address v q m c s a at (inr h) small = word_address v.offset q.self a _ (ap (λ (b : Base). s.core.registers (register b)) h.0 ∙ at.numbers.self_is) h.1 small
 
   -- a home may be loaded and stored
   pub home_ok : (a gp sp : ℕ) → a % 4 ≡ 0 → ((HEAP_START ≤ a) × (a + 4 ≤ gp)) ⊎ ((sp ≤ a) × (a + 4 ≤ STACK_END)) → gp ≤ w.segments.heap_end → w.segments.stack_low ≤ sp → OkWord w.segments a
@@ -82,14 +83,14 @@ module _ (l : Loading) where
       let home : HomeStands l.world m map st q.gp q.sp i = pictures.homes i some in
       let numbers = at.numbers in
       let laid = l.world.laid in
-      let has' : HasLines (whole l) q.pc (load_lines v.offset v.base) = subst (λ o. HasLines (whole l) q.pc (load_of o)) e has in
+      let has' : HasLines (whole l) q.pc (load_lines v.offset (register v.base)) = subst (λ o. HasLines (whole l) q.pc (load_of o)) e has in
       let four : sizes (load_of found) ≡ 4 = ap (λ o. sizes (load_of o)) e in (
         home.value,
         home.stored,
         passes_weaker l s 0 1 _ _
             (stands_as _ _ (λ u there'. done_here l (record q { pc = q.pc + sizes (load_of found) }) m map st 0 home.value u (word m (map.home i)) q.ra console
             (subst (λ x. At l.world (record q { pc = q.pc + x; acc = word m (map.home i) }) m console u) (sym four) there') shows pictures home.picture))
-            (head_loads l q m console s at x watched shown v.base v.offset (map.home i) has' (variable_address l.world v q m console s (map.home i) at there (home_small l.world (map.home i) q.gp q.sp home.room numbers.gp_to))
+            (head_loads l q m console s at x watched shown (register v.base) v.offset (map.home i) has' (variable_address l.world v q m console s (map.home i) at there (home_small l.world (map.home i) q.gp q.sp home.room numbers.gp_to))
             (home_ok l.world (map.home i) q.gp q.sp home.even home.room numbers.gp_to numbers.sp_from)
             (pic_fits l.world l.table l.memory m map st q.gp q.sp home.value _ (omega arith) pictures home.picture)),
       )
@@ -105,9 +106,9 @@ module _ (l : Loading) (loaded : IsLoaded l) (calls : Calls) (begun_in : Call �
     where
       by : (c k : ClassId) (self : Value) (scope : List Binding) (vs : List Named) (env : Environment) (made : fitting.World) (d : ℕ) (q : Pointers) (m : Bytes) (map : Map) (console : Console) (st : State) (s : Machine) (n : ℕ) (type : Ty)
           → Begins l c k self scope vs env made d q m map console st s → (z : Visit) → Watched l.watch z → Shown l z s → (x : Truth) → (if x then Some SelfType else scopes.found scope name) ≡ Some type
-          → HasLines (whole l) q.pc (if x then take_self_lines else load_of (variables.found vs name))
+          → HasLines (whole l) q.pc (if x then take_self_lines else load_of (scopes.found vs name))
           → Runs l s n (64 * (1 + ((if x then give self else (given (location_of env name) >>= load)) st n).work) - 4)
-          (Done l (record q { pc = q.pc + sizes (if x then take_self_lines else load_of (variables.found vs name)) }) m map st ((if x then give self else (given (location_of env name) >>= load)) st n).words)
+          (Done l (record q { pc = q.pc + sizes (if x then take_self_lines else load_of (scopes.found vs name)) }) m map st ((if x then give self else (given (location_of env name) >>= load)) st n).words)
           ((if x then give self else (given (location_of env name) >>= load)) st n).outcome
       by c k self scope vs env made d q m map console st s n type begins z watched shown true has lines =
           let laid = l.world.laid in
@@ -118,8 +119,8 @@ module _ (l : Loading) (loaded : IsLoaded l) (calls : Calls) (begun_in : Call �
       by c k self scope vs env made d q m map console st s n type begins z watched shown false has lines =
           let (v, found, same) = begins.variables.typed name type has in
           let (i, there, some, word_at) = begins.variables.homes name v found in
-          let (value, stored, reaches) = name_loaded l (variables.found vs name) v q m map console st s i found z watched shown lines begins.at begins.shows begins.pictures some word_at in
+          let (value, stored, reaches) = name_loaded l (scopes.found vs name) v q m map console st s i found z watched shown lines begins.at begins.shows begins.pictures some word_at in
           subst
-          (λ (r : Metered Value). Runs l s n (64 * (1 + r.work) - 4) (Done l (record q { pc = q.pc + sizes (load_of (variables.found vs name)) }) m map st r.words) r.outcome)
+          (λ (r : Metered Value). Runs l s n (64 * (1 + r.work) - 4) (Done l (record q { pc = q.pc + sizes (load_of (scopes.found vs name)) }) m map st r.words) r.outcome)
           (sym (value_loaded env name st n i value there stored))
-          (run_comes l value st s n 1 60 (Done l (record q { pc = q.pc + sizes (load_of (variables.found vs name)) }) m map st 0) (omega arith) reaches)
+          (run_comes l value st s n 1 60 (Done l (record q { pc = q.pc + sizes (load_of (scopes.found vs name)) }) m map st 0) (omega arith) reaches)

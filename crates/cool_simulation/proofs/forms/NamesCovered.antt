@@ -3,10 +3,10 @@ use Rattle.std.proofs.Common.{◌≡◌, ℕ, List, Some, ap, ◌∙◌}
 use Rattle.std.specs.Option.{option_map}
 use Rattle.cool_classes.specs.declared.class_id.Ty.{Ty}
 use Rattle.cool_rules.specs.Scopes as scopes
-use Rattle.cool_rules.specs.Scopes.{Binding}
+use Rattle.cool_rules.specs.Scopes.{Binding, found}
 use Rattle.cool_rules.proofs.StaticTypesAreGiven.{Covers}
 use Rattle.cool_codegen.specs.declared.variables.Variable.{Variable}
-use Rattle.cool_codegen.specs.Variables.{Named, found, scope_of}
+use Rattle.cool_codegen.specs.Variables.{Named, scope_of}
 use Rattle.cool_codegen.proofs.VariablesHave.{found_in_scope}
 
 pub covers : (scope : List Binding) (vs : List Named)

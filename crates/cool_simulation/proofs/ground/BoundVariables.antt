@@ -15,7 +15,6 @@ use Rattle.cool_runtime.specs.Machines.{At, Pointers, Console}
 use Rattle.cool_runtime.proofs.Words.{word_same}
 use Rattle.cool_codegen.specs.declared.variables.Variable.{Variable}
 use Rattle.cool_codegen.specs.Variables.{Named, bind, pushed}
-use Rattle.cool_codegen.specs.Variables as variables
 use Rattle.cool_meaning.specs.Values.{Value, State, Environment, location_of}
 use Rattle.cool_meaning.proofs.FittingValues.{Fits, fit_length, fit_more, made_last, still_fits, still_all_fit}
 use Rattle.cool_meaning.proofs.FittingValues as fitting
@@ -50,7 +49,7 @@ bound_variables map q q' scope vs env name t d located a same_fp same_self some 
 }
   where
     typed_by : (other : List ℕ) (u : Ty) (x : Truth) → (if x then Some t else scopes.found scope other) ≡ Some u
-        → (v : Variable) × ((if x then Some (pushed d t) else variables.found vs other) ≡ Some v) × (v.ty ≡ u)
+        → (v : Variable) × ((if x then Some (pushed d t) else scopes.found vs other) ≡ Some v) × (v.ty ≡ u)
     typed_by other u true there = let same : t ≡ u = cc in (pushed d t, refl, same)
     typed_by other u false there = h.typed other u there
 
@@ -62,7 +61,7 @@ bound_variables map q q' scope vs env name t d located a same_fp same_self some 
           subst (λ x. IsVariableAt q' v x) (sym same) (subst (λ x. IsVariableAt (record q' { fp = x }) v (map.home l)) (sym same_fp) (subst (λ x. IsVariableAt (record q' { fp = q.fp; self = x }) v (map.home l)) (sym same_self) at)),
         )
 
-    home_by : (other : List ℕ) (v : Variable) (x : Truth) → (if x then Some (pushed d t) else variables.found vs other) ≡ Some v
+    home_by : (other : List ℕ) (v : Variable) (x : Truth) → (if x then Some (pushed d t) else scopes.found vs other) ≡ Some v
         → (l : ℕ) × ((if x then Some located else location_of env other) ≡ Some l) × (0 < (homed map located a).home l) × IsVariableAt q' v ((homed map located a).home l)
     home_by other v true there =
         let is : pushed d t ≡ v = cc in

@@ -10,7 +10,7 @@ use Rattle.cool_classes.specs.declared.class_id.Ty.{Ty}
 use Rattle.cool_classes.specs.declared.class_id.Ty.TheVariants.{Class as IsClass, SelfType}
 use Rattle.cool_classes.specs.Chains.{Class}
 use Rattle.cool_rules.specs.Rules.{type_meant}
-use Rattle.cool_rules.specs.Scopes.{Binding}
+use Rattle.cool_rules.specs.Scopes.{Binding, found}
 use Rattle.cool_rules.specs.Scopes as scopes
 use Rattle.cool_rules.specs.Typing.{HasType, HaveTypes, HaveItems, HasInit, HaveBranches, type_in_scope, with_name}
 use Rattle.cool_runtime.specs.Routines.{push_lines}
@@ -20,7 +20,7 @@ use Rattle.cool_codegen.specs.declared.variables.Variable.{Variable}
 use Rattle.cool_codegen.specs.Code.{Context, code, arguments_code, initial_code, load_of, name_code, new_code}
 use Rattle.cool_codegen.specs.Pieces.{create_lines, create_self_lines, load_lines, take_lines, take_self_lines, pop_lines}
 use Rattle.cool_codegen.specs.Types.{trees_count}
-use Rattle.cool_codegen.specs.Variables.{Named, bind, found, pushed}
+use Rattle.cool_codegen.specs.Variables.{Named, bind, pushed}
 
 -- Expressions whose names are found among those in scope, and whose blocks have an item
 

@@ -13,7 +13,7 @@ use Rattle.cool_classes.specs.declared.class_id.Ty.{Ty}
 use Rattle.cool_classes.specs.declared.method.AttributeRef.{AttributeRef}
 use Rattle.cool_classes.specs.Chains.{Class, features_of}
 use Rattle.cool_classes.specs.ClimbedChains.{chain}
-use Rattle.cool_rules.specs.Scopes.{Binding}
+use Rattle.cool_rules.specs.Scopes.{Binding, found}
 use Rattle.cool_rules.specs.Scopes as scopes
 use Rattle.cool_rules.specs.Typing.{FitsDeclared, IsTypedInit, attributes_in_scope, formals_in_scope}
 use Rattle.cool_runtime.specs.Standing.{sizes}
@@ -21,7 +21,7 @@ use Rattle.cool_codegen.specs.declared.variables.Variable.{Variable}
 use Rattle.cool_codegen.specs.Code.{code}
 use Rattle.cool_codegen.specs.Features.{attributes_in, with_attributes, with_formals}
 use Rattle.cool_codegen.specs.Spans.{spans}
-use Rattle.cool_codegen.specs.Variables.{Named, found}
+use Rattle.cool_codegen.specs.Variables.{Named}
 use Rattle.cool_emit.specs.Programs.{IsBuildable, program_constants}
 use Rattle.cool_emit.specs.SpansOfPrograms.{context_of}
 use Rattle.cool_simulation.specs.WrittenPrograms.{IsWritten}
@@ -41,12 +41,12 @@ HasName vs name = (v : Variable) × (found vs name ≡ Some v)
 kept : (v : Named) (vs : List Named) (name : List ℕ) → HasName vs name → HasName (v ∷ vs) name
 kept v vs name (w, is) = by (bytes_eq v.name name)
   where
-    by : (b : Truth) → (u : Variable) × ((if b then Some v.variable else found vs name) ≡ Some u)
-    by true = (v.variable, refl)
+    by : (b : Truth) → (u : Variable) × ((if b then Some v.type else found vs name) ≡ Some u)
+    by true = (v.type, refl)
     by false = (w, is)
 
 entered_first : (v : Named) (vs : List Named) (name : List ℕ) → bytes_eq v.name name ≡ true → HasName (v ∷ vs) name
-entered_first v vs name e = (v.variable, ap (λ (b : Truth). if b then Some v.variable else found vs name) e)
+entered_first v vs name e = (v.type, ap (λ (b : Truth). if b then Some v.type else found vs name) e)
 
 module _ (p : List Class) where
   formals_keep : (fs : List Formal) (vs : List Named) (name : List ℕ) → HasName vs name → HasName (with_formals p fs vs) name

@@ -1,7 +1,0 @@
--- After these entries the name was not found.
-use Rattle.std.proofs.Common.{◌≡◌, take}
-use Rattle.cool_codegen.specs.Variables.{found, latest_first}
-use Rattle.cool_codegen.proofs.variables.Variables.find.Given as goal
-
-abbrev pub invariant-loop-index : goal.invariant-loop-index
-invariant-loop-index l = found l.self l.name ≡ found (latest_first (take l.index l.self-inside.entries.items)) l.name
