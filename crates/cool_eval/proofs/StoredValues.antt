@@ -11,6 +11,9 @@ stored_length vs = length-map vs value_of
 pub stored_more : (vs : List Value) (v : Value) → map value_of (vs ++ v ∷ []) ≡ map value_of vs ++ value_of v ∷ []
 stored_more vs v = map-append value_of vs (v ∷ [])
 
+pub stored_all : (vs ws : List Value) → map value_of (vs ++ ws) ≡ map value_of vs ++ map value_of ws
+stored_all vs ws = map-append value_of vs ws
+
 -- what is set is seen in its place
 pub stored_set : (vs : List Value) (l : ℕ) (v : Value) → map value_of (slice_set vs l v) ≡ slice_set (map value_of vs) l (value_of v)
 stored_set vs l v = map-set value_of vs l v

@@ -71,7 +71,7 @@ fn two(given: &[Value]) -> Result<(&Value, &Value), Ending>
 }
 
 /// A new string with a copy of bytes.
-fn copied(alloc: Global, bytes: &[u8]) -> Result<Value, Ending>
+pub(crate) fn copied(alloc: Global, bytes: &[u8]) -> Result<Value, Ending>
     ensures string { IfOk result (λ v. value_of v ≡ Str bytes.now) }
     ensures memory { IfErr result (λ e. e ≡ Ending.Memory) }
 {

@@ -22,7 +22,7 @@ ghost use Rattle.cool_eval.specs.Values.{locations_from, value_of};
 use crate::basic::basic;
 use crate::ending::{Ending, RunError};
 use crate::frame::{Focus, Frame};
-use crate::machine::{Machine, add, share, shared};
+use crate::machine::{Machine, add, room, share, shared};
 use crate::part::{Part, Parts};
 use crate::scene::{Local, Scene, Setting};
 use crate::store::location_after;
@@ -229,7 +229,7 @@ fn arguments<'a>(
     ensures locals { IfOk result (λ locals. locals_of locals.items ≡ located (formal_names formals.now) (locations_from first count)) }
     ensures memory { IfErr result (λ e. e ≡ Ending.Memory) }
 {
-    let mut locals = Vec::new(alloc);
+    let mut locals = room(alloc, count)?;
     for index in (0..formals.len().min(count)).rev() {
         let location = location_after(first, index)?;
         let name = &formals[index].name;

@@ -2,7 +2,7 @@
 
 ghost use Rattle.std.specs.Prelude.{◌≡◌, ◌∷◌, [], ◌++◌, ◌<◌, ℕ, List, IfErr, IfOk};
 ghost use Rattle.cool_classes.specs.Chains.{Class};
-ghost use Rattle.cool_syntax.specs.NodeGroups.{IsBinary, IsBinding, IsCall, IsControl, IsLeaf, IsUnary};
+ghost use Rattle.cool_syntax.specs.NodeGroups.{IsBinary, IsBinding, IsCall, IsControl, IsUnary};
 ghost use Rattle.cool_syntax.specs.NodeLists.{all_trees, made, HasPartsBelow};
 ghost use Rattle.cool_syntax.specs.Tree.{tree_size};
 ghost use Rattle.cool_meaning.specs.Evaluation as meaning;
@@ -14,12 +14,12 @@ ghost use Rattle.cool_eval.specs.StackMachine.{begun, Begin, Continue};
 ghost use Rattle.cool_eval.specs.Ready.{IsReady};
 ghost use Rattle.cool_eval.specs.Values.{value_of};
 
-use crate::basic::string;
+use crate::basic::copied;
 use crate::call::begin_args;
 use crate::control::{begin_test, next_item};
 use crate::ending::Ending;
 use crate::frame::{Focus, Frame};
-use crate::machine::{Machine, share};
+use crate::machine::{Machine, room, share};
 use crate::object::begin_new;
 use crate::part::{Part, part_at, parts_at, twigs_at};
 use crate::scene::{Scene, Setting};
@@ -28,7 +28,8 @@ use cool_classes::ClassId;
 use cool_syntax::{Body, Name, Node, NodeId};
 use std::rc::Rc;
 
-/// Begins an expression.
+/// Begins an expression. One with no other in it is evaluated.
+#[tactic(auto, unfolding(crate::specs::StackMachine::begun, crate::specs::StackMachine::after))]
 pub(crate) fn begin<'a>(
     setting: &Setting<'a>,
     machine: &mut Machine<'a>,
@@ -56,11 +57,14 @@ pub(crate) fn begin<'a>(
             begin_unary(machine, scene, body, id, node)
         }
         Node::Arith { .. } | Node::Compare { .. } => begin_binary(machine, scene, body, id, node),
-        Node::New { .. }
-        | Node::Id { .. }
-        | Node::Int { .. }
-        | Node::Str { .. }
-        | Node::Bool { .. } => begin_leaf(setting, machine, scene, body, node),
+        Node::Id { name, .. } => Ok(Focus::Return(value_named(setting, machine, &scene, name)?)),
+        Node::Int { value, .. } => Ok(Focus::Return(Value::Int(i64::from(value.cast_signed())))),
+        Node::Str { bytes, .. } => Ok(Focus::Return(copied(setting.alloc, bytes.as_slice())?)),
+        Node::Bool { value, .. } => Ok(Focus::Return(Value::Bool(*value))),
+        Node::New { class, .. } => {
+            let class = class_made(setting, &scene, &class.name);
+            begin_new(setting, machine, class)
+        }
     }
 }
 
@@ -99,23 +103,18 @@ fn begin_call<'a>(
     ensures ended { machine.new.ended ≡ machine.old.ended }
     ensures inner { IfErr result IsInner }
 {
-    let given = Vec::new(setting.alloc);
     match node {
         Node::Dispatch {
             at,
             receiver,
             name,
             args,
-        } => begin_args(
-            machine,
-            scene,
-            given,
-            parts_at(body, args.as_slice()),
-            *at,
-            part_at(body, *receiver),
-            None,
-            name,
-        ),
+        } => {
+            let given = room(setting.alloc, args.as_slice().len())?;
+            let args = parts_at(body, args.as_slice());
+            let receiver = part_at(body, *receiver);
+            begin_args(machine, scene, given, args, *at, receiver, None, name)
+        }
         Node::StaticDispatch {
             at,
             receiver,
@@ -123,6 +122,7 @@ fn begin_call<'a>(
             name,
             args,
         } => {
+            let given = room(setting.alloc, args.as_slice().len())?;
             let args = parts_at(body, args.as_slice());
             let receiver = part_at(body, *receiver);
             let class = Some(&class.name);
@@ -313,38 +313,6 @@ fn begin_binary<'a>(
                 right: part_at(body, *right),
             };
             begin_under(machine, copy, frame, part_at(body, *left))
-        }
-        _ => unreachable!(),
-    }
-}
-
-/// Evaluates an expression with no other in it.
-#[tactic(auto, unfolding(crate::specs::StackMachine::begun, crate::specs::StackMachine::after))]
-fn begin_leaf<'a>(
-    setting: &Setting<'a>,
-    machine: &mut Machine<'a>,
-    scene: Rc<Scene<'a>>,
-    body: &'a Body,
-    node: &'a Node,
-) -> Result<Focus<'a>, Ending>
-    requires ready { IsReady setting.now.table.now setting.now.layouts.now }
-    requires group { IsLeaf node.now }
-    ensures comes { (input output : List ℕ) → Comes setting.now.table.now result machine.new input output
-        (begun setting.now.table.now (value_of scene.entry.value.me) (env_of setting.now.table.now scene.entry.value) (made (all_trees body.now) node.now) (frames_of setting.now.table.now machine.old) (state_of machine.old input output) machine.old.left) }
-    ensures ended { machine.new.ended ≡ machine.old.ended }
-    ensures inner { IfErr result IsInner }
-{
-    match node {
-        Node::Id { name, .. } => Ok(Focus::Return(value_named(setting, machine, &scene, name)?)),
-        Node::Int { value, .. } => Ok(Focus::Return(Value::Int(i64::from(value.cast_signed())))),
-        Node::Str { bytes, .. } => {
-            let copy = Vec::from_slice(setting.alloc, bytes.as_slice())?;
-            Ok(Focus::Return(string(setting.alloc, copy)?))
-        }
-        Node::Bool { value, .. } => Ok(Focus::Return(Value::Bool(*value))),
-        Node::New { class, .. } => {
-            let class = class_made(setting, &scene, &class.name);
-            begin_new(setting, machine, class)
         }
         _ => unreachable!(),
     }

@@ -31,8 +31,11 @@ impl<'a> Machine<'a> {
         ensures left { self.new.left ≡ self.old.left }
         ensures ended { self.new.ended ≡ self.old.ended }
     {
-        match self.frames.push(frame) {
-            Ok(()) => Ok(()),
+        match self.frames.reserve(1) {
+            Ok(()) => {
+                self.frames.push_reserved(frame);
+                Ok(())
+            }
             Err(_) => Err(Ending::Memory),
         }
     }
@@ -51,6 +54,18 @@ impl<'a> Machine<'a> {
         }
         self.left -= 1;
         Ok(())
+    }
+}
+
+/// No items yet, and room for so many. `Err` comes only for want of memory.
+#[inline(always)]
+pub(crate) fn room<T: Drop>(alloc: Global, count: usize) -> Result<Vec<T>, Ending>
+    ensures empty { IfOk result (λ items. items.items ≡ []) }
+    ensures memory { IfErr result (λ e. e ≡ Ending.Memory) }
+{
+    match Vec::with_capacity(alloc, count) {
+        Ok(items) => Ok(items),
+        Err(_) => Err(Ending::Memory),
     }
 }
 

@@ -61,16 +61,16 @@ impl Store {
     }
 
     /// New locations with values, in order.
-    #[tactic(auto, using(crate::proofs::StoredValues::stored_more))]
-    pub(crate) fn locate_all(&mut self, values: Vec<Value>) -> Result<(), Ending>
+    #[tactic(auto, using(crate::proofs::StoredValues::stored_all))]
+    pub(crate) fn locate_all(&mut self, mut values: Vec<Value>) -> Result<(), Ending>
         ensures values { OnOk result (self.new.values ≡ self.old.values ++ map value_of values.items) }
         ensures memory { IfErr result (λ e. e ≡ Ending.Memory) }
         ensures drawn { self.new.drawn ≡ self.old.drawn }
     {
-        for value in values {
-            self.locate(value)?;
+        match self.values.append(&mut values) {
+            Ok(()) => Ok(()),
+            Err(_) => Err(Ending::Memory),
         }
-        Ok(())
     }
 
     /// The value at a location.

@@ -8,7 +8,7 @@ use Rattle.cool_eval.proofs.call.arguments.Goals as goal
 pub loop-index-init : goal.loop-index-init
 loop-index-init c =
     let m = c.min-index.ensures in
-    ap locals_of c.new-locals.ensures.items ∙ sym (none_from c.args.formals.now c.args.first c.args.count c.min-index.result (omega (arith, m)))
+    ap locals_of c.in_ok-locals.ensures.empty ∙ sym (none_from c.args.formals.now c.args.first c.args.count c.min-index.result (omega (arith, m)))
 
 pub loop-index-preserved : goal.loop-index-preserved
 loop-index-preserved c =
