@@ -10,7 +10,7 @@ ghost use Rattle.cool_meaning.specs.Lookups as lookups;
 ghost use Rattle.cool_meaning.specs.Values as values;
 ghost use Rattle.cool_eval.specs.Configurations.{env_of, frame_of, frames_of, state_of, Comes, IsResultAt};
 ghost use Rattle.cool_eval.specs.Counts.{IsInner};
-ghost use Rattle.cool_eval.specs.StackMachine.{begun, Begin, Continue};
+ghost use Rattle.cool_eval.specs.StackMachine.{after, begin_new as new_begun, begun, Begin, Continue, Return};
 ghost use Rattle.cool_eval.specs.Ready.{IsReady};
 ghost use Rattle.cool_eval.specs.Values.{value_of};
 
@@ -29,7 +29,7 @@ use cool_syntax::{Body, Name, Node, NodeId};
 use std::rc::Rc;
 
 /// Begins an expression. One with no other in it is evaluated.
-#[tactic(auto, unfolding(crate::specs::StackMachine::begun, crate::specs::StackMachine::after))]
+#[tactic(auto, unfolding(crate::specs::StackMachine::begun))]
 pub(crate) fn begin<'a>(
     setting: &Setting<'a>,
     machine: &mut Machine<'a>,
@@ -57,14 +57,11 @@ pub(crate) fn begin<'a>(
             begin_unary(machine, scene, body, id, node)
         }
         Node::Arith { .. } | Node::Compare { .. } => begin_binary(machine, scene, body, id, node),
-        Node::Id { name, .. } => Ok(Focus::Return(value_named(setting, machine, &scene, name)?)),
+        Node::New { class, .. } => begin_made(setting, machine, scene, &class.name),
+        Node::Id { name, .. } => begin_name(setting, machine, scene, name),
         Node::Int { value, .. } => Ok(Focus::Return(Value::Int(i64::from(value.cast_signed())))),
-        Node::Str { bytes, .. } => Ok(Focus::Return(copied(setting.alloc, bytes.as_slice())?)),
+        Node::Str { bytes, .. } => begin_string(setting, machine, bytes.as_slice()),
         Node::Bool { value, .. } => Ok(Focus::Return(Value::Bool(*value))),
-        Node::New { class, .. } => {
-            let class = class_made(setting, &scene, &class.name);
-            begin_new(setting, machine, class)
-        }
     }
 }
 
@@ -316,6 +313,53 @@ fn begin_binary<'a>(
         }
         _ => unreachable!(),
     }
+}
+
+/// Gives the value of a name.
+#[inline(always)]
+#[tactic(auto, unfolding(crate::specs::StackMachine::after))]
+fn begin_name<'a>(
+    setting: &Setting<'a>,
+    machine: &Machine<'a>,
+    scene: Rc<Scene<'a>>,
+    name: &Name,
+) -> Result<Focus<'a>, Ending>
+    requires ready { IsReady setting.now.table.now setting.now.layouts.now }
+    ensures comes { (input output : List ℕ) → Comes setting.now.table.now result machine.now input output
+        (after (meaning.value_named (value_of scene.entry.value.me) (env_of setting.now.table.now scene.entry.value) name.now (state_of machine.now input output) machine.now.left).outcome (frames_of setting.now.table.now machine.now)) }
+    ensures inner { IfErr result IsInner }
+{
+    Ok(Focus::Return(value_named(setting, machine, &scene, name)?))
+}
+
+/// Gives a constant string.
+fn begin_string<'a>(
+    setting: &Setting<'a>,
+    machine: &Machine<'a>,
+    bytes: &[u8],
+) -> Result<Focus<'a>, Ending>
+    ensures comes { (p : List Class) (input output : List ℕ) → Comes p result machine.now input output
+        (Continue (Return (values.Str bytes.now)) (frames_of p machine.now) (state_of machine.now input output) machine.now.left) }
+    ensures inner { IfErr result IsInner }
+{
+    Ok(Focus::Return(copied(setting.alloc, bytes)?))
+}
+
+/// Begins a new value of the class that is named.
+fn begin_made<'a>(
+    setting: &Setting<'a>,
+    machine: &mut Machine<'a>,
+    scene: Rc<Scene<'a>>,
+    name: &Name,
+) -> Result<Focus<'a>, Ending>
+    requires ready { IsReady setting.now.table.now setting.now.layouts.now }
+    ensures comes { (input output : List ℕ) → Comes setting.now.table.now result machine.new input output
+        (new_begun setting.now.table.now (lookups.class_made setting.now.table.now (value_of scene.entry.value.me) name.now) (frames_of setting.now.table.now machine.old) (state_of machine.old input output) machine.old.left) }
+    ensures ended { machine.new.ended ≡ machine.old.ended }
+    ensures inner { IfErr result IsInner }
+{
+    let class = class_made(setting, &scene, name);
+    begin_new(setting, machine, class)
 }
 
 /// The class that `new` makes: for SELF_TYPE that of the object.
