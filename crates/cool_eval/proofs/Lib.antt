@@ -15,6 +15,7 @@ mod NearestBranches
 mod NewLocations
 mod NewObjects
 mod NoStepLeft
+mod PartsOfCalls
 pub mod PartsOfRuns
 mod PropertiesOfMeanings
 mod PutsAreOutput

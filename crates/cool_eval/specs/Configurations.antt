@@ -1,7 +1,9 @@
 -- What the interpreter holds, as a configuration of the machine that evaluates with frames.
 use Rattle.std.specs.Prelude.{◌≡◌, ℕ, ℤ, slice_get, ◌+◌, List, [], ◌∷◌, ◌++◌, length, map, Contains, Option, Some, None, Result, Ok, Err}
 use denote.Ref.{Bor}
-use Rattle.cool_syntax.specs.Tree.{of_list, of_twigs}
+use Rattle.cool_syntax.specs.declared.place.Place.{Place}
+use Rattle.cool_syntax.specs.Bare.{nowhere}
+use Rattle.cool_syntax.specs.Tree.{Tree, Dispatch, StaticDispatch, of_list, of_twigs}
 use Rattle.cool_classes.specs.Chains.{Class}
 use Rattle.cool_meaning.specs.Values.{State, Environment, Located, location_of}
 use Rattle.cool_meaning.specs.Values as values
@@ -41,6 +43,26 @@ abbrev pub class_name : Option (Bor (List ℕ)) → Option (List ℕ)
 class_name None = None
 class_name (Some name) = Some name.now
 
+-- the parts of a dispatch; of another expression nothing is asked
+abbrev pub place_of_call : Tree → Place
+place_of_call (Dispatch at t name ts) = at
+place_of_call (StaticDispatch at t class name ts) = at
+place_of_call _ = nowhere
+
+abbrev pub receiver_of_call : Tree → Tree
+receiver_of_call (Dispatch at t name ts) = t
+receiver_of_call (StaticDispatch at t class name ts) = t
+receiver_of_call t = t
+
+abbrev pub class_of_call : Tree → Option (List ℕ)
+class_of_call (StaticDispatch at t class name ts) = Some class.name
+class_of_call _ = None
+
+abbrev pub name_of_call : Tree → List ℕ
+name_of_call (Dispatch at t name ts) = name
+name_of_call (StaticDispatch at t class name ts) = name
+name_of_call _ = []
+
 -- a frame and what is done next
 abbrev pub frame_of : List Class → Frame → machine.Frame
 frame_of p (held.AssignTo scene name) = machine.AssignTo (env_of p scene.value) name.now
@@ -51,8 +73,8 @@ frame_of p (held.Items scene rest) = machine.Items (value_of scene.value.me) (en
 frame_of p (held.Bind scene name body) = machine.Bind (value_of scene.value.me) (env_of p scene.value) name.now body
 frame_of p (held.Pick scene at branches) = machine.Pick (value_of scene.value.me) (env_of p scene.value) at (of_twigs branches)
 frame_of p (held.Fill o l rest) = machine.Fill (values.Obj o.class o.identity (locations_from o.first o.count)) l rest.now (locations_from (l + 1) (length rest.now))
-frame_of p (held.Argument scene given rest at receiver class name) =
-    machine.Argument (value_of scene.value.me) (env_of p scene.value) (map value_of given.items) (of_list rest) at receiver (class_name class) name.now
+frame_of p (held.Argument scene given rest call) =
+    machine.Argument (value_of scene.value.me) (env_of p scene.value) (map value_of given.items) (of_list rest) (place_of_call call) (receiver_of_call call) (class_of_call call) (name_of_call call)
 frame_of p (held.Receiver at class name given) = machine.Receiver at (class_name class) name.now (map value_of given.items)
 frame_of p held.TestVoid = machine.TestVoid
 frame_of p held.Invert = machine.Invert

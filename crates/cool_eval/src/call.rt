@@ -12,10 +12,10 @@ ghost use Rattle.cool_syntax.specs.Tree.{of_list};
 ghost use Rattle.cool_meaning.specs.Lookups.{formal_names, located, method_at};
 ghost use Rattle.cool_meaning.specs.Meters.{given as given_of};
 ghost use Rattle.cool_meaning.specs.Values as values;
-ghost use Rattle.cool_eval.specs.Configurations.{class_name, env_of, frames_of, locals_of, state_of, Comes};
+ghost use Rattle.cool_eval.specs.Configurations.{class_name, class_of_call, env_of, frames_of, locals_of, name_of_call, place_of_call, receiver_of_call, state_of, Comes};
 ghost use Rattle.cool_eval.specs.Counts.{Counted, FaultsInCalls, IsInner};
 ghost use Rattle.cool_eval.specs.Devices.{OnDevices, Reaches};
-ghost use Rattle.cool_eval.specs.StackMachine.{begin_args as args_begun, begin_call as call_begun, begin_method as method_begun, call_class, class_called};
+ghost use Rattle.cool_eval.specs.StackMachine.{begin_args as args_begun, begin_call as call_begun, begin_method as method_begun, call_class, class_called, Begin, Continue, Receiver};
 ghost use Rattle.cool_eval.specs.Ready.{IsReady};
 ghost use Rattle.cool_eval.specs.Values.{locations_from, value_of};
 
@@ -23,13 +23,13 @@ use crate::basic::basic;
 use crate::ending::{Ending, RunError};
 use crate::frame::{Focus, Frame};
 use crate::machine::{Machine, add, room, share, shared};
-use crate::part::{Part, Parts};
+use crate::part::{Call, Part, Parts, part_at};
 use crate::scene::{Local, Scene, Setting};
 use crate::store::location_after;
 use crate::value::Value;
 use cool_classes::{ClassId, MethodRef};
 use cool_ports::{Sink, Source};
-use cool_syntax::{Feature, Formal, MethodDef, Name, Place};
+use cool_syntax::{Feature, Formal, MethodDef, Name, Node, Place};
 use std::alloc::Global;
 use std::rc::Rc;
 
@@ -41,43 +41,68 @@ pub(crate) fn begin_args<'a>(
     scene: Rc<Scene<'a>>,
     given: Vec<Value>,
     args: Parts<'a>,
-    at: Place,
-    receiver: Part<'a>,
-    class: Option<&'a Name>,
-    name: &'a Name,
+    call: Call<'a>,
 ) -> Result<Focus<'a>, Ending>
     ensures comes { (p : List Class) (input output : List ℕ) → Comes p result machine.new input output
-        (args_begun (value_of scene.entry.value.me) (env_of p scene.entry.value) (map value_of given.items) (of_list args.entry) at receiver.entry (class_name class.entry) name.now (frames_of p machine.old) (state_of machine.old input output) machine.old.left) }
+        (args_begun (value_of scene.entry.value.me) (env_of p scene.entry.value) (map value_of given.items) (of_list args.entry) (place_of_call call.entry) (receiver_of_call call.entry) (class_of_call call.entry) (name_of_call call.entry) (frames_of p machine.old) (state_of machine.old input output) machine.old.left) }
     ensures ended { machine.new.ended ≡ machine.old.ended }
     ensures inner { IfErr result IsInner }
 {
     match args.split() {
-        None => {
-            machine.wait(Frame::Receiver {
-                at,
-                class,
-                name,
-                given,
-            })?;
-            Ok(Focus::Begin {
-                scene,
-                part: receiver,
-            })
-        }
+        None => begin_receiver(machine, scene, given, call),
         Some((part, rest)) => {
             let copy = share(&scene)?;
             machine.wait(Frame::Argument {
                 scene,
                 given,
                 rest,
-                at,
-                receiver,
-                class,
-                name,
+                call,
             })?;
             Ok(Focus::Begin { scene: copy, part })
         }
     }
+}
+
+/// The receiver, where all arguments are given.
+#[inline(always)]
+fn begin_receiver<'a>(
+    machine: &mut Machine<'a>,
+    scene: Rc<Scene<'a>>,
+    given: Vec<Value>,
+    call: Call<'a>,
+) -> Result<Focus<'a>, Ending>
+    ensures comes { (p : List Class) (input output : List ℕ) → Comes p result machine.new input output
+        (Continue (Begin (value_of scene.entry.value.me) (env_of p scene.entry.value) (receiver_of_call call.entry)) (Receiver (place_of_call call.entry) (class_of_call call.entry) (name_of_call call.entry) (map value_of given.items) ∷ frames_of p machine.old) (state_of machine.old input output) machine.old.left) }
+    ensures ended { machine.new.ended ≡ machine.old.ended }
+    ensures inner { IfErr result IsInner }
+{
+    let (body, node) = call.open();
+    let (at, receiver, class, name) = match node {
+        Node::Dispatch {
+            at,
+            receiver,
+            name,
+            ..
+        } => (*at, part_at(body, *receiver), None, name),
+        Node::StaticDispatch {
+            at,
+            receiver,
+            class,
+            name,
+            ..
+        } => (*at, part_at(body, *receiver), Some(&class.name), name),
+        _ => unreachable!(),
+    };
+    machine.wait(Frame::Receiver {
+        at,
+        class,
+        name,
+        given,
+    })?;
+    Ok(Focus::Begin {
+        scene,
+        part: receiver,
+    })
 }
 
 /// A call of a method on a receiver.

@@ -21,7 +21,7 @@ use crate::ending::Ending;
 use crate::frame::{Focus, Frame};
 use crate::machine::{Machine, room, share};
 use crate::object::begin_new;
-use crate::part::{Part, part_at, parts_at, twigs_at};
+use crate::part::{Part, call_at, part_at, parts_at, twigs_at};
 use crate::scene::{Scene, Setting};
 use crate::value::Value;
 use cool_classes::ClassId;
@@ -100,33 +100,13 @@ fn begin_call<'a>(
     ensures ended { machine.new.ended ≡ machine.old.ended }
     ensures inner { IfErr result IsInner }
 {
-    match node {
-        Node::Dispatch {
-            at,
-            receiver,
-            name,
-            args,
-        } => {
-            let given = room(setting.alloc, args.as_slice().len())?;
-            let args = parts_at(body, args.as_slice());
-            let receiver = part_at(body, *receiver);
-            begin_args(machine, scene, given, args, *at, receiver, None, name)
-        }
-        Node::StaticDispatch {
-            at,
-            receiver,
-            class,
-            name,
-            args,
-        } => {
-            let given = room(setting.alloc, args.as_slice().len())?;
-            let args = parts_at(body, args.as_slice());
-            let receiver = part_at(body, *receiver);
-            let class = Some(&class.name);
-            begin_args(machine, scene, given, args, *at, receiver, class, name)
-        }
+    let args = match node {
+        Node::Dispatch { args, .. } | Node::StaticDispatch { args, .. } => args.as_slice(),
         _ => unreachable!(),
-    }
+    };
+    let given = room(setting.alloc, args.len())?;
+    let args = parts_at(body, args);
+    begin_args(machine, scene, given, args, call_at(body, id, node))
 }
 
 /// Begins a condition, a loop or a block, whose parts have numbers below this one.

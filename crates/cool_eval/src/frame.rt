@@ -1,6 +1,6 @@
 //! What waits for a value, and what is done next.
 
-use crate::part::{Part, Parts, Twigs};
+use crate::part::{Call, Part, Parts, Twigs};
 use crate::scene::Scene;
 use crate::value::{Object, Value};
 use cool_classes::AttributeRef;
@@ -52,10 +52,7 @@ pub(crate) enum Frame<'a> {
         scene: Rc<Scene<'a>>,
         given: Vec<Value>,
         rest: Parts<'a>,
-        at: Place,
-        receiver: Part<'a>,
-        class: Option<&'a Name>,
-        name: &'a Name,
+        call: Call<'a>,
     },
     Receiver {
         at: Place,

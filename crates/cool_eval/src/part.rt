@@ -2,6 +2,7 @@
 
 ghost use Rattle.std.specs.Prelude.{◌≡◌, ◌<◌, None, Some, ◌∷◌, [], IfSome, map};
 ghost use Rattle.std.specs.List.{AllByRecursion};
+ghost use Rattle.cool_syntax.specs.NodeGroups.{IsCall};
 ghost use Rattle.cool_syntax.specs.NodeLists.{all_trees, at_id, made, tree_at, twig_at, HasPartsBelow};
 ghost use Rattle.cool_syntax.specs.Tree.{of_twigs, tree_size};
 ghost use Rattle.cool_eval.specs.StackMachine.{branch_named};
@@ -30,6 +31,28 @@ impl<'a> Model for Part<'a> {
     ghost view = { λ p. tree_at p.body.now p.id };
 
     ghost invariant = { λ p. p.id.0 < tree_size p.body.now };
+}
+
+/// A dispatch of a body. A contract sees its tree.
+#[derive(Drop)]
+pub(crate) struct Call<'a> {
+    body: &'a Body,
+    node: &'a Node,
+}
+
+impl<'a> Model for Call<'a> {
+    ghost use Rattle.cool_syntax.specs.Tree.{Tree, tree_size};
+    ghost use Rattle.cool_syntax.specs.TreeCode.{tree_code};
+    ghost use Rattle.cool_syntax.specs.NodeGroups.{IsCall};
+    ghost use Rattle.cool_syntax.specs.NodeLists.{all_trees, made, HasPartsBelow};
+
+    ghost Value = { Tree };
+
+    ghost coded = { tree_code };
+
+    ghost view = { λ c. made (all_trees c.body.now) c.node.now };
+
+    ghost invariant = { λ c. IsCall c.node.now × HasPartsBelow (tree_size c.body.now) c.node.now };
 }
 
 /// Expressions of a body, in order. A contract sees their trees.
@@ -121,6 +144,17 @@ pub(crate) fn part_at<'a>(body: &'a Body, id: NodeId) -> Part<'a>
     Part { body, id }
 }
 
+/// The dispatch that this node is.
+#[inline(always)]
+pub(crate) fn call_at<'a>(body: &'a Body, id: NodeId, node: &'a Node) -> Call<'a>
+    requires group { IsCall node.now }
+    requires below { id.0 < tree_size body.now }
+    requires parts { HasPartsBelow id.0 node.now }
+    ensures { result ≡ made (all_trees body.now) node.now }
+{
+    Call { body, node }
+}
+
 /// The expressions of these numbers.
 #[inline(always)]
 pub(crate) fn parts_at<'a>(body: &'a Body, ids: &'a [NodeId]) -> Parts<'a>
@@ -137,6 +171,18 @@ pub(crate) fn twigs_at<'a>(body: &'a Body, branches: &'a [NodeBranch]) -> Twigs<
     ensures { result ≡ map (twig_at (all_trees body.now)) branches.now }
 {
     Twigs { body, branches }
+}
+
+impl<'a> Call<'a> {
+    /// The body and the dispatch's node, whose parts stand in the body.
+    #[inline(always)]
+    pub(crate) fn open(self) -> (&'a Body, &'a Node)
+        ensures group { IsCall result.1.now }
+        ensures tree { self.entry ≡ made (all_trees result.0.now) result.1.now }
+        ensures parts { HasPartsBelow (tree_size result.0.now) result.1.now }
+    {
+        (self.body, self.node)
+    }
 }
 
 impl<'a> Parts<'a> {

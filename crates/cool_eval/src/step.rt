@@ -84,13 +84,10 @@ fn resume<'a>(
             scene,
             mut given,
             rest,
-            at,
-            receiver,
-            class,
-            name,
+            call,
         } => {
             add(&mut given, value)?;
-            begin_args(machine, scene, given, rest, at, receiver, class, name)
+            begin_args(machine, scene, given, rest, call)
         }
         frame => match &frame {
             Frame::Choose { .. } | Frame::Turn { .. } | Frame::Again { .. } | Frame::Items { .. } =>
