@@ -17,26 +17,16 @@ module _ (p : List Class) (c : ClassId) where
 
   mutual
     length-part_types : (t : Tree) (scope : List Binding) → length (part_types p c scope t) + 1 ≡ tree_size t
-    length-part_types (trees.Assign at name t) scope = simp length-append (omega (arith, length-part_types t scope))
-    length-part_types (trees.Dispatch at t name ts) scope = simp length-append (omega (arith, length-part_types t scope, length_of_all ts scope))
-    length-part_types (trees.StaticDispatch at t class name ts) scope = simp length-append (omega (arith, length-part_types t scope, length_of_all ts scope))
+    length-part_types (trees.leaf at form) scope = refl
+    length-part_types (trees.unary at form t) scope = simp length-append (omega (arith, length-part_types t scope))
+    length-part_types (trees.binary at form a b) scope = simp length-append (omega (arith, length-part_types a scope, length-part_types b scope))
+    length-part_types (trees.call at form t ts) scope = simp length-append (omega (arith, length-part_types t scope, length_of_all ts scope))
     length-part_types (trees.If at t y n) scope =
         simp length-append (omega (arith, length-part_types t scope, length-part_types y scope, length-part_types n scope))
-    length-part_types (trees.While at t b) scope = simp length-append (omega (arith, length-part_types t scope, length-part_types b scope))
     length-part_types (trees.Block at ts) scope = omega (arith, length_of_all ts scope)
     length-part_types (trees.Let at name declared o t) scope =
         simp length-append (omega (arith, length_of_maybe o scope, length-part_types t (with_name name (type_meant p declared.name) scope)))
     length-part_types (trees.Case at t cs) scope = simp length-append (omega (arith, length-part_types t scope, length_of_cases cs scope))
-    length-part_types (trees.New at class) scope = refl
-    length-part_types (trees.IsVoid at t) scope = simp length-append (omega (arith, length-part_types t scope))
-    length-part_types (trees.Arith at op a b) scope = simp length-append (omega (arith, length-part_types a scope, length-part_types b scope))
-    length-part_types (trees.Neg at t) scope = simp length-append (omega (arith, length-part_types t scope))
-    length-part_types (trees.Compare at op a b) scope = simp length-append (omega (arith, length-part_types a scope, length-part_types b scope))
-    length-part_types (trees.Not at t) scope = simp length-append (omega (arith, length-part_types t scope))
-    length-part_types (trees.Id at name) scope = refl
-    length-part_types (trees.Int at value) scope = refl
-    length-part_types (trees.Str at bytes) scope = refl
-    length-part_types (trees.Bool at value) scope = refl
 
     length_of_all : (ts : Trees) (scope : List Binding) → length (types_of_all p c scope ts) ≡ trees_size ts
     length_of_all Last scope = refl

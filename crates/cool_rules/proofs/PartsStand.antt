@@ -11,7 +11,7 @@ use Rattle.cool_syntax.specs.Tree.{Tree, Trees, MaybeTree, Cases, Last, More, Wi
 use Rattle.cool_syntax.specs.Tree as trees
 use Rattle.cool_syntax.specs.Bare.{nowhere}
 use Rattle.cool_syntax.proofs.TreesHaveNodes.{one_le_size}
-use Rattle.cool_syntax.specs.NodeLists.{root, root_of_maybe, roots, branch_roots, nodes, nodes_of_all, nodes_of_maybe, nodes_of_cases, grown, made, tree_at, all_trees}
+use Rattle.cool_syntax.specs.NodeLists.{leaf_node, unary_node, binary_node, call_node, root, root_of_maybe, roots, branch_roots, nodes, nodes_of_all, nodes_of_maybe, nodes_of_cases, grown, made, tree_at, all_trees}
 use Rattle.cool_syntax.proofs.TreesOfLists.{parts, length-parts, length-nodes, length-nodes_of_maybe, grown-nodes, all_trees-parts, tree_of-nodes}
 use Rattle.cool_syntax.proofs.TreesAtNumbers.{grown-keeps}
 use Rattle.cool_classes.specs.declared.class_id.Ty.{Ty}
@@ -56,45 +56,25 @@ tree_there b k t s =
 
 -- the node of a tree whose list begins at this number
 abbrev pub top : ℕ → Tree → Node
-top k (trees.Assign at name t) = node.Assign at name (root k t)
-top k (trees.Dispatch at t name ts) = node.Dispatch at (root k t) name (roots (k + tree_size t) ts)
-top k (trees.StaticDispatch at t class name ts) = node.StaticDispatch at (root k t) class name (roots (k + tree_size t) ts)
+top k (trees.leaf at form) = leaf_node at form
+top k (trees.unary at form t) = unary_node at form (root k t)
+top k (trees.binary at form l r) = binary_node at form (root k l) (root (k + tree_size l) r)
+top k (trees.call at form t ts) = call_node at form (root k t) (roots (k + tree_size t) ts)
 top k (trees.If at t y n) = node.If at (root k t) (root (k + tree_size t) y) (root (k + tree_size t + tree_size y) n)
-top k (trees.While at t a) = node.While at (root k t) (root (k + tree_size t) a)
 top k (trees.Block at ts) = node.Block at (roots k ts)
 top k (trees.Let at name declared o t) = node.Let at name declared (root_of_maybe k o) (root (k + maybe_size o) t)
 top k (trees.Case at t cs) = node.Case at (root k t) (branch_roots (k + tree_size t) cs)
-top k (trees.New at class) = node.New at class
-top k (trees.IsVoid at t) = node.IsVoid at (root k t)
-top k (trees.Arith at op l r) = node.Arith at op (root k l) (root (k + tree_size l) r)
-top k (trees.Neg at t) = node.Neg at (root k t)
-top k (trees.Compare at op l r) = node.Compare at op (root k l) (root (k + tree_size l) r)
-top k (trees.Not at t) = node.Not at (root k t)
-top k (trees.Id at name) = node.Id at name
-top k (trees.Int at value) = node.Int at value
-top k (trees.Str at bytes) = node.Str at bytes
-top k (trees.Bool at value) = node.Bool at value
 
 -- it is the last of the list
 top_last : (t : Tree) (k : ℕ) → (ns : List Node) × (nodes k t ≡ ns ++ top k t ∷ [])
-top_last (trees.Assign at name a) k = (nodes k a, refl)
-top_last (trees.Dispatch at a name ts) k = (nodes k a ++ nodes_of_all (k + tree_size a) ts, refl)
-top_last (trees.StaticDispatch at a class name ts) k = (nodes k a ++ nodes_of_all (k + tree_size a) ts, refl)
+top_last (trees.leaf at form) k = ([], refl)
+top_last (trees.unary at form a) k = (nodes k a, refl)
+top_last (trees.binary at form l r) k = (nodes k l ++ nodes (k + tree_size l) r, refl)
+top_last (trees.call at form a ts) k = (nodes k a ++ nodes_of_all (k + tree_size a) ts, refl)
 top_last (trees.If at a y n) k = (nodes k a ++ nodes (k + tree_size a) y ++ nodes (k + tree_size a + tree_size y) n, refl)
-top_last (trees.While at a c) k = (nodes k a ++ nodes (k + tree_size a) c, refl)
 top_last (trees.Block at ts) k = (nodes_of_all k ts, refl)
 top_last (trees.Let at name declared o a) k = (nodes_of_maybe k o ++ nodes (k + maybe_size o) a, refl)
 top_last (trees.Case at a cs) k = (nodes k a ++ nodes_of_cases (k + tree_size a) cs, refl)
-top_last (trees.New at class) k = ([], refl)
-top_last (trees.IsVoid at a) k = (nodes k a, refl)
-top_last (trees.Arith at op l r) k = (nodes k l ++ nodes (k + tree_size l) r, refl)
-top_last (trees.Neg at a) k = (nodes k a, refl)
-top_last (trees.Compare at op l r) k = (nodes k l ++ nodes (k + tree_size l) r, refl)
-top_last (trees.Not at a) k = (nodes k a, refl)
-top_last (trees.Id at name) k = ([], refl)
-top_last (trees.Int at value) k = ([], refl)
-top_last (trees.Str at bytes) k = ([], refl)
-top_last (trees.Bool at value) k = ([], refl)
 
 -- an item of a list, by its place
 item_at : {A : Type 0} (xs : List A) (x : A) (ys : List A) (k : ℕ) → length xs ≡ k → slice_get (xs ++ x ∷ ys) k ≡ Some x

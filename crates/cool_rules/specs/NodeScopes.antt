@@ -19,27 +19,17 @@ use Rattle.cool_rules.specs.Typing.{with_name, formals_in_scope, HasType}
 abbrev mutual
   -- the names in scope at the nodes of the parts of an expression that has these: a let and a branch bring one for their bodies
   pub part_scopes : List Class → List Binding → Tree → List (List Binding)
-  part_scopes p scope (trees.Assign at name t) = part_scopes p scope t ++ scope ∷ []
-  part_scopes p scope (trees.Dispatch at t name ts) = (part_scopes p scope t ++ scope ∷ []) ++ scopes_of_all p scope ts
-  part_scopes p scope (trees.StaticDispatch at t class name ts) = (part_scopes p scope t ++ scope ∷ []) ++ scopes_of_all p scope ts
+  part_scopes p scope (trees.leaf at form) = []
+  part_scopes p scope (trees.unary at form t) = part_scopes p scope t ++ scope ∷ []
+  part_scopes p scope (trees.binary at form a b) = (part_scopes p scope a ++ scope ∷ []) ++ (part_scopes p scope b ++ scope ∷ [])
+  part_scopes p scope (trees.call at form t ts) = (part_scopes p scope t ++ scope ∷ []) ++ scopes_of_all p scope ts
   part_scopes p scope (trees.If at t y n) =
       (part_scopes p scope t ++ scope ∷ []) ++ (part_scopes p scope y ++ scope ∷ []) ++ (part_scopes p scope n ++ scope ∷ [])
-  part_scopes p scope (trees.While at t b) = (part_scopes p scope t ++ scope ∷ []) ++ (part_scopes p scope b ++ scope ∷ [])
   part_scopes p scope (trees.Block at ts) = scopes_of_all p scope ts
   part_scopes p scope (trees.Let at name declared o t) =
       scopes_of_maybe p scope o
       ++ (part_scopes p (with_name name (type_meant p declared.name) scope) t ++ with_name name (type_meant p declared.name) scope ∷ [])
   part_scopes p scope (trees.Case at t cs) = (part_scopes p scope t ++ scope ∷ []) ++ scopes_of_cases p scope cs
-  part_scopes p scope (trees.New at class) = []
-  part_scopes p scope (trees.IsVoid at t) = part_scopes p scope t ++ scope ∷ []
-  part_scopes p scope (trees.Arith at op a b) = (part_scopes p scope a ++ scope ∷ []) ++ (part_scopes p scope b ++ scope ∷ [])
-  part_scopes p scope (trees.Neg at t) = part_scopes p scope t ++ scope ∷ []
-  part_scopes p scope (trees.Compare at op a b) = (part_scopes p scope a ++ scope ∷ []) ++ (part_scopes p scope b ++ scope ∷ [])
-  part_scopes p scope (trees.Not at t) = part_scopes p scope t ++ scope ∷ []
-  part_scopes p scope (trees.Id at name) = []
-  part_scopes p scope (trees.Int at value) = []
-  part_scopes p scope (trees.Str at bytes) = []
-  part_scopes p scope (trees.Bool at value) = []
 
   pub scopes_of_all : List Class → List Binding → Trees → List (List Binding)
   scopes_of_all p scope Last = []

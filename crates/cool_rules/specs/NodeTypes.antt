@@ -24,34 +24,21 @@ abbrev mutual
   -- the types of the nodes of the parts of an expression of a class, with these names in scope: of each part in order, in its scope, those
   -- of its own parts, and then its own
   pub part_types : List Class → ClassId → List Binding → Tree → List Ty
-  part_types p c scope (trees.Assign at name t) = part_types p c scope t ++ type_of p c scope t ∷ []
-  part_types p c scope (trees.Dispatch at t name ts) = (part_types p c scope t ++ type_of p c scope t ∷ []) ++ types_of_all p c scope ts
-  part_types p c scope (trees.StaticDispatch at t class name ts) =
-      (part_types p c scope t ++ type_of p c scope t ∷ []) ++ types_of_all p c scope ts
+  part_types p c scope (trees.leaf at form) = []
+  part_types p c scope (trees.unary at form t) = part_types p c scope t ++ type_of p c scope t ∷ []
+  part_types p c scope (trees.binary at form a b) =
+      (part_types p c scope a ++ type_of p c scope a ∷ []) ++ (part_types p c scope b ++ type_of p c scope b ∷ [])
+  part_types p c scope (trees.call at form t ts) = (part_types p c scope t ++ type_of p c scope t ∷ []) ++ types_of_all p c scope ts
   part_types p c scope (trees.If at t y n) =
       (part_types p c scope t ++ type_of p c scope t ∷ [])
       ++ (part_types p c scope y ++ type_of p c scope y ∷ [])
       ++ (part_types p c scope n ++ type_of p c scope n ∷ [])
-  part_types p c scope (trees.While at t b) =
-      (part_types p c scope t ++ type_of p c scope t ∷ []) ++ (part_types p c scope b ++ type_of p c scope b ∷ [])
   part_types p c scope (trees.Block at ts) = types_of_all p c scope ts
   part_types p c scope (trees.Let at name declared o t) =
       types_of_maybe p c scope o
       ++ (part_types p c (with_name name (type_meant p declared.name) scope) t
       ++ type_of p c (with_name name (type_meant p declared.name) scope) t ∷ [])
   part_types p c scope (trees.Case at t cs) = (part_types p c scope t ++ type_of p c scope t ∷ []) ++ types_of_cases p c scope cs
-  part_types p c scope (trees.New at class) = []
-  part_types p c scope (trees.IsVoid at t) = part_types p c scope t ++ type_of p c scope t ∷ []
-  part_types p c scope (trees.Arith at op a b) =
-      (part_types p c scope a ++ type_of p c scope a ∷ []) ++ (part_types p c scope b ++ type_of p c scope b ∷ [])
-  part_types p c scope (trees.Neg at t) = part_types p c scope t ++ type_of p c scope t ∷ []
-  part_types p c scope (trees.Compare at op a b) =
-      (part_types p c scope a ++ type_of p c scope a ∷ []) ++ (part_types p c scope b ++ type_of p c scope b ∷ [])
-  part_types p c scope (trees.Not at t) = part_types p c scope t ++ type_of p c scope t ∷ []
-  part_types p c scope (trees.Id at name) = []
-  part_types p c scope (trees.Int at value) = []
-  part_types p c scope (trees.Str at bytes) = []
-  part_types p c scope (trees.Bool at value) = []
 
   pub types_of_all : List Class → ClassId → List Binding → Trees → List Ty
   types_of_all p c scope Last = []

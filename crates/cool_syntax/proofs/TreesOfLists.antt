@@ -2,33 +2,25 @@
 use Rattle.std.proofs.Common.{◌≡◌, ℕ, ◌+◌, ◌-◌, List, [], ◌∷◌, ◌++◌, length, map, get_or, refl, sym, ◌∙◌, ap, append_assoc, append-nil, length-append, arith}
 use Rattle.std.specs.Option.{option_map}
 use Rattle.std.proofs.lemmas.List.{get_or_at}
+use Rattle.cool_syntax.specs.declared.place.Place.{Place}
 use Rattle.cool_syntax.specs.declared.node.Node.{Node}
-use Rattle.cool_syntax.specs.Tree.{Tree, Trees, MaybeTree, Cases, Last, More, Without, With, NoCase, CaseOf, tree_size, trees_size, maybe_size, cases_size, of_list, of_option, of_twigs}
+use Rattle.cool_syntax.specs.declared.node.NodeId.{NodeId}
+use Rattle.cool_syntax.specs.Tree.{Leaf, Unary, Binary, Call, Tree, Trees, MaybeTree, Cases, Last, More, Without, With, NoCase, CaseOf, tree_size, trees_size, maybe_size, cases_size, of_list, of_option, of_twigs}
 use Rattle.cool_syntax.specs.Tree as trees
 use Rattle.cool_syntax.specs.Bare.{nowhere}
-use Rattle.cool_syntax.specs.NodeLists.{root, root_of_maybe, roots, branch_roots, nodes, nodes_of_all, nodes_of_maybe, nodes_of_cases, at_id, twig_at, made, grown, tree_of, all_trees}
+use Rattle.cool_syntax.specs.NodeLists.{root, root_of_maybe, roots, branch_roots, leaf_node, unary_node, binary_node, call_node, nodes, nodes_of_all, nodes_of_maybe, nodes_of_cases, at_id, twig_at, made, grown, tree_of, all_trees}
 
 -- the list of a tree has a node for each node of the tree
 mutual
   pub length-nodes : (t : Tree) (base : ℕ) → length (nodes base t) ≡ tree_size t
-  length-nodes (trees.Assign at name a) base = simp (length-append, length-nodes a base) (omega arith)
-  length-nodes (trees.Dispatch at a name ts) base = simp (length-append, length-nodes a base, length-nodes_of_all ts (base + tree_size a)) (omega arith)
-  length-nodes (trees.StaticDispatch at a class name ts) base = simp (length-append, length-nodes a base, length-nodes_of_all ts (base + tree_size a)) (omega arith)
+  length-nodes (trees.leaf at form) base = refl
+  length-nodes (trees.unary at form a) base = simp (length-append, length-nodes a base) (omega arith)
+  length-nodes (trees.binary at form a b) base = simp (length-append, length-nodes a base, length-nodes b (base + tree_size a)) (omega arith)
+  length-nodes (trees.call at form a ts) base = simp (length-append, length-nodes a base, length-nodes_of_all ts (base + tree_size a)) (omega arith)
   length-nodes (trees.If at a b c) base = simp (length-append, length-nodes a base, length-nodes b (base + tree_size a), length-nodes c (base + tree_size a + tree_size b)) (omega arith)
-  length-nodes (trees.While at a b) base = simp (length-append, length-nodes a base, length-nodes b (base + tree_size a)) (omega arith)
   length-nodes (trees.Block at ts) base = simp (length-append, length-nodes_of_all ts base) (omega arith)
   length-nodes (trees.Let at name declared o a) base = simp (length-append, length-nodes_of_maybe o base, length-nodes a (base + maybe_size o)) (omega arith)
   length-nodes (trees.Case at a cs) base = simp (length-append, length-nodes a base, length-nodes_of_cases cs (base + tree_size a)) (omega arith)
-  length-nodes (trees.New at class) base = refl
-  length-nodes (trees.IsVoid at a) base = simp (length-append, length-nodes a base) (omega arith)
-  length-nodes (trees.Arith at op a b) base = simp (length-append, length-nodes a base, length-nodes b (base + tree_size a)) (omega arith)
-  length-nodes (trees.Neg at a) base = simp (length-append, length-nodes a base) (omega arith)
-  length-nodes (trees.Compare at op a b) base = simp (length-append, length-nodes a base, length-nodes b (base + tree_size a)) (omega arith)
-  length-nodes (trees.Not at a) base = simp (length-append, length-nodes a base) (omega arith)
-  length-nodes (trees.Id at name) base = refl
-  length-nodes (trees.Int at value) base = refl
-  length-nodes (trees.Str at bytes) base = refl
-  length-nodes (trees.Bool at value) base = refl
 
   pub length-nodes_of_all : (ts : Trees) (base : ℕ) → length (nodes_of_all base ts) ≡ trees_size ts
   length-nodes_of_all Last base = refl
@@ -46,24 +38,14 @@ mutual
 -- the trees of all nodes of a tree, in the order of the nodes
 abbrev mutual
   pub parts : Tree → List Tree
-  parts (trees.Assign at name a) = parts a ++ trees.Assign at name a ∷ []
-  parts (trees.Dispatch at a name ts) = parts a ++ parts_of_all ts ++ trees.Dispatch at a name ts ∷ []
-  parts (trees.StaticDispatch at a class name ts) = parts a ++ parts_of_all ts ++ trees.StaticDispatch at a class name ts ∷ []
+  parts (trees.leaf at form) = trees.leaf at form ∷ []
+  parts (trees.unary at form a) = parts a ++ trees.unary at form a ∷ []
+  parts (trees.binary at form a b) = parts a ++ parts b ++ trees.binary at form a b ∷ []
+  parts (trees.call at form a ts) = parts a ++ parts_of_all ts ++ trees.call at form a ts ∷ []
   parts (trees.If at a b c) = parts a ++ parts b ++ parts c ++ trees.If at a b c ∷ []
-  parts (trees.While at a b) = parts a ++ parts b ++ trees.While at a b ∷ []
   parts (trees.Block at ts) = parts_of_all ts ++ trees.Block at ts ∷ []
   parts (trees.Let at name declared o a) = parts_of_maybe o ++ parts a ++ trees.Let at name declared o a ∷ []
   parts (trees.Case at a cs) = parts a ++ parts_of_cases cs ++ trees.Case at a cs ∷ []
-  parts (trees.New at class) = trees.New at class ∷ []
-  parts (trees.IsVoid at a) = parts a ++ trees.IsVoid at a ∷ []
-  parts (trees.Arith at op a b) = parts a ++ parts b ++ trees.Arith at op a b ∷ []
-  parts (trees.Neg at a) = parts a ++ trees.Neg at a ∷ []
-  parts (trees.Compare at op a b) = parts a ++ parts b ++ trees.Compare at op a b ∷ []
-  parts (trees.Not at a) = parts a ++ trees.Not at a ∷ []
-  parts (trees.Id at name) = trees.Id at name ∷ []
-  parts (trees.Int at value) = trees.Int at value ∷ []
-  parts (trees.Str at bytes) = trees.Str at bytes ∷ []
-  parts (trees.Bool at value) = trees.Bool at value ∷ []
 
   pub parts_of_all : Trees → List Tree
   parts_of_all Last = []
@@ -80,24 +62,14 @@ abbrev mutual
 -- there are as many as the tree has nodes
 mutual
   pub length-parts : (t : Tree) → length (parts t) ≡ tree_size t
-  length-parts (trees.Assign at name a) = simp (length-append, length-parts a) (omega arith)
-  length-parts (trees.Dispatch at a name ts) = simp (length-append, length-parts a, length-parts_of_all ts) (omega arith)
-  length-parts (trees.StaticDispatch at a class name ts) = simp (length-append, length-parts a, length-parts_of_all ts) (omega arith)
+  length-parts (trees.leaf at form) = refl
+  length-parts (trees.unary at form a) = simp (length-append, length-parts a) (omega arith)
+  length-parts (trees.binary at form a b) = simp (length-append, length-parts a, length-parts b) (omega arith)
+  length-parts (trees.call at form a ts) = simp (length-append, length-parts a, length-parts_of_all ts) (omega arith)
   length-parts (trees.If at a b c) = simp (length-append, length-parts a, length-parts b, length-parts c) (omega arith)
-  length-parts (trees.While at a b) = simp (length-append, length-parts a, length-parts b) (omega arith)
   length-parts (trees.Block at ts) = simp (length-append, length-parts_of_all ts) (omega arith)
   length-parts (trees.Let at name declared o a) = simp (length-append, length-parts_of_maybe o, length-parts a) (omega arith)
   length-parts (trees.Case at a cs) = simp (length-append, length-parts a, length-parts_of_cases cs) (omega arith)
-  length-parts (trees.New at class) = refl
-  length-parts (trees.IsVoid at a) = simp (length-append, length-parts a) (omega arith)
-  length-parts (trees.Arith at op a b) = simp (length-append, length-parts a, length-parts b) (omega arith)
-  length-parts (trees.Neg at a) = simp (length-append, length-parts a) (omega arith)
-  length-parts (trees.Compare at op a b) = simp (length-append, length-parts a, length-parts b) (omega arith)
-  length-parts (trees.Not at a) = simp (length-append, length-parts a) (omega arith)
-  length-parts (trees.Id at name) = refl
-  length-parts (trees.Int at value) = refl
-  length-parts (trees.Str at bytes) = refl
-  length-parts (trees.Bool at value) = refl
 
   pub length-parts_of_all : (ts : Trees) → length (parts_of_all ts) ≡ trees_size ts
   length-parts_of_all Last = refl
@@ -113,24 +85,14 @@ mutual
 
 -- the last of them is the tree
 parts_end : (t : Tree) → (us : List Tree) × (parts t ≡ us ++ t ∷ [])
-parts_end (trees.Assign at name a) = (parts a, refl)
-parts_end (trees.Dispatch at a name ts) = (parts a ++ parts_of_all ts, refl)
-parts_end (trees.StaticDispatch at a class name ts) = (parts a ++ parts_of_all ts, refl)
+parts_end (trees.leaf at form) = ([], refl)
+parts_end (trees.unary at form a) = (parts a, refl)
+parts_end (trees.binary at form a b) = (parts a ++ parts b, refl)
+parts_end (trees.call at form a ts) = (parts a ++ parts_of_all ts, refl)
 parts_end (trees.If at a b c) = (parts a ++ parts b ++ parts c, refl)
-parts_end (trees.While at a b) = (parts a ++ parts b, refl)
 parts_end (trees.Block at ts) = (parts_of_all ts, refl)
 parts_end (trees.Let at name declared o a) = (parts_of_maybe o ++ parts a, refl)
 parts_end (trees.Case at a cs) = (parts a ++ parts_of_cases cs, refl)
-parts_end (trees.New at class) = ([], refl)
-parts_end (trees.IsVoid at a) = (parts a, refl)
-parts_end (trees.Arith at op a b) = (parts a ++ parts b, refl)
-parts_end (trees.Neg at a) = (parts a, refl)
-parts_end (trees.Compare at op a b) = (parts a ++ parts b, refl)
-parts_end (trees.Not at a) = (parts a, refl)
-parts_end (trees.Id at name) = ([], refl)
-parts_end (trees.Int at value) = ([], refl)
-parts_end (trees.Str at bytes) = ([], refl)
-parts_end (trees.Bool at value) = ([], refl)
 
 -- what comes before a tree and its nodes, in number
 next : (ts us : List Tree) (base n : ℕ) → base ≡ length ts → length us ≡ n → base + n ≡ length (ts ++ us)
@@ -187,27 +149,45 @@ grows_node {ts} {n} {t} e = record { all = λ ms. ap (λ u. grown (ts ++ u ∷ [
 grows_join : {ts us vs : List Tree} {ns ms : List Node} → Grows ts ns us → Grows (ts ++ us) ms vs → Grows ts (ns ++ ms) (us ++ vs)
 grows_join {ts} {us} {vs} {ns} {ms} g h = record { all = λ rest. ap (grown ts) (append_assoc ns ms rest) ∙ g.all (ms ++ rest) ∙ h.all rest ∙ ap (λ ws. grown ws rest) (append_assoc ts us vs) }
 
+-- the tree of the node of a form
+leaf_made : (ts : List Tree) (at : Place) (form : Leaf) → made ts (leaf_node at form) ≡ trees.leaf at form
+leaf_made ts at (trees.new class) = refl
+leaf_made ts at _ = refl
+
+unary_made : (ts : List Tree) (at : Place) (form : Unary) (a : NodeId) → made ts (unary_node at form a) ≡ trees.unary at form (at_id ts a)
+unary_made ts at (trees.assign name) a = refl
+unary_made ts at _ a = refl
+
+binary_made : (ts : List Tree) (at : Place) (form : Binary) (a b : NodeId) → made ts (binary_node at form a b) ≡ trees.binary at form (at_id ts a) (at_id ts b)
+binary_made ts at (trees.arith op) a b = refl
+binary_made ts at _ a b = refl
+
+call_made : (ts : List Tree) (at : Place) (form : Call) (a : NodeId) (ids : List NodeId) → made ts (call_node at form a ids) ≡ trees.call at form (at_id ts a) (of_list (map (at_id ts) ids))
+call_made ts at (trees.dynamic name) a ids = refl
+call_made ts at _ a ids = refl
+
 -- the trees of a tree's list are its parts
 mutual
   grows : (t : Tree) (base : ℕ) (ts : List Tree) → base ≡ length ts → Grows ts (nodes base t) (parts t)
-  grows (trees.Assign at name a) base front e =
+  grows (trees.leaf at form) base front e = grows_node (leaf_made front at form)
+  grows (trees.unary at form a) base front e =
       let r0 : front ++ (parts a) ≡ front ++ (parts a ++ []) = simp append-nil in
       let p0 = at_root a (front ++ (parts a)) front [] base e r0 in
-      grows_join (grows a base front e) (grows_node (λ i. trees.Assign at name (p0 i)))
-  grows (trees.Dispatch at a name ts) base front e =
+      grows_join (grows a base front e) (grows_node (unary_made _ at form (root base a) ∙ (λ i. trees.unary at form (p0 i))))
+  grows (trees.binary at form a b) base front e =
+      let e1 : base + tree_size a ≡ length (front ++ parts a) = omega (arith, length-append front (parts a), length-parts a) in
+      let r0 : front ++ (parts a ++ parts b) ≡ front ++ (parts a ++ (parts b)) = refl in
+      let p0 = at_root a (front ++ (parts a ++ parts b)) front (parts b) base e r0 in
+      let r1 : front ++ (parts a ++ parts b) ≡ (front ++ parts a) ++ (parts b ++ []) = simp (append_assoc, append-nil) in
+      let p1 = at_root b (front ++ (parts a ++ parts b)) (front ++ parts a) [] (base + tree_size a) e1 r1 in
+      grows_join (grows_join (grows a base front e) (grows b (base + tree_size a) (front ++ parts a) e1)) (grows_node (binary_made _ at form (root base a) (root (base + tree_size a) b) ∙ (λ i. trees.binary at form (p0 i) (p1 i))))
+  grows (trees.call at form a ts) base front e =
       let e1 : base + tree_size a ≡ length (front ++ parts a) = omega (arith, length-append front (parts a), length-parts a) in
       let r0 : front ++ (parts a ++ parts_of_all ts) ≡ front ++ (parts a ++ (parts_of_all ts)) = refl in
       let p0 = at_root a (front ++ (parts a ++ parts_of_all ts)) front (parts_of_all ts) base e r0 in
       let r1 : front ++ (parts a ++ parts_of_all ts) ≡ (front ++ parts a) ++ (parts_of_all ts ++ []) = simp (append_assoc, append-nil) in
       let p1 = at_roots ts (front ++ (parts a ++ parts_of_all ts)) (front ++ parts a) [] (base + tree_size a) e1 r1 in
-      grows_join (grows_join (grows a base front e) (grows_all ts (base + tree_size a) (front ++ parts a) e1)) (grows_node (λ i. trees.Dispatch at (p0 i) name (p1 i)))
-  grows (trees.StaticDispatch at a class name ts) base front e =
-      let e1 : base + tree_size a ≡ length (front ++ parts a) = omega (arith, length-append front (parts a), length-parts a) in
-      let r0 : front ++ (parts a ++ parts_of_all ts) ≡ front ++ (parts a ++ (parts_of_all ts)) = refl in
-      let p0 = at_root a (front ++ (parts a ++ parts_of_all ts)) front (parts_of_all ts) base e r0 in
-      let r1 : front ++ (parts a ++ parts_of_all ts) ≡ (front ++ parts a) ++ (parts_of_all ts ++ []) = simp (append_assoc, append-nil) in
-      let p1 = at_roots ts (front ++ (parts a ++ parts_of_all ts)) (front ++ parts a) [] (base + tree_size a) e1 r1 in
-      grows_join (grows_join (grows a base front e) (grows_all ts (base + tree_size a) (front ++ parts a) e1)) (grows_node (λ i. trees.StaticDispatch at (p0 i) class name (p1 i)))
+      grows_join (grows_join (grows a base front e) (grows_all ts (base + tree_size a) (front ++ parts a) e1)) (grows_node (call_made _ at form (root base a) (roots (base + tree_size a) ts) ∙ (λ i. trees.call at form (p0 i) (p1 i))))
   grows (trees.If at a b c) base front e =
       let e1 : base + tree_size a ≡ length (front ++ parts a) = omega (arith, length-append front (parts a), length-parts a) in
       let e2 : base + tree_size a + tree_size b ≡ length (front ++ (parts a ++ parts b)) = omega (arith, length-append front (parts a ++ parts b), length-append (parts a) (parts b), length-parts a, length-parts b) in
@@ -218,13 +198,6 @@ mutual
       let r2 : front ++ (parts a ++ parts b ++ parts c) ≡ (front ++ (parts a ++ parts b)) ++ (parts c ++ []) = simp (append_assoc, append-nil) in
       let p2 = at_root c (front ++ (parts a ++ parts b ++ parts c)) (front ++ (parts a ++ parts b)) [] (base + tree_size a + tree_size b) e2 r2 in
       grows_join (grows_join (grows_join (grows a base front e) (grows b (base + tree_size a) (front ++ parts a) e1)) (grows c (base + tree_size a + tree_size b) (front ++ (parts a ++ parts b)) e2)) (grows_node (λ i. trees.If at (p0 i) (p1 i) (p2 i)))
-  grows (trees.While at a b) base front e =
-      let e1 : base + tree_size a ≡ length (front ++ parts a) = omega (arith, length-append front (parts a), length-parts a) in
-      let r0 : front ++ (parts a ++ parts b) ≡ front ++ (parts a ++ (parts b)) = refl in
-      let p0 = at_root a (front ++ (parts a ++ parts b)) front (parts b) base e r0 in
-      let r1 : front ++ (parts a ++ parts b) ≡ (front ++ parts a) ++ (parts b ++ []) = simp (append_assoc, append-nil) in
-      let p1 = at_root b (front ++ (parts a ++ parts b)) (front ++ parts a) [] (base + tree_size a) e1 r1 in
-      grows_join (grows_join (grows a base front e) (grows b (base + tree_size a) (front ++ parts a) e1)) (grows_node (λ i. trees.While at (p0 i) (p1 i)))
   grows (trees.Block at ts) base front e =
       let r0 : front ++ (parts_of_all ts) ≡ front ++ (parts_of_all ts ++ []) = simp append-nil in
       let p0 = at_roots ts (front ++ (parts_of_all ts)) front [] base e r0 in
@@ -243,37 +216,6 @@ mutual
       let r1 : front ++ (parts a ++ parts_of_cases cs) ≡ (front ++ parts a) ++ (parts_of_cases cs ++ []) = simp (append_assoc, append-nil) in
       let p1 = at_branch_roots cs (front ++ (parts a ++ parts_of_cases cs)) (front ++ parts a) [] (base + tree_size a) e1 r1 in
       grows_join (grows_join (grows a base front e) (grows_cases cs (base + tree_size a) (front ++ parts a) e1)) (grows_node (λ i. trees.Case at (p0 i) (p1 i)))
-  grows (trees.New at class) base front e = grows_node refl
-  grows (trees.IsVoid at a) base front e =
-      let r0 : front ++ (parts a) ≡ front ++ (parts a ++ []) = simp append-nil in
-      let p0 = at_root a (front ++ (parts a)) front [] base e r0 in
-      grows_join (grows a base front e) (grows_node (λ i. trees.IsVoid at (p0 i)))
-  grows (trees.Arith at op a b) base front e =
-      let e1 : base + tree_size a ≡ length (front ++ parts a) = omega (arith, length-append front (parts a), length-parts a) in
-      let r0 : front ++ (parts a ++ parts b) ≡ front ++ (parts a ++ (parts b)) = refl in
-      let p0 = at_root a (front ++ (parts a ++ parts b)) front (parts b) base e r0 in
-      let r1 : front ++ (parts a ++ parts b) ≡ (front ++ parts a) ++ (parts b ++ []) = simp (append_assoc, append-nil) in
-      let p1 = at_root b (front ++ (parts a ++ parts b)) (front ++ parts a) [] (base + tree_size a) e1 r1 in
-      grows_join (grows_join (grows a base front e) (grows b (base + tree_size a) (front ++ parts a) e1)) (grows_node (λ i. trees.Arith at op (p0 i) (p1 i)))
-  grows (trees.Neg at a) base front e =
-      let r0 : front ++ (parts a) ≡ front ++ (parts a ++ []) = simp append-nil in
-      let p0 = at_root a (front ++ (parts a)) front [] base e r0 in
-      grows_join (grows a base front e) (grows_node (λ i. trees.Neg at (p0 i)))
-  grows (trees.Compare at op a b) base front e =
-      let e1 : base + tree_size a ≡ length (front ++ parts a) = omega (arith, length-append front (parts a), length-parts a) in
-      let r0 : front ++ (parts a ++ parts b) ≡ front ++ (parts a ++ (parts b)) = refl in
-      let p0 = at_root a (front ++ (parts a ++ parts b)) front (parts b) base e r0 in
-      let r1 : front ++ (parts a ++ parts b) ≡ (front ++ parts a) ++ (parts b ++ []) = simp (append_assoc, append-nil) in
-      let p1 = at_root b (front ++ (parts a ++ parts b)) (front ++ parts a) [] (base + tree_size a) e1 r1 in
-      grows_join (grows_join (grows a base front e) (grows b (base + tree_size a) (front ++ parts a) e1)) (grows_node (λ i. trees.Compare at op (p0 i) (p1 i)))
-  grows (trees.Not at a) base front e =
-      let r0 : front ++ (parts a) ≡ front ++ (parts a ++ []) = simp append-nil in
-      let p0 = at_root a (front ++ (parts a)) front [] base e r0 in
-      grows_join (grows a base front e) (grows_node (λ i. trees.Not at (p0 i)))
-  grows (trees.Id at name) base front e = grows_node refl
-  grows (trees.Int at value) base front e = grows_node refl
-  grows (trees.Str at bytes) base front e = grows_node refl
-  grows (trees.Bool at value) base front e = grows_node refl
 
   grows_all : (ts : Trees) (base : ℕ) (front : List Tree) → base ≡ length front → Grows front (nodes_of_all base ts) (parts_of_all ts)
   grows_all Last base front e = grows_none

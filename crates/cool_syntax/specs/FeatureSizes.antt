@@ -14,24 +14,14 @@ use Rattle.cool_syntax.specs.Tree as trees
 -- how many branches the cases of a tree have
 abbrev mutual
   pub branches_in : Tree → ℕ
-  branches_in (trees.Assign at name t) = branches_in t
-  branches_in (trees.Dispatch at t name ts) = branches_in t + branches_in_all ts
-  branches_in (trees.StaticDispatch at t class name ts) = branches_in t + branches_in_all ts
+  branches_in (trees.leaf at form) = 0
+  branches_in (trees.unary at form t) = branches_in t
+  branches_in (trees.binary at form a b) = branches_in a + branches_in b
+  branches_in (trees.call at form t ts) = branches_in t + branches_in_all ts
   branches_in (trees.If at t y n) = branches_in t + branches_in y + branches_in n
-  branches_in (trees.While at t b) = branches_in t + branches_in b
   branches_in (trees.Block at ts) = branches_in_all ts
   branches_in (trees.Let at name declared o t) = branches_in_maybe o + branches_in t
   branches_in (trees.Case at t cs) = branches_in t + branches_of cs
-  branches_in (trees.New at class) = 0
-  branches_in (trees.IsVoid at t) = branches_in t
-  branches_in (trees.Arith at op a b) = branches_in a + branches_in b
-  branches_in (trees.Neg at t) = branches_in t
-  branches_in (trees.Compare at op a b) = branches_in a + branches_in b
-  branches_in (trees.Not at t) = branches_in t
-  branches_in (trees.Id at name) = 0
-  branches_in (trees.Int at value) = 0
-  branches_in (trees.Str at bytes) = 0
-  branches_in (trees.Bool at value) = 0
 
   pub branches_in_all : Trees → ℕ
   branches_in_all Last = 0

@@ -8,7 +8,7 @@ use Rattle.cool_syntax.specs.declared.node.Node.{Node}
 use Rattle.cool_syntax.specs.declared.node.Node.TheVariants as node
 use Rattle.cool_syntax.specs.declared.node.NodeId.{NodeId}
 use Rattle.cool_syntax.specs.declared.node.NodeBranch.{NodeBranch}
-use Rattle.cool_syntax.specs.Tree.{Tree, Trees, MaybeTree, Cases, Twig, Last, More, Without, With, NoCase, CaseOf, tree_size, maybe_size, of_list, of_option, of_twigs}
+use Rattle.cool_syntax.specs.Tree.{Leaf, Unary, Binary, Call, Tree, Trees, MaybeTree, Cases, Twig, Last, More, Without, With, NoCase, CaseOf, tree_size, maybe_size, of_list, of_option, of_twigs}
 use Rattle.cool_syntax.specs.Tree as trees
 use Rattle.cool_syntax.specs.Bare.{nowhere}
 
@@ -29,37 +29,47 @@ branch_roots base NoCase = []
 branch_roots base (CaseOf at name declared t cs) =
     record { at = at; name = name; declared = declared; body = root base t } ∷ branch_roots (base + tree_size t) cs
 
+-- the node of a form: without parts, with one, with two, and of a call
+abbrev pub leaf_node : Place → Leaf → Node
+leaf_node at (trees.new class) = node.New at class
+leaf_node at (trees.id name) = node.Id at name
+leaf_node at (trees.int value) = node.Int at value
+leaf_node at (trees.str bytes) = node.Str at bytes
+leaf_node at (trees.truth value) = node.Bool at value
+
+abbrev pub unary_node : Place → Unary → NodeId → Node
+unary_node at (trees.assign name) a = node.Assign at name a
+unary_node at trees.isvoid a = node.IsVoid at a
+unary_node at trees.neg a = node.Neg at a
+unary_node at trees.not a = node.Not at a
+
+abbrev pub binary_node : Place → Binary → NodeId → NodeId → Node
+binary_node at (trees.arith op) a b = node.Arith at op a b
+binary_node at (trees.compare op) a b = node.Compare at op a b
+binary_node at trees.while a b = node.While at a b
+
+abbrev pub call_node : Place → Call → NodeId → List NodeId → Node
+call_node at (trees.dynamic name) a ids = node.Dispatch at a name ids
+call_node at (trees.static class name) a ids = node.StaticDispatch at a class name ids
+
 -- the list of a tree, numbered from a base: the parts in order, each with its own parts before it, and then the node
 abbrev mutual
   pub nodes : ℕ → Tree → List Node
-  nodes base (trees.Assign at name t) = nodes base t ++ node.Assign at name (root base t) ∷ []
-  nodes base (trees.Dispatch at t name ts) =
-      nodes base t ++ nodes_of_all (base + tree_size t) ts ++ node.Dispatch at (root base t) name (roots (base + tree_size t) ts) ∷ []
-  nodes base (trees.StaticDispatch at t class name ts) =
-      nodes base t ++ nodes_of_all (base + tree_size t) ts ++ node.StaticDispatch at (root base t) class name (roots (base + tree_size t) ts) ∷ []
+  nodes base (trees.leaf at form) = leaf_node at form ∷ []
+  nodes base (trees.unary at form t) = nodes base t ++ unary_node at form (root base t) ∷ []
+  nodes base (trees.binary at form a b) =
+      nodes base a ++ nodes (base + tree_size a) b ++ binary_node at form (root base a) (root (base + tree_size a) b) ∷ []
+  nodes base (trees.call at form t ts) =
+      nodes base t ++ nodes_of_all (base + tree_size t) ts ++ call_node at form (root base t) (roots (base + tree_size t) ts) ∷ []
   nodes base (trees.If at t y n) =
       nodes base t ++ nodes (base + tree_size t) y ++ nodes (base + tree_size t + tree_size y) n
       ++ node.If at (root base t) (root (base + tree_size t) y) (root (base + tree_size t + tree_size y) n) ∷ []
-  nodes base (trees.While at t b) =
-      nodes base t ++ nodes (base + tree_size t) b ++ node.While at (root base t) (root (base + tree_size t) b) ∷ []
   nodes base (trees.Block at ts) = nodes_of_all base ts ++ node.Block at (roots base ts) ∷ []
   nodes base (trees.Let at name declared o t) =
       nodes_of_maybe base o ++ nodes (base + maybe_size o) t
       ++ node.Let at name declared (root_of_maybe base o) (root (base + maybe_size o) t) ∷ []
   nodes base (trees.Case at t cs) =
       nodes base t ++ nodes_of_cases (base + tree_size t) cs ++ node.Case at (root base t) (branch_roots (base + tree_size t) cs) ∷ []
-  nodes base (trees.New at class) = node.New at class ∷ []
-  nodes base (trees.IsVoid at t) = nodes base t ++ node.IsVoid at (root base t) ∷ []
-  nodes base (trees.Arith at op a b) =
-      nodes base a ++ nodes (base + tree_size a) b ++ node.Arith at op (root base a) (root (base + tree_size a) b) ∷ []
-  nodes base (trees.Neg at t) = nodes base t ++ node.Neg at (root base t) ∷ []
-  nodes base (trees.Compare at op a b) =
-      nodes base a ++ nodes (base + tree_size a) b ++ node.Compare at op (root base a) (root (base + tree_size a) b) ∷ []
-  nodes base (trees.Not at t) = nodes base t ++ node.Not at (root base t) ∷ []
-  nodes base (trees.Id at name) = node.Id at name ∷ []
-  nodes base (trees.Int at value) = node.Int at value ∷ []
-  nodes base (trees.Str at bytes) = node.Str at bytes ∷ []
-  nodes base (trees.Bool at value) = node.Bool at value ∷ []
 
   pub nodes_of_all : ℕ → Trees → List Node
   nodes_of_all base Last = []

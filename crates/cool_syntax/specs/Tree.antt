@@ -5,27 +5,43 @@ use Rattle.cool_syntax.specs.declared.type_ref.TypeRef.{TypeRef}
 use Rattle.cool_syntax.specs.declared.operator.ArithOp.{ArithOp}
 use Rattle.cool_syntax.specs.declared.operator.CompareOp.{CompareOp}
 
--- a tree; trees in order; a tree or none; the branches of a case
+-- a form without parts
+pub data Leaf : Type 0 where
+  new : (class : TypeRef) → Leaf
+  id : (name : List ℕ) → Leaf
+  int : (value : ℕ) → Leaf
+  str : (bytes : List ℕ) → Leaf
+  truth : (value : Truth) → Leaf
+
+-- a form with one part
+pub data Unary : Type 0 where
+  assign : (name : List ℕ) → Unary
+  isvoid : Unary
+  neg : Unary
+  not : Unary
+
+-- a form with two parts
+pub data Binary : Type 0 where
+  arith : (op : ArithOp) → Binary
+  compare : (op : CompareOp) → Binary
+  while : Binary
+
+-- what a dispatch names beside its receiver: a method of the object's own class, or of a named one
+pub data Call : Type 0 where
+  dynamic : (name : List ℕ) → Call
+  static : (class : TypeRef) (name : List ℕ) → Call
+
+-- a tree, by the kind of its parts; trees in order; a tree or none; the branches of a case
 mutual
   pub data Tree : Type 0 where
-    Assign : (at : Place) (name : List ℕ) (value : Tree) → Tree
-    Dispatch : (at : Place) (receiver : Tree) (name : List ℕ) (args : Trees) → Tree
-    StaticDispatch : (at : Place) (receiver : Tree) (class : TypeRef) (name : List ℕ) (args : Trees) → Tree
+    leaf : (at : Place) (form : Leaf) → Tree
+    unary : (at : Place) (form : Unary) (part : Tree) → Tree
+    binary : (at : Place) (form : Binary) (first : Tree) (second : Tree) → Tree
+    call : (at : Place) (form : Call) (receiver : Tree) (args : Trees) → Tree
     If : (at : Place) (test : Tree) (yes : Tree) (no : Tree) → Tree
-    While : (at : Place) (test : Tree) (body : Tree) → Tree
     Block : (at : Place) (items : Trees) → Tree
     Let : (at : Place) (name : List ℕ) (declared : TypeRef) (init : MaybeTree) (body : Tree) → Tree
     Case : (at : Place) (value : Tree) (branches : Cases) → Tree
-    New : (at : Place) (class : TypeRef) → Tree
-    IsVoid : (at : Place) (value : Tree) → Tree
-    Arith : (at : Place) (op : ArithOp) (left : Tree) (right : Tree) → Tree
-    Neg : (at : Place) (value : Tree) → Tree
-    Compare : (at : Place) (op : CompareOp) (left : Tree) (right : Tree) → Tree
-    Not : (at : Place) (value : Tree) → Tree
-    Id : (at : Place) (name : List ℕ) → Tree
-    Int : (at : Place) (value : ℕ) → Tree
-    Str : (at : Place) (bytes : List ℕ) → Tree
-    Bool : (at : Place) (value : Truth) → Tree
 
   pub data Trees : Type 0 where
     Last : Trees
@@ -39,6 +55,49 @@ mutual
     NoCase : Cases
     CaseOf : (at : Place) (name : List ℕ) (declared : TypeRef) (body : Tree) (rest : Cases) → Cases
 
+-- the forms by their names
+pattern abbrev pub Assign : Place → List ℕ → Tree → Tree
+Assign at name t = unary at (assign name) t
+
+pattern abbrev pub Dispatch : Place → Tree → List ℕ → Trees → Tree
+Dispatch at t name ts = call at (dynamic name) t ts
+
+pattern abbrev pub StaticDispatch : Place → Tree → TypeRef → List ℕ → Trees → Tree
+StaticDispatch at t class name ts = call at (static class name) t ts
+
+pattern abbrev pub While : Place → Tree → Tree → Tree
+While at t b = binary at while t b
+
+pattern abbrev pub New : Place → TypeRef → Tree
+New at class = leaf at (new class)
+
+pattern abbrev pub IsVoid : Place → Tree → Tree
+IsVoid at t = unary at isvoid t
+
+pattern abbrev pub Arith : Place → ArithOp → Tree → Tree → Tree
+Arith at op a b = binary at (arith op) a b
+
+pattern abbrev pub Neg : Place → Tree → Tree
+Neg at t = unary at neg t
+
+pattern abbrev pub Compare : Place → CompareOp → Tree → Tree → Tree
+Compare at op a b = binary at (compare op) a b
+
+pattern abbrev pub Not : Place → Tree → Tree
+Not at t = unary at not t
+
+pattern abbrev pub Id : Place → List ℕ → Tree
+Id at name = leaf at (id name)
+
+pattern abbrev pub Int : Place → ℕ → Tree
+Int at value = leaf at (int value)
+
+pattern abbrev pub Str : Place → List ℕ → Tree
+Str at bytes = leaf at (str bytes)
+
+pattern abbrev pub Bool : Place → Truth → Tree
+Bool at value = leaf at (truth value)
+
 -- a branch of a case, by itself
 pub record Twig : Type 0 where
   pub at : Place
@@ -48,46 +107,26 @@ pub record Twig : Type 0 where
 
 -- the place of a tree's own mark
 abbrev pub place_of : Tree → Place
-place_of (Assign at name t) = at
-place_of (Dispatch at t name ts) = at
-place_of (StaticDispatch at t class name ts) = at
+place_of (leaf at form) = at
+place_of (unary at form t) = at
+place_of (binary at form a b) = at
+place_of (call at form t ts) = at
 place_of (If at t y n) = at
-place_of (While at t b) = at
 place_of (Block at ts) = at
 place_of (Let at name declared o t) = at
 place_of (Case at t cs) = at
-place_of (New at class) = at
-place_of (IsVoid at t) = at
-place_of (Arith at op a b) = at
-place_of (Neg at t) = at
-place_of (Compare at op a b) = at
-place_of (Not at t) = at
-place_of (Id at name) = at
-place_of (Int at value) = at
-place_of (Str at bytes) = at
-place_of (Bool at value) = at
 
 -- how many nodes a tree has: itself, and those of its parts
 abbrev mutual
   pub tree_size : Tree → ℕ
-  tree_size (Assign at name t) = tree_size t + 1
-  tree_size (Dispatch at t name ts) = tree_size t + trees_size ts + 1
-  tree_size (StaticDispatch at t class name ts) = tree_size t + trees_size ts + 1
+  tree_size (leaf at form) = 1
+  tree_size (unary at form t) = tree_size t + 1
+  tree_size (binary at form a b) = tree_size a + tree_size b + 1
+  tree_size (call at form t ts) = tree_size t + trees_size ts + 1
   tree_size (If at t y n) = tree_size t + tree_size y + tree_size n + 1
-  tree_size (While at t b) = tree_size t + tree_size b + 1
   tree_size (Block at ts) = trees_size ts + 1
   tree_size (Let at name declared o t) = maybe_size o + tree_size t + 1
   tree_size (Case at t cs) = tree_size t + cases_size cs + 1
-  tree_size (New at class) = 1
-  tree_size (IsVoid at t) = tree_size t + 1
-  tree_size (Arith at op a b) = tree_size a + tree_size b + 1
-  tree_size (Neg at t) = tree_size t + 1
-  tree_size (Compare at op a b) = tree_size a + tree_size b + 1
-  tree_size (Not at t) = tree_size t + 1
-  tree_size (Id at name) = 1
-  tree_size (Int at value) = 1
-  tree_size (Str at bytes) = 1
-  tree_size (Bool at value) = 1
 
   pub trees_size : Trees → ℕ
   trees_size Last = 0

@@ -5,31 +5,29 @@ use Rattle.cool_syntax.specs.declared.type_ref.TypeRef.{TypeRef}
 use Rattle.cool_syntax.specs.declared.file_tree.ClassDef.{ClassDef}
 use Rattle.cool_syntax.specs.declared.file_tree.Feature.{Feature}
 use Rattle.cool_syntax.specs.declared.file_tree.Feature.TheVariants.{Method, Attribute}
-use Rattle.cool_syntax.specs.Tree.{Tree, Trees, MaybeTree, Cases, Last, More, Without, With, NoCase, CaseOf}
+use Rattle.cool_syntax.specs.Tree.{Leaf, Tree, Trees, MaybeTree, Cases, Last, More, Without, With, NoCase, CaseOf}
 use Rattle.cool_syntax.specs.Tree as trees
 use Rattle.cool_syntax.specs.FeatureSizes.{feature_size}
+
+-- how many bytes a form without parts has as a string constant
+abbrev pub own_text : Leaf → ℕ
+own_text (trees.new class) = 0
+own_text (trees.id name) = 0
+own_text (trees.int value) = 0
+own_text (trees.str bytes) = length bytes
+own_text (trees.truth value) = 0
 
 -- how many bytes the string constants of a tree have
 abbrev mutual
   pub text_in : Tree → ℕ
-  text_in (trees.Assign at name t) = text_in t
-  text_in (trees.Dispatch at t name ts) = text_in t + text_in_all ts
-  text_in (trees.StaticDispatch at t class name ts) = text_in t + text_in_all ts
+  text_in (trees.leaf at form) = own_text form
+  text_in (trees.unary at form t) = text_in t
+  text_in (trees.binary at form a b) = text_in a + text_in b
+  text_in (trees.call at form t ts) = text_in t + text_in_all ts
   text_in (trees.If at t y n) = text_in t + text_in y + text_in n
-  text_in (trees.While at t b) = text_in t + text_in b
   text_in (trees.Block at ts) = text_in_all ts
   text_in (trees.Let at name declared o t) = text_in_maybe o + text_in t
   text_in (trees.Case at t cs) = text_in t + text_in_cases cs
-  text_in (trees.New at class) = 0
-  text_in (trees.IsVoid at t) = text_in t
-  text_in (trees.Arith at op a b) = text_in a + text_in b
-  text_in (trees.Neg at t) = text_in t
-  text_in (trees.Compare at op a b) = text_in a + text_in b
-  text_in (trees.Not at t) = text_in t
-  text_in (trees.Id at name) = 0
-  text_in (trees.Int at value) = 0
-  text_in (trees.Str at bytes) = length bytes
-  text_in (trees.Bool at value) = 0
 
   pub text_in_all : Trees → ℕ
   text_in_all Last = 0

@@ -125,26 +125,16 @@ written_classes (c ∷ cs) = written_class c ++ written_classes cs
 -- no block and no case in the tree is empty
 abbrev mutual
   pub IsWritable : Tree → Type 0
-  IsWritable (trees.Assign at name t) = IsWritable t
-  IsWritable (trees.Dispatch at t name ts) = IsWritable t × AreWritable ts
-  IsWritable (trees.StaticDispatch at t class name ts) = IsWritable t × AreWritable ts
+  IsWritable (trees.leaf at form) = Unit {0}
+  IsWritable (trees.unary at form t) = IsWritable t
+  IsWritable (trees.binary at form a b) = IsWritable a × IsWritable b
+  IsWritable (trees.call at form t ts) = IsWritable t × AreWritable ts
   IsWritable (trees.If at t y n) = IsWritable t × IsWritable y × IsWritable n
-  IsWritable (trees.While at t b) = IsWritable t × IsWritable b
   IsWritable (trees.Block at Last) = ⊥
   IsWritable (trees.Block at (More t ts)) = IsWritable t × AreWritable ts
   IsWritable (trees.Let at name declared o t) = IsMaybeWritable o × IsWritable t
   IsWritable (trees.Case at t NoCase) = ⊥
   IsWritable (trees.Case at t (CaseOf here name declared b cs)) = IsWritable t × IsWritable b × AreCasesWritable cs
-  IsWritable (trees.New at class) = Unit {0}
-  IsWritable (trees.IsVoid at t) = IsWritable t
-  IsWritable (trees.Arith at op a b) = IsWritable a × IsWritable b
-  IsWritable (trees.Neg at t) = IsWritable t
-  IsWritable (trees.Compare at op a b) = IsWritable a × IsWritable b
-  IsWritable (trees.Not at t) = IsWritable t
-  IsWritable (trees.Id at name) = Unit {0}
-  IsWritable (trees.Int at value) = Unit {0}
-  IsWritable (trees.Str at bytes) = Unit {0}
-  IsWritable (trees.Bool at value) = Unit {0}
 
   pub AreWritable : Trees → Type 0
   AreWritable Last = Unit {0}
