@@ -17,38 +17,38 @@ use Rattle.cool_rules.specs.Conformance.{IsType}
 use Rattle.cool_rules.specs.NodeTypes.{node_types, part_types, types_of_all, types_of_maybe, types_of_cases, feature_types}
 use Rattle.cool_rules.specs.Scopes.{AreTypes, Binding}
 use Rattle.cool_check.specs.declared.fault.CheckError.{CheckError}
-use Rattle.cool_check.specs.declared.setting.Setting.{Setting}
+use Rattle.cool_check.specs.declared.typing_setting.TypingSetting.{TypingSetting}
 use Rattle.cool_check.specs.Contexts.{context}
 use Rattle.cool_check.specs.Faults.{IsPlacedError}
 use Rattle.cool_check.specs.FirstFaults.{Checked, checked, IsFirst}
-use Rattle.cool_check.specs.Settings.{IsSound}
+use Rattle.cool_check.specs.TypingSettings.{IsSound}
 use Rattle.cool_check.specs.TypingFaults.{feature_checked}
 
 -- the types of the nodes of an expression, or of its parts, with these variables in scope before the attributes
-abbrev pub nodes_typed : Setting → List Binding → Tree → List Ty
+abbrev pub nodes_typed : TypingSetting → List Binding → Tree → List Ty
 nodes_typed s locals t = node_types s.table.now s.class (locals ++ s.attributes.now) t
 
-abbrev pub parts_typed : Setting → List Binding → Tree → List Ty
+abbrev pub parts_typed : TypingSetting → List Binding → Tree → List Ty
 parts_typed s locals t = part_types s.table.now s.class (locals ++ s.attributes.now) t
 
 -- those of the nodes of several expressions, of one that may be missing, and of the branches of a case
-abbrev pub all_typed : Setting → List Binding → Trees → List Ty
+abbrev pub all_typed : TypingSetting → List Binding → Trees → List Ty
 all_typed s locals ts = types_of_all s.table.now s.class (locals ++ s.attributes.now) ts
 
-abbrev pub maybe_typed : Setting → List Binding → MaybeTree → List Ty
+abbrev pub maybe_typed : TypingSetting → List Binding → MaybeTree → List Ty
 maybe_typed s locals o = types_of_maybe s.table.now s.class (locals ++ s.attributes.now) o
 
-abbrev pub cases_typed : Setting → List Binding → Cases → List Ty
+abbrev pub cases_typed : TypingSetting → List Binding → Cases → List Ty
 cases_typed s locals cs = types_of_cases s.table.now s.class (locals ++ s.attributes.now) cs
 
 -- expressions before this number of the body can be checked with these variables in scope
-pub record IsReady (s : Setting) (scope : List Binding) (number : ℕ) : Type 0 where
+pub record IsReady (s : TypingSetting) (scope : List Binding) (number : ℕ) : Type 0 where
   pub sound : IsSound s
   pub locals : AreTypes s.table.now scope
   pub below : number < tree_size s.body.now
 
 -- arguments are expressions of the body, and each has a type
-pub record AreArguments (s : Setting) (ids : List NodeId) (types : List Ty) : Type 0 where
+pub record AreArguments (s : TypingSetting) (ids : List NodeId) (types : List Ty) : Type 0 where
   pub args : AllByRecursion (λ arg. arg.0 < tree_size s.body.now) ids
   pub given : AllByRecursion (IsType s.table.now) types
   pub each : length types ≡ length ids
@@ -62,7 +62,7 @@ pub record IsAnswer {X : Type 0} (given : Checked X) (IsGood : X → Type 0) (Is
   pub places : (n : ℕ) → IsWithin n → IfErr result (IsPlacedError n)
 
 -- the answer for an expression with these variables in scope
-abbrev pub IsTypeOf : Setting → List Binding → Tree → Result Ty CheckError → Type 0
+abbrev pub IsTypeOf : TypingSetting → List Binding → Tree → Result Ty CheckError → Type 0
 IsTypeOf s locals t = IsAnswer (checked (context s) locals t) (IsType s.table.now) (λ n. IsTreeWithin n t)
 
 -- the answer for a feature of a class: the types of the nodes of its expression, or the first fault

@@ -7,7 +7,7 @@ use Rattle.cool_classes.specs.ClimbedChains.{chain}
 use Rattle.cool_classes.specs.Features.{attributes_of}
 use Rattle.cool_rules.specs.Rules.{attribute_binding, formal_binding}
 use Rattle.cool_rules.specs.Scopes.{Binding, entered}
-use Rattle.cool_check.specs.declared.setting.Setting.{Setting}
+use Rattle.cool_check.specs.declared.typing_setting.TypingSetting.{TypingSetting}
 
 -- the attributes of a class with those that it inherits, the latest first
 abbrev pub attribute_bindings : List Class → ClassId → List Binding
@@ -23,5 +23,5 @@ pub record Context : Type 0 where
   pub class : ClassId
   pub attributes : List Binding
 
-abbrev pub context : Setting → Context
+abbrev pub context : TypingSetting → Context
 context s = record { table = s.table.now; class = s.class; attributes = s.attributes.now }

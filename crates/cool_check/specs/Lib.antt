@@ -4,5 +4,5 @@ pub mod Contexts
 pub mod Faults
 pub mod FirstFaults
 pub mod Laws
-pub mod Settings
+pub mod TypingSettings
 pub mod TypingFaults

@@ -12,11 +12,11 @@ ghost use Rattle.cool_check.specs.Checks.{nodes_typed, parts_typed, maybe_typed,
 ghost use Rattle.cool_check.specs.FirstFaults.{maybe_checked, cases_checked, bound_type, branch_class, joined, bind};
 ghost use Rattle.cool_rules.specs.Rules.{is_among};
 ghost use Rattle.cool_check.specs.Contexts.{context};
-ghost use Rattle.cool_check.specs.Settings.{IsSound};
+ghost use Rattle.cool_check.specs.TypingSettings.{IsSound};
 
 use crate::expression::{is_self, type_of};
 use crate::fault::{CheckError, TypeKind};
-use crate::setting::Setting;
+use crate::typing_setting::TypingSetting;
 use cool_classes::{ClassId, OBJECT, Ty};
 use cool_pool::Column;
 use cool_rules::Scope;
@@ -25,7 +25,7 @@ use cool_syntax::{Name, Node, NodeBranch, NodeId, Place, TypeRef};
 /// The type of a `let` or a `case`, whose parts have numbers below this one.
 #[cycle(typing)]
 pub(crate) fn type_of_binding<'a>(
-    setting: &Setting<'a, '_>,
+    setting: &TypingSetting<'a, '_>,
     locals: &mut Scope<'a, Ty>,
     types: &mut Column<Ty>,
     id: NodeId,
@@ -67,7 +67,7 @@ pub(crate) fn type_of_binding<'a>(
 /// The type of an initial value, where there is one.
 #[cycle(typing)]
 fn type_of_option<'a>(
-    setting: &Setting<'a, '_>,
+    setting: &TypingSetting<'a, '_>,
     locals: &mut Scope<'a, Ty>,
     types: &mut Column<Ty>,
     end: NodeId,
@@ -89,7 +89,7 @@ fn type_of_option<'a>(
 
 /// The type of the variable of a `let` whose initial value, if any, has this type.
 fn bound_type(
-    setting: &Setting<'_, '_>,
+    setting: &TypingSetting<'_, '_>,
     at: Place,
     name: &Name,
     declared: &TypeRef,
@@ -116,7 +116,7 @@ fn bound_type(
 /// The type of an expression in the scope with one more variable.
 #[cycle(typing)]
 fn type_within<'a>(
-    setting: &Setting<'a, '_>,
+    setting: &TypingSetting<'a, '_>,
     locals: &mut Scope<'a, Ty>,
     types: &mut Column<Ty>,
     name: &'a Name,
@@ -140,7 +140,7 @@ fn type_within<'a>(
 /// The join of the types of branches, in order. A text has one at least; that of none is Object.
 #[cycle(typing)]
 fn type_of_branches<'a>(
-    setting: &Setting<'a, '_>,
+    setting: &TypingSetting<'a, '_>,
     locals: &mut Scope<'a, Ty>,
     types: &mut Column<Ty>,
     end: NodeId,
@@ -173,7 +173,7 @@ fn type_of_branches<'a>(
 }
 
 /// The join of a type with that of the branches before, where there are any.
-fn joined_with(setting: &Setting<'_, '_>, earlier: Option<Ty>, found: Ty) -> Ty
+fn joined_with(setting: &TypingSetting<'_, '_>, earlier: Option<Ty>, found: Ty) -> Ty
     requires sound { IsSound setting.now }
     requires earlier { IfSome earlier (IsType setting.now.table.now) }
     requires found { IsType setting.now.table.now found }
@@ -188,7 +188,7 @@ fn joined_with(setting: &Setting<'_, '_>, earlier: Option<Ty>, found: Ty) -> Ty
 
 /// The class of a branch, after branches of these classes.
 fn branch_class(
-    setting: &Setting<'_, '_>,
+    setting: &TypingSetting<'_, '_>,
     branch: &NodeBranch,
     earlier: &[ClassId],
 ) -> Result<ClassId, CheckError>

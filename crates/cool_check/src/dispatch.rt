@@ -11,11 +11,11 @@ ghost use Rattle.cool_rules.specs.Conformance.{IsType};
 ghost use Rattle.cool_check.specs.Checks.{parts_typed, IsReady, AreArguments, IsAnswer, IsTypeOf};
 ghost use Rattle.cool_check.specs.FirstFaults.{static_class, call_checked, misfit, resulting};
 ghost use Rattle.cool_check.specs.Contexts.{context};
-ghost use Rattle.cool_check.specs.Settings.{IsSound};
+ghost use Rattle.cool_check.specs.TypingSettings.{IsSound};
 
 use crate::expression::{type_of, types_of};
 use crate::fault::{CheckError, TypeFault, TypeKind};
-use crate::setting::Setting;
+use crate::typing_setting::TypingSetting;
 use cool_classes::{ClassId, MethodRef, Ty};
 use cool_pool::Column;
 use cool_rules::{Scope, class_of};
@@ -24,7 +24,7 @@ use cool_syntax::{Name, Node, NodeId, Place, TypeRef};
 /// The type of a dispatch, whose parts have numbers below this one.
 #[cycle(typing)]
 pub(crate) fn type_of_call<'a>(
-    setting: &Setting<'a, '_>,
+    setting: &TypingSetting<'a, '_>,
     locals: &mut Scope<'a, Ty>,
     types: &mut Column<Ty>,
     id: NodeId,
@@ -90,7 +90,7 @@ struct Called<'a> {
 
 /// The class after `@` for a receiver of this type.
 fn static_class(
-    setting: &Setting<'_, '_>,
+    setting: &TypingSetting<'_, '_>,
     class: &TypeRef,
     object: Ty,
 ) -> Result<ClassId, CheckError>
@@ -113,7 +113,7 @@ fn static_class(
 
 /// The type of a call with these arguments, which have these types.
 fn type_of_result(
-    setting: &Setting<'_, '_>,
+    setting: &TypingSetting<'_, '_>,
     called: &Called<'_>,
     args: &[NodeId],
     given: &[Ty],
@@ -138,7 +138,7 @@ fn type_of_result(
 
 /// The fault of the first argument that does not conform to its formal.
 fn misfit(
-    setting: &Setting<'_, '_>,
+    setting: &TypingSetting<'_, '_>,
     method: MethodRef,
     args: &[NodeId],
     given: &[Ty],

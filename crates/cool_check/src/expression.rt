@@ -13,7 +13,7 @@ ghost use Rattle.cool_check.specs.Faults.{IsPlacedError, StandsAt};
 ghost use Rattle.cool_rules.specs.Rules.{same_type};
 ghost use Rattle.cool_check.specs.FirstFaults.{all_checked, last_checked, name_checked, is_self, unfit, IsFirst};
 ghost use Rattle.cool_check.specs.Contexts.{context};
-ghost use Rattle.cool_check.specs.Settings.{IsSound};
+ghost use Rattle.cool_check.specs.TypingSettings.{IsSound};
 ghost use Rattle.cool_check.specs.declared.fault.CheckError.TheVariants as error;
 ghost use Rattle.cool_check.specs.declared.fault.TypeKind.TheVariants as kind;
 ghost use Rattle.cool_classes.specs.declared.class_id.Ty.TheVariants.{Class as IsClass};
@@ -24,7 +24,7 @@ use crate::binding::type_of_binding;
 use crate::dispatch::type_of_call;
 use crate::fault::{CheckError, TypeKind};
 use crate::operator::{type_of_binary, type_of_unary};
-use crate::setting::Setting;
+use crate::typing_setting::TypingSetting;
 use cool_classes::{BOOL, ClassId, INT, OBJECT, STRING, Ty};
 use cool_pool::Column;
 use cool_rules::Scope;
@@ -33,7 +33,7 @@ use cool_syntax::{Name, Node, NodeId, Place};
 /// The type of the expression at this number. It is added to the types of the nodes, after those of the parts.
 #[cycle(typing)]
 pub(crate) fn type_of<'a>(
-    setting: &Setting<'a, '_>,
+    setting: &TypingSetting<'a, '_>,
     locals: &mut Scope<'a, Ty>,
     types: &mut Column<Ty>,
     id: NodeId,
@@ -53,7 +53,7 @@ pub(crate) fn type_of<'a>(
 /// The type of the expression of a node, whose parts have numbers below this one.
 #[cycle(typing)]
 fn type_of_node<'a>(
-    setting: &Setting<'a, '_>,
+    setting: &TypingSetting<'a, '_>,
     locals: &mut Scope<'a, Ty>,
     types: &mut Column<Ty>,
     id: NodeId,
@@ -91,7 +91,7 @@ fn type_of_node<'a>(
 
 /// The type of a name, a constant or a new object.
 fn type_of_leaf(
-    setting: &Setting<'_, '_>,
+    setting: &TypingSetting<'_, '_>,
     locals: &Scope<'_, Ty>,
     node: &Node,
 ) -> Result<Ty, CheckError>
@@ -115,7 +115,7 @@ fn type_of_leaf(
 
 /// The type of a name: that of `self`, of the latest variable of this name or else of the attribute.
 pub(crate) fn type_of_name(
-    setting: &Setting<'_, '_>,
+    setting: &TypingSetting<'_, '_>,
     locals: &Scope<'_, Ty>,
     at: Place,
     name: &Name,
@@ -144,7 +144,7 @@ pub(crate) fn is_self(name: &Name) -> bool
 /// The type of a conditional, a loop or a block, whose parts have numbers below this one.
 #[cycle(typing)]
 fn type_of_control<'a>(
-    setting: &Setting<'a, '_>,
+    setting: &TypingSetting<'a, '_>,
     locals: &mut Scope<'a, Ty>,
     types: &mut Column<Ty>,
     id: NodeId,
@@ -179,7 +179,7 @@ fn type_of_control<'a>(
 }
 
 /// Refuses a predicate that is not Bool.
-fn expect_bool(setting: &Setting<'_, '_>, test: NodeId, found: Ty) -> Result<(), CheckError>
+fn expect_bool(setting: &TypingSetting<'_, '_>, test: NodeId, found: Ty) -> Result<(), CheckError>
     requires below { test.0 < tree_size setting.now.body.now }
     ensures holds { IfOk result (λ u. same_type found bool_type ≡ true) }
     ensures fails { IfErr result (λ e. (same_type found bool_type ≡ false) × (e ≡ error.Fault (unfit kind.E9 (place_of (tree_at setting.now.body.now test)) found bool_type))) }
@@ -205,7 +205,7 @@ pub(crate) fn is_class(a: Ty, class: ClassId) -> bool
 /// The type of the last of some expressions, in order. A text has one at least; that of none is Object.
 #[cycle(typing)]
 fn type_of_last<'a>(
-    setting: &Setting<'a, '_>,
+    setting: &TypingSetting<'a, '_>,
     locals: &mut Scope<'a, Ty>,
     types: &mut Column<Ty>,
     end: NodeId,
@@ -229,7 +229,7 @@ fn type_of_last<'a>(
 /// The types of some expressions, in order.
 #[cycle(typing)]
 pub(crate) fn types_of<'a>(
-    setting: &Setting<'a, '_>,
+    setting: &TypingSetting<'a, '_>,
     locals: &mut Scope<'a, Ty>,
     types: &mut Column<Ty>,
     end: NodeId,

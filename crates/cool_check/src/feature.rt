@@ -13,12 +13,12 @@ ghost use Rattle.cool_check.specs.Checks.{IsFeatureAnswer};
 ghost use Rattle.cool_check.specs.Faults.{IsPlacedError};
 ghost use Rattle.cool_check.specs.FirstFaults.{IsFirst};
 ghost use Rattle.cool_check.specs.Contexts.{attribute_bindings, formal_bindings};
-ghost use Rattle.cool_check.specs.Settings.{IsSound, IsSoundClass};
+ghost use Rattle.cool_check.specs.TypingSettings.{IsSound, IsSoundClass};
 ghost use Rattle.cool_check.specs.TypingFaults.{feature_checked};
 
 use crate::expression::type_of;
 use crate::fault::{CheckError, TypeKind};
-use crate::setting::Setting;
+use crate::typing_setting::TypingSetting;
 use cool_classes::{AttributeRef, ClassId, ClassTable, MethodRef, Ty};
 use cool_pool::Column;
 use cool_rules::{NodeTypes, Scope};
@@ -111,7 +111,7 @@ fn check_method<'a>(
     requires method { slice_get (features_of t.now c) index ≡ Some (Method method.now) }
     ensures { IsFeatureAnswer t.now c (Method method.now) result }
 {
-    let setting = Setting {
+    let setting = TypingSetting {
         alloc,
         table: t,
         class: c,
@@ -132,7 +132,7 @@ fn check_method<'a>(
 
 /// The formals of the method at this position, as a scope. `Err` comes only for want of memory.
 fn formal_scope<'a>(
-    setting: &Setting<'a, '_>,
+    setting: &TypingSetting<'a, '_>,
     index: u32,
     method: &'a MethodDef,
 ) -> Result<Scope<'a, Ty>, AllocError>
@@ -171,7 +171,7 @@ fn check_attribute<'a>(
     let Some(body) = &attribute.init else {
         return Ok(NodeTypes::of(Vec::new(alloc)));
     };
-    let setting = Setting {
+    let setting = TypingSetting {
         alloc,
         table: t,
         class: c,

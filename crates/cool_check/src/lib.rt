@@ -12,8 +12,8 @@ mod fault;
 mod feature;
 mod laws;
 mod operator;
-mod setting;
 mod typer;
+mod typing_setting;
 
 pub use checking::{check, in_order};
 pub use fault::{CheckAllError, CheckError, TypeFault, TypeKind};

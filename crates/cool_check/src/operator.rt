@@ -15,11 +15,11 @@ ghost use Rattle.cool_check.specs.Contexts.{context};
 ghost use Rattle.cool_check.specs.declared.fault.CheckError.TheVariants as error;
 ghost use Rattle.cool_classes.specs.declared.class_id.Ty.TheVariants.{Class as IsClass};
 ghost use Rattle.cool_rules.specs.Scopes.{AreTypes};
-ghost use Rattle.cool_check.specs.Settings.{IsSound};
+ghost use Rattle.cool_check.specs.TypingSettings.{IsSound};
 
 use crate::expression::{is_class, is_self, type_of, type_of_name};
 use crate::fault::{CheckError, TypeKind};
-use crate::setting::Setting;
+use crate::typing_setting::TypingSetting;
 use cool_classes::{BOOL, ClassId, INT, STRING, Ty};
 use cool_pool::Column;
 use cool_rules::Scope;
@@ -28,7 +28,7 @@ use cool_syntax::{CompareOp, Name, Node, NodeId, Place};
 /// The type of an assignment or of an operator with one operand, which has a number below this one.
 #[cycle(typing)]
 pub(crate) fn type_of_unary<'a>(
-    setting: &Setting<'a, '_>,
+    setting: &TypingSetting<'a, '_>,
     locals: &mut Scope<'a, Ty>,
     types: &mut Column<Ty>,
     id: NodeId,
@@ -68,7 +68,7 @@ pub(crate) fn type_of_unary<'a>(
 
 /// The type of an assignment to a name of a value of this type.
 fn assigned(
-    setting: &Setting<'_, '_>,
+    setting: &TypingSetting<'_, '_>,
     locals: &Scope<'_, Ty>,
     at: Place,
     name: &Name,
@@ -106,7 +106,7 @@ fn expect(found: Ty, class: ClassId, kind: TypeKind, at: Place) -> Result<(), Ch
 /// The type of an operator with two operands, which have numbers below this one.
 #[cycle(typing)]
 pub(crate) fn type_of_binary<'a>(
-    setting: &Setting<'a, '_>,
+    setting: &TypingSetting<'a, '_>,
     locals: &mut Scope<'a, Ty>,
     types: &mut Column<Ty>,
     id: NodeId,

@@ -31,7 +31,7 @@ use Rattle.cool_codegen.specs.Shown.{Shown}
 use Rattle.cool_codegen.proofs.ArmsInOrder.{arm_put}
 use Rattle.cool_codegen.specs.Asked.{Extends, integers_in, integers_in_all, integers_in_maybe, integers_in_cases, strings_in, strings_in_all, strings_in_maybe, strings_in_cases, files_of, file_of}
 use Rattle.cool_codegen.specs.Code.{Context, code, arguments_code, items_code, initial_code, arms_code, string_label, label_at, range_code}
-use Rattle.cool_codegen.specs.declared.setting.Wanted.TheVariants.{Lines}
+use Rattle.cool_codegen.specs.declared.code_setting.Wanted.TheVariants.{Lines}
 use Rattle.cool_codegen.specs.Numbered.{size_at, sizes_at, maybe_size_at, branch_sizes_at, node_size, after, with_value, with_bytes, with_file, operation_asked, asked_at, all_asked, maybe_asked, branches_asked, node_asked, receiver_class, nodes_before, lines_at, items_lines, arguments_lines, initial_lines, branch_lines, branch_spans, branches_made, node_lines}
 use Rattle.cool_rules.proofs.PartsStand.{Stands, tree_there, top, first_stands, others_stand, first_branch_stands, other_branches_stand, one_stands, two_stand, maybe_stands, three_stand, all_stand, part_node}
 use Rattle.cool_codegen.proofs.NumbersAgree.{SameIntegers, SameStrings, agrees, after_both, after_strings, extends_same, extends_before, integer_stays, string_stays}

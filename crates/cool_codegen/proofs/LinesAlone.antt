@@ -14,8 +14,8 @@ use Rattle.cool_rules.specs.Scopes.{Binding}
 use Rattle.cool_rules.specs.TypedParts.{IsPart, TypedBody}
 use Rattle.cool_runtime.specs.Routines.{push_lines}
 use Rattle.cool_consts.specs.Constants.{Constants}
-use Rattle.cool_codegen.specs.declared.setting.Wanted.{Wanted}
-use Rattle.cool_codegen.specs.declared.setting.Wanted.TheVariants.{Lines, Spans}
+use Rattle.cool_codegen.specs.declared.code_setting.Wanted.{Wanted}
+use Rattle.cool_codegen.specs.declared.code_setting.Wanted.TheVariants.{Lines, Spans}
 use Rattle.cool_codegen.specs.Arms.{Arm, arms_lines, with_arm}
 use Rattle.cool_codegen.specs.Code.{Context, label_at}
 use Rattle.cool_codegen.specs.Variables.{Named}

@@ -25,8 +25,8 @@ use Rattle.cool_codegen.specs.Code.{Context, code, arguments_code, initial_code,
 use Rattle.cool_codegen.specs.Pieces.{case_begin_lines, mark_lines, test_lines, turn_lines}
 use Rattle.cool_codegen.specs.Spans.{Branch, Span, Spanned, along, branches, spans, with_branch}
 use Rattle.cool_codegen.specs.Spans as of_trees
-use Rattle.cool_codegen.specs.declared.setting.Wanted.{Wanted}
-use Rattle.cool_codegen.specs.declared.setting.Wanted.TheVariants.{Lines, Spans}
+use Rattle.cool_codegen.specs.declared.code_setting.Wanted.{Wanted}
+use Rattle.cool_codegen.specs.declared.code_setting.Wanted.TheVariants.{Lines, Spans}
 use Rattle.cool_codegen.specs.Shown.{IsWithin, Shown, arms_spans, later, shown, whole}
 use Rattle.cool_codegen.specs.Numbered.{arguments_lines, arguments_spans, asked_at, branch_lines, branch_spans, branches_made, initial_lines, initial_spans, items_spans, lines_at, maybe_asked, no_constants, node_asked, node_lines, node_spans, nodes_before, own_span, spans_at, with_file, within_branch}
 use Rattle.cool_rules.proofs.PartsStand.{Stands, tree_there, top, first_stands, others_stand, first_branch_stands, other_branches_stand, one_stands, two_stand, maybe_stands, three_stand, all_stand}

@@ -10,8 +10,8 @@ use Rattle.mips_isa.specs.Lines.{lines_of}
 use Rattle.cool_codegen.specs.declared.span.Span as declared_span
 use Rattle.cool_codegen.specs.declared.arm.Arm as declared_arm
 use Rattle.cool_codegen.specs.Shown.{Shown, ended, made_of, noted, shown_of}
-use Rattle.cool_codegen.specs.declared.setting.Wanted.{Wanted}
-use Rattle.cool_codegen.specs.declared.setting.Wanted.TheVariants.{Spans}
+use Rattle.cool_codegen.specs.declared.code_setting.Wanted.{Wanted}
+use Rattle.cool_codegen.specs.declared.code_setting.Wanted.TheVariants.{Spans}
 use Rattle.cool_codegen.specs.Spans.{Branch, branch_of, with_branch}
 
 pub as_many : (ls : List declared_line.Line) → length (lines_of ls) ≡ length ls

@@ -7,7 +7,7 @@ use Rattle.cool_classes.specs.Chains.{Class}
 use Rattle.cool_rules.specs.Conformance.{IsType}
 use Rattle.cool_rules.specs.Scopes as scopes
 use Rattle.cool_codegen.specs.declared.variables.Variable.{Variable}
-use Rattle.cool_codegen.specs.Settings.{HaveTypes}
+use Rattle.cool_codegen.specs.CodeSettings.{HaveTypes}
 use Rattle.cool_codegen.specs.Variables.{Named, scope_of}
 
 pub found_in_scope : (vs : List Named) (name : List ℕ) → scopes.found (scope_of vs) name ≡ option_map (λ (v : Variable). v.ty) (scopes.found vs name)

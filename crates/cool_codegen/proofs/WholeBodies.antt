@@ -9,8 +9,8 @@ use Rattle.cool_codegen.specs.Code.{Context, code}
 use Rattle.cool_codegen.specs.Numbered.{after, asked_at, lines_at, no_constants, size_at, spans_at}
 use Rattle.cool_codegen.specs.Spans.{Span, spans}
 use Rattle.cool_codegen.specs.Shown.{noted, shown, whole}
-use Rattle.cool_codegen.specs.declared.setting.Wanted.{Wanted}
-use Rattle.cool_codegen.specs.declared.setting.Wanted.TheVariants.{Lines, Spans}
+use Rattle.cool_codegen.specs.declared.code_setting.Wanted.{Wanted}
+use Rattle.cool_codegen.specs.declared.code_setting.Wanted.TheVariants.{Lines, Spans}
 use Rattle.cool_codegen.proofs.LinesInAll.{as_many_lines}
 use Rattle.cool_codegen.proofs.SpansByNumbers.{spans_are}
 use Rattle.cool_codegen.proofs.SpansOfTables.{same_spans}

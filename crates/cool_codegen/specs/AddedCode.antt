@@ -14,19 +14,19 @@ use Rattle.cool_rules.specs.TypedParts.{AreParts, HasParts, IsPart}
 use Rattle.cool_consts.specs.Constants.{Constants}
 use Rattle.cool_codegen.specs.declared.code.Code.{Code}
 use Rattle.cool_codegen.specs.declared.feature.FeatureCode.{FeatureCode}
-use Rattle.cool_codegen.specs.declared.setting.Setting.{Setting}
-use Rattle.cool_codegen.specs.declared.setting.Wanted.{Wanted}
+use Rattle.cool_codegen.specs.declared.code_setting.CodeSetting.{CodeSetting}
+use Rattle.cool_codegen.specs.declared.code_setting.Wanted.{Wanted}
 use Rattle.cool_codegen.specs.Asked.{integers_in, strings_in, with_integers, with_strings, Extends, Keeps}
 use Rattle.cool_codegen.specs.Code.{Context}
 use Rattle.cool_codegen.specs.Features.{feature_code, feature_integers, feature_names, feature_strings}
 use Rattle.cool_codegen.specs.Spans.{feature_spans}
 use Rattle.cool_codegen.specs.Shown.{Shown, noted, shown, shown_of}
 use Rattle.cool_codegen.specs.Numbered.{node_asked, node_lines, node_size, node_spans}
-use Rattle.cool_codegen.specs.Settings.{context, typed_body, HaveTypes, IsSound}
+use Rattle.cool_codegen.specs.CodeSettings.{context, typed_body, HaveTypes, IsSound}
 use Rattle.cool_codegen.specs.Variables.{Named}
 
 -- The setting is sound, and the variables in scope have types of its table.
-pub record IsReady (s : Setting) (vs : List Named) : Type 0 where
+pub record IsReady (s : CodeSetting) (vs : List Named) : Type 0 where
   pub sound : IsSound s
   pub types : HaveTypes s.table.now vs
 
@@ -37,18 +37,18 @@ pub record HasRoom (t : Constants) (depth size : ℕ) : Type 0 where
   pub strings : length t.strings + 2 * size < 2 ^ 32 - 1
 
 -- A number is that of an expression of the body, with these names in scope, whose places are in the files.
-pub record IsExpressionOf (s : Setting) (scope : List Binding) (id : NodeId) : Type 0 where
+pub record IsExpressionOf (s : CodeSetting) (scope : List Binding) (id : NodeId) : Type 0 where
   pub part : IsPart (typed_body s) scope id
   pub places : IsTreeWithin (length s.names.now) (tree_at s.body.now id)
 
 -- Numbers are those of expressions of the body, with these names in scope, that are parts of the one at this number.
-pub record AreExpressionsOf (s : Setting) (scope : List Binding) (end : NodeId) (ids : List NodeId) : Type 0 where
+pub record AreExpressionsOf (s : CodeSetting) (scope : List Binding) (end : NodeId) (ids : List NodeId) : Type 0 where
   pub parts : AreParts (typed_body s) scope ids
   pub below : AllByRecursion (λ id. id.0 < end.0) ids
   pub places : AreTreesWithin (length s.names.now) (of_list (map (at_id (all_trees s.body.now)) ids))
 
 -- A node of this number has expressions of the body as parts, where it has these names in scope.
-pub record IsNodeOf (s : Setting) (scope : List Binding) (id : NodeId) (node : Node) : Type 0 where
+pub record IsNodeOf (s : CodeSetting) (scope : List Binding) (id : NodeId) (node : Node) : Type 0 where
   pub parts : HasParts (typed_body s) scope node
   pub below : HasPartsBelow id.0 node
   pub places : IsTreeWithin (length s.names.now) (made (all_trees s.body.now) node)
@@ -74,7 +74,7 @@ AddsNode depth id node before after result =
     (node_size before.setting.body.now node) before after result
 
 -- The file of a place has a name, for which there is room among the strings, and for one more.
-pub record CanName (s : Setting) (t : Constants) (at : Place) : Type 0 where
+pub record CanName (s : CodeSetting) (t : Constants) (at : Place) : Type 0 where
   pub few : length t.strings + 2 < 2 ^ 32 - 1
   pub file : at.file < length s.names.now
 
@@ -87,7 +87,7 @@ pub record NotesAlone (before after : Code) : Type 0 where
 
 -- Code of a feature was made with these names in scope in all of it, whose lines are the same by each table that goes on from the constants
 -- after it, and what is noted of its spans by each table.
-pub record MakesCode {E : Type 0} (s : Setting) (code : Constants → List Line) (shows : Constants → List Shown) (variables : List Named) (t u : Constants) (result : Result FeatureCode E) : Type 0 where
+pub record MakesCode {E : Type 0} (s : CodeSetting) (code : Constants → List Line) (shows : Constants → List Shown) (variables : List Named) (t u : Constants) (result : Result FeatureCode E) : Type 0 where
   pub lines : IfOk result (λ made. (g : Constants) → Extends u g → lines_of made.lines.items ≡ code g)
   pub spans : IfOk result (λ made. (g : Constants) → map shown_of made.spans.items ≡ noted s.wanted (shows g))
   pub names : IfOk result (λ made. made.names ≡ variables)

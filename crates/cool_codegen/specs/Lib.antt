@@ -9,5 +9,5 @@ pub mod Features
 pub mod Spans
 pub mod Shown
 pub mod Numbered
-pub mod Settings
+pub mod CodeSettings
 pub mod AddedCode

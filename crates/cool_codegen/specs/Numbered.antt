@@ -26,8 +26,8 @@ use Rattle.cool_codegen.specs.Types.{class_meant}
 use Rattle.cool_codegen.specs.Arms.{arms_lines}
 use Rattle.cool_codegen.specs.Spans.{Branch, spans, with_branch}
 use Rattle.cool_codegen.specs.Shown.{Shown, arms_spans, noted, shown, whole}
-use Rattle.cool_codegen.specs.declared.setting.Wanted.{Wanted}
-use Rattle.cool_codegen.specs.declared.setting.Wanted.TheVariants.{Lines}
+use Rattle.cool_codegen.specs.declared.code_setting.Wanted.{Wanted}
+use Rattle.cool_codegen.specs.declared.code_setting.Wanted.TheVariants.{Lines}
 use Rattle.cool_codegen.specs.Asked.{integers_in, strings_in, with_integers, with_strings}
 use Rattle.cool_codegen.specs.Code.{Context, code, name_code, assign_code, new_code, default_code, truth_label, integer_label, string_label, file_label, label_at, bool_code, int_code, operation_code, compare_code, slot_code, static_code, range_code}
 

@@ -13,8 +13,8 @@ use Rattle.cool_codegen.specs.declared.arm.Arm as declared_arm
 use Rattle.cool_codegen.specs.declared.span.Form.{Form}
 use Rattle.cool_codegen.specs.declared.span.Form.TheVariants as forms
 use Rattle.cool_codegen.specs.declared.span.Span as declared_span
-use Rattle.cool_codegen.specs.declared.setting.Wanted.{Wanted}
-use Rattle.cool_codegen.specs.declared.setting.Wanted.TheVariants.{Lines, Spans}
+use Rattle.cool_codegen.specs.declared.code_setting.Wanted.{Wanted}
+use Rattle.cool_codegen.specs.declared.code_setting.Wanted.TheVariants.{Lines, Spans}
 use Rattle.cool_codegen.specs.Arms.{arm_of}
 use Rattle.cool_rules.specs.Scopes.{binding_of}
 use Rattle.cool_codegen.specs.Variables.{Named}

@@ -18,18 +18,18 @@ ghost use Rattle.cool_codegen.specs.Shown.{arms_spans, later, made_of, shown_of,
 ghost use Rattle.cool_codegen.specs.Code.{file_label, range_code};
 ghost use Rattle.cool_codegen.specs.Pieces.{case_begin_lines};
 ghost use Rattle.cool_codegen.specs.Numbered.{asked_at, branch_lines, branch_sizes_at, branch_spans, branches_asked, branches_made, class_of_branch, initial_lines, initial_spans, lines_at, made_lines, maybe_asked, maybe_size_at, node_size, size_at, spans_at, with_file};
-ghost use Rattle.cool_codegen.specs.Settings.{context, typed_body, IsSound};
-ghost use Rattle.cool_codegen.specs.declared.setting.Wanted.TheVariants.{Lines};
+ghost use Rattle.cool_codegen.specs.CodeSettings.{context, typed_body, IsSound};
+ghost use Rattle.cool_codegen.specs.declared.code_setting.Wanted.TheVariants.{Lines};
 ghost use Rattle.cool_codegen.specs.Variables.{bind, pushed, scope_of};
 
 use crate::arm::{Arm, insert_arm};
 use crate::code::Code;
+use crate::code_setting::CodeSetting;
 use crate::constant_labels::file_label;
 use crate::inner_labels::inner_label;
 use crate::number::negative;
 use crate::operation::take_default;
 use crate::piece::{case_begin, case_end, pop, try_tags, turn};
-use crate::setting::Setting;
 use crate::span::Span;
 use crate::variables::{Base, Variable};
 use cool_classes::{ClassId, Ty};
@@ -281,7 +281,7 @@ fn add_moved<'a>(
 
 /// Adds the test whether an object is of this class or one of those below it.
 fn try_class(
-    setting: &Setting<'_>,
+    setting: &CodeSetting<'_>,
     class: ClassId,
     next: &[u8],
     lines: &mut Vec<Line>,

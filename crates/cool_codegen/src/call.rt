@@ -8,13 +8,13 @@ ghost use Rattle.cool_codegen.specs.AddedCode.{Adds, AddsNode, AreExpressionsOf,
 ghost use Rattle.cool_codegen.specs.Asked.{Keeps};
 ghost use Rattle.cool_codegen.specs.Code.{slot_code, static_code};
 ghost use Rattle.cool_codegen.specs.Numbered.{all_asked, arguments_lines, arguments_spans, node_size, receiver_class, sizes_at, with_file};
-ghost use Rattle.cool_codegen.specs.Settings.{context, typed_body, IsSound};
+ghost use Rattle.cool_codegen.specs.CodeSettings.{context, typed_body, IsSound};
 ghost use Rattle.cool_codegen.specs.Variables.{scope_of};
 
 use crate::code::Code;
+use crate::code_setting::CodeSetting;
 use crate::constant_labels::file_label;
 use crate::piece::{call, call_static};
-use crate::setting::Setting;
 use cool_classes::ClassId;
 use cool_consts::Consts;
 use cool_layout::method_label;

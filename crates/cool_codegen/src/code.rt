@@ -6,9 +6,9 @@ ghost use Rattle.cool_syntax.specs.NodeLists.{made};
 ghost use Rattle.cool_syntax.specs.Tree.{Tree};
 ghost use Rattle.cool_codegen.specs.AddedCode.{NotesAlone};
 ghost use Rattle.cool_codegen.specs.Shown.{ended, noted, shown_of, whole, Shown};
-ghost use Rattle.cool_codegen.specs.declared.setting.Wanted.TheVariants.{Spans};
+ghost use Rattle.cool_codegen.specs.declared.code_setting.Wanted.TheVariants.{Spans};
 
-use crate::setting::{Setting, Wanted};
+use crate::code_setting::{CodeSetting, Wanted};
 use crate::span::{Span, form_of};
 use crate::variables::Variable;
 use cool_consts::Consts;
@@ -21,7 +21,7 @@ use std::alloc::AllocError;
 /// wanted, the spans of the expressions whose code they are.
 #[derive(Drop)]
 pub struct Code<'a> {
-    pub setting: Setting<'a>,
+    pub setting: CodeSetting<'a>,
     pub variables: Scope<'a, Variable>,
     pub consts: Consts,
     pub lines: Vec<Line>,

@@ -5,10 +5,10 @@ ghost use Rattle.cool_consts.specs.Constants.{Constants, with_integer, with_stri
 ghost use Rattle.cool_consts.specs.Labels.{int_constant, string_constant};
 ghost use Rattle.cool_codegen.specs.Asked.{Extends, Keeps};
 ghost use Rattle.cool_codegen.specs.Code.{file_label, file_name, integer_label, string_label};
-ghost use Rattle.cool_codegen.specs.Settings.{context};
+ghost use Rattle.cool_codegen.specs.CodeSettings.{context};
 
+use crate::code_setting::CodeSetting;
 use crate::label_text::{add_number, text_of};
-use crate::setting::Setting;
 use cool_consts::Consts;
 use cool_syntax::Place;
 use std::alloc::{AllocError, Global};
@@ -57,7 +57,7 @@ fn string_name(alloc: Global, number: u32) -> Result<Vec<u8>, AllocError>
 
 /// The label of the name of the file of a place.
 pub fn file_label(
-    setting: &Setting<'_>,
+    setting: &CodeSetting<'_>,
     consts: &mut Consts,
     at: Place,
 ) -> Result<Vec<u8>, AllocError>

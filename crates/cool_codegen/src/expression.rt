@@ -6,7 +6,7 @@ ghost use Rattle.cool_syntax.specs.NodeGroups.{IsControl, IsLeaf};
 ghost use Rattle.cool_codegen.specs.AddedCode.{Adds, AddsNode, AreExpressionsOf, HasRoom, IsExpressionOf, IsNodeOf, IsReady};
 ghost use Rattle.cool_codegen.specs.Code.{truth_label};
 ghost use Rattle.cool_codegen.specs.Numbered.{all_asked, asked_at, items_lines, items_spans, lines_at, node_asked, node_lines, node_size, node_spans, own_span, size_at, sizes_at, spans_at};
-ghost use Rattle.cool_codegen.specs.Settings.{context};
+ghost use Rattle.cool_codegen.specs.CodeSettings.{context};
 ghost use Rattle.cool_codegen.specs.Shown.{noted};
 ghost use Rattle.cool_codegen.specs.Variables.{scope_of};
 

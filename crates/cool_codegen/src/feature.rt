@@ -19,16 +19,16 @@ ghost use Rattle.cool_codegen.specs.AddedCode.{HasRoom, IsReady, MakesCode, Make
 ghost use Rattle.cool_codegen.specs.Asked.{with_integers, with_strings, Extends};
 ghost use Rattle.cool_codegen.specs.Code.{code};
 ghost use Rattle.cool_codegen.specs.Features.{attributes_in, feature_code, feature_integers, feature_strings, initial_value_code, method_code, with_formals};
-ghost use Rattle.cool_codegen.specs.Settings.{attribute_of, context, HasTypesIn, HaveTypes, IsSound};
+ghost use Rattle.cool_codegen.specs.CodeSettings.{attribute_of, context, HasTypesIn, HaveTypes, IsSound};
 ghost use Rattle.cool_codegen.specs.Shown.{shown};
-ghost use Rattle.cool_codegen.specs.declared.setting.Wanted.TheVariants.{Spans};
+ghost use Rattle.cool_codegen.specs.declared.code_setting.Wanted.TheVariants.{Spans};
 ghost use Rattle.cool_codegen.specs.Spans.{initial_value_spans, method_spans, spans};
 ghost use Rattle.cool_codegen.specs.Variables.{scope_of};
 
 use crate::code::Code;
+use crate::code_setting::{CodeSetting, Wanted};
 use crate::number::signed;
 use crate::piece::{leave, mark, store};
-use crate::setting::{Setting, Wanted};
 use crate::span::Span;
 use crate::variables::{Base, Variable};
 use cool_classes::{AttributeRef, ClassId, ClassTable, MethodRef, Ty};
@@ -135,7 +135,7 @@ fn wanted_code<'a>(
     let types = p.types(c, feature);
     match &table.features(c)[feature as usize] {
         Feature::Method(method) => {
-            let setting = Setting {
+            let setting = CodeSetting {
                 alloc,
                 wanted,
                 table,
@@ -150,7 +150,7 @@ fn wanted_code<'a>(
         }
         Feature::Attribute(attribute) => match &attribute.init {
             Some(body) => {
-                let setting = Setting {
+                let setting = CodeSetting {
                     alloc,
                     wanted,
                     table,
@@ -176,7 +176,7 @@ fn wanted_code<'a>(
 ///
 /// The constants stand in the code while it is made, and are put back whether that fails or not.
 fn body_code<'a>(
-    setting: &Setting<'a>,
+    setting: &CodeSetting<'a>,
     variables: Scope<'a, Variable>,
     consts: &mut Consts,
     lines: Vec<Line>,
@@ -249,7 +249,7 @@ fn declared_type(table: &ClassTable, attribute: AttributeRef) -> Ty
 
 /// Adds the formals of a method to the names in scope: the last one is nearest to the frame.
 fn formal_variables<'a>(
-    setting: &Setting<'a>,
+    setting: &CodeSetting<'a>,
     variables: &mut Scope<'a, Variable>,
     formals: &'a [Formal],
 ) -> Result<(), AllocError>
@@ -283,7 +283,7 @@ fn room_for_lines(alloc: Global, body: &Body) -> Result<Vec<Line>, AllocError>
 
 /// The code of the method of these formals, whose body the setting has. `Err` comes only for want of memory.
 fn method_code<'a>(
-    setting: &Setting<'a>,
+    setting: &CodeSetting<'a>,
     formals: &'a [Formal],
     consts: &mut Consts,
 ) -> Result<FeatureCode<'a>, AllocError>
@@ -314,7 +314,7 @@ fn method_code<'a>(
 
 /// The part of an initializer for the attribute whose initial value the setting has. `Err` comes only for want of memory.
 fn initial_value_code<'a>(
-    setting: &Setting<'a>,
+    setting: &CodeSetting<'a>,
     consts: &mut Consts,
 ) -> Result<FeatureCode<'a>, AllocError>
     requires sound { IsSound setting.now }

@@ -2,15 +2,15 @@
 
 ghost use Rattle.std.specs.Prelude.{◌≡◌, ◌++◌, codes, decimal, IfOk, OnOk};
 ghost use Rattle.cool_codegen.specs.Code.{label_at};
-ghost use Rattle.cool_codegen.specs.Settings.{context};
+ghost use Rattle.cool_codegen.specs.CodeSettings.{context};
 
+use crate::code_setting::CodeSetting;
 use crate::label_text::{add_number, text_of};
-use crate::setting::Setting;
 use cool_syntax::NodeId;
 use std::alloc::AllocError;
 
 /// The label of a kind at a node. `Err` comes only for want of memory.
-pub fn inner_label(setting: &Setting<'_>, kind: &str, id: NodeId) -> Result<Vec<u8>, AllocError>
+pub fn inner_label(setting: &CodeSetting<'_>, kind: &str, id: NodeId) -> Result<Vec<u8>, AllocError>
     ensures { IfOk result (λ label. label.items ≡ label_at (context setting.now) kind.now id) }
 {
     let mut label = text_of(setting.alloc, kind.as_bytes())?;

@@ -9,6 +9,7 @@ mod arm;
 mod binding;
 mod call;
 mod code;
+mod code_setting;
 mod constant_labels;
 mod expression;
 mod feature;
@@ -18,7 +19,6 @@ mod number;
 mod operation;
 mod operator;
 pub mod piece;
-mod setting;
 mod span;
 mod variables;
 

@@ -6,16 +6,16 @@ ghost use Rattle.cool_rules.specs.Conformance.{IsType};
 ghost use Rattle.cool_consts.specs.Constants.{Constants, with_string};
 ghost use Rattle.cool_codegen.specs.Asked.{Extends, Keeps};
 ghost use Rattle.cool_codegen.specs.Code.{assign_code, bool_code, compare_code, default_code, divisor_code, file_name, int_code, name_code, new_code};
-ghost use Rattle.cool_codegen.specs.Settings.{context};
+ghost use Rattle.cool_codegen.specs.CodeSettings.{context};
 ghost use Rattle.cool_codegen.specs.Types.{is_self};
 
+use crate::code_setting::CodeSetting;
 use crate::constant_labels::file_label;
 use crate::inner_labels::inner_label;
 use crate::piece::{
     compare_equal, create, create_self, ends_where, flag, is_zero, less, less_equal, load, store,
     take, take_self, take_void, values,
 };
-use crate::setting::Setting;
 use crate::variables::Variable;
 use cool_classes::{BOOL, INT, STRING, Ty};
 use cool_consts::Consts;
@@ -28,7 +28,11 @@ use mips_isa::Line;
 use std::alloc::{AllocError, Global};
 
 /// Adds the making of a Bool of a flag.
-pub fn make_bool(setting: &Setting<'_>, id: NodeId, lines: &mut Vec<Line>) -> Result<(), AllocError>
+pub fn make_bool(
+    setting: &CodeSetting<'_>,
+    id: NodeId,
+    lines: &mut Vec<Line>,
+) -> Result<(), AllocError>
     ensures { OnOk result (lines_of lines.new.items ≡ lines_of lines.old.items ++ bool_code (context setting.now) id) }
 {
     let end = inner_label(setting, "end", id)?;
@@ -39,7 +43,7 @@ pub fn make_bool(setting: &Setting<'_>, id: NodeId, lines: &mut Vec<Line>) -> Re
 /// Adds the making of an Int of a result, where it fits.
 #[tactic(auto, unfolding(cool_runtime::specs::RoutineLabels::overflow_abort))]
 pub fn make_int(
-    setting: &Setting<'_>,
+    setting: &CodeSetting<'_>,
     at: Place,
     id: NodeId,
     consts: &mut Consts,
@@ -65,7 +69,7 @@ pub fn make_int(
 
 /// Adds the comparison of two operands.
 pub fn compare(
-    setting: &Setting<'_>,
+    setting: &CodeSetting<'_>,
     op: CompareOp,
     id: NodeId,
     lines: &mut Vec<Line>,
@@ -148,7 +152,7 @@ pub fn assign(
 /// Adds the test that a divisor is not 0.
 #[tactic(auto, unfolding(cool_runtime::specs::Labels::div_abort))]
 pub fn test_divisor(
-    setting: &Setting<'_>,
+    setting: &CodeSetting<'_>,
     at: Place,
     id: NodeId,
     consts: &mut Consts,
@@ -187,7 +191,11 @@ pub fn take_default(alloc: Global, bound: Ty, lines: &mut Vec<Line>) -> Result<(
 }
 
 /// Adds the making of an object of a type.
-pub fn take_new(setting: &Setting<'_>, made: Ty, lines: &mut Vec<Line>) -> Result<(), AllocError>
+pub fn take_new(
+    setting: &CodeSetting<'_>,
+    made: Ty,
+    lines: &mut Vec<Line>,
+) -> Result<(), AllocError>
     requires is_type { IsType setting.now.table.now made }
     ensures { OnOk result (lines_of lines.new.items ≡ lines_of lines.old.items ++ new_code setting.now.table.now made) }
 {

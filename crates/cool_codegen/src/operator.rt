@@ -9,13 +9,13 @@ ghost use Rattle.cool_codegen.specs.Numbered.{asked_at, lines_at, node_size, ope
 ghost use Rattle.cool_consts.specs.Constants.{Constants};
 ghost use Rattle.cool_codegen.specs.Asked.{Extends, Keeps};
 ghost use Rattle.cool_codegen.specs.Code.{operation_code};
-ghost use Rattle.cool_codegen.specs.Settings.{context};
+ghost use Rattle.cool_codegen.specs.CodeSettings.{context};
 ghost use Rattle.cool_codegen.specs.Variables.{scope_of};
 
 use crate::code::Code;
+use crate::code_setting::CodeSetting;
 use crate::operation::{assign, compare, make_bool, make_int, test_divisor};
 use crate::piece::{add, complement, divide, is_void, multiply, negate, subtract, values};
-use crate::setting::Setting;
 use cool_consts::Consts;
 use cool_runtime::draft::write;
 use cool_runtime::piece::push;
@@ -147,7 +147,7 @@ impl<'a> Code<'a> {
 
 /// Adds the operation itself, and for a division the test that the divisor is not 0.
 fn operate(
-    setting: &Setting<'_>,
+    setting: &CodeSetting<'_>,
     op: ArithOp,
     at: Place,
     id: NodeId,

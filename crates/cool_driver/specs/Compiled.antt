@@ -2,7 +2,7 @@
 use Rattle.std.specs.Prelude.{◌≡◌, ℕ, Bool, true, false, List}
 use Rattle.cool_classes.specs.Chains.{Class}
 use Rattle.cool_emit.specs.Programs.{program_lines}
-use Rattle.cool_opt.specs.Folding.{fold_table}
+use Rattle.cool_fold.specs.Folding.{fold_table}
 use Rattle.cool_simulation.specs.Accord.{Means}
 use Rattle.mips_isa.specs.{Assembly.{image_of}, ImageBounds.{ImageParts}}
 

@@ -17,7 +17,7 @@ use crate::console::{print, take_line};
 use crate::ending::{Ending, RunError};
 use crate::numbers::number;
 use crate::numeral::number_of;
-use crate::scene::Setting;
+use crate::scene::RunSetting;
 use crate::store::Store;
 use crate::value::{Object, Value};
 use cool_classes::BasicMethod;
@@ -82,7 +82,7 @@ pub(crate) fn copied(alloc: Global, bytes: &[u8]) -> Result<Value, Ending>
 }
 
 /// `abort`: the run ends with an error that names the class.
-fn abort(setting: &Setting<'_>, me: &Value) -> Result<Value, Ending>
+fn abort(setting: &RunSetting<'_>, me: &Value) -> Result<Value, Ending>
     ensures value { (p : List Class) (at : Place) (vs : List values.Value) → IsResultOf result (basic_of p BasicMethod.Abort at (value_of me.now) vs) }
     ensures inner { IfErr result IsInner }
 {
@@ -93,7 +93,7 @@ fn abort(setting: &Setting<'_>, me: &Value) -> Result<Value, Ending>
 }
 
 /// `type_name`: the name of the class.
-fn type_name(setting: &Setting<'_>, me: &Value) -> Result<Value, Ending>
+fn type_name(setting: &RunSetting<'_>, me: &Value) -> Result<Value, Ending>
     ensures value { (at : Place) (vs : List values.Value) → IsResultOf result (basic_of setting.now.table.now BasicMethod.TypeName at (value_of me.now) vs) }
     ensures inner { IfErr result IsInner }
 {
@@ -226,7 +226,7 @@ fn substr(alloc: Global, at: Place, me: &Value, given: &[Value]) -> Result<Value
 
 /// Calls a method of a basic class.
 pub(crate) fn basic<S: Source, K: Sink>(
-    setting: &Setting<'_>,
+    setting: &RunSetting<'_>,
     store: &mut Store,
     ended: &mut bool,
     method: BasicMethod,

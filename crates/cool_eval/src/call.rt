@@ -24,7 +24,7 @@ use crate::ending::{Ending, RunError};
 use crate::frame::{Focus, Frame};
 use crate::machine::{Machine, add, room, share, shared};
 use crate::part::{Call, Part, Parts, part_at};
-use crate::scene::{Local, Scene, Setting};
+use crate::scene::{Local, RunSetting, Scene};
 use crate::store::location_after;
 use crate::value::Value;
 use cool_classes::{ClassId, MethodRef};
@@ -108,7 +108,7 @@ fn begin_receiver<'a>(
 /// A call of a method on a receiver.
 #[tactic(auto, using(crate::proofs::QuietSteps::quiet_counts, crate::proofs::QuietSteps::spent_faults, cool_ports::proofs::InputsInParts::took_nothing))]
 pub(crate) fn call<'a, S: Source, K: Sink>(
-    setting: &Setting<'a>,
+    setting: &RunSetting<'a>,
     machine: &mut Machine<'a>,
     at: Place,
     class: Option<&Name>,
@@ -139,7 +139,7 @@ pub(crate) fn call<'a, S: Source, K: Sink>(
 /// The class in which a method is looked up, for a receiver of a class: this one, or the one that the source names. None comes where there
 /// is none of that name.
 #[tactic(auto, using(crate::proofs::MethodsCalled::own_called, crate::proofs::MethodsCalled::named_called))]
-fn called_class(setting: &Setting<'_>, class: Option<&Name>, own: ClassId) -> Option<ClassId>
+fn called_class(setting: &RunSetting<'_>, class: Option<&Name>, own: ClassId) -> Option<ClassId>
     requires ready { IsReady setting.now.table.now setting.now.layouts.now }
     ensures called { (at : places.Place) (v : values.Value) (s : values.State) (n : ℕ) → values.class_of v ≡ Some own
         → (class_called setting.now.table.now at (class_name class.entry) v s n).outcome ≡ (given_of result s n).outcome }
@@ -151,7 +151,7 @@ fn called_class(setting: &Setting<'_>, class: Option<&Name>, own: ClassId) -> Op
 }
 
 /// The method of a name that a class has; none where there is no such class.
-fn method_of(setting: &Setting<'_>, class: ClassId, name: &Name) -> Option<MethodRef>
+fn method_of(setting: &RunSetting<'_>, class: ClassId, name: &Name) -> Option<MethodRef>
     ensures method { result ≡ implementation setting.now.table.now (chain setting.now.table.now class) name.now }
 {
     if class.0 >= setting.table.count() {
@@ -163,7 +163,7 @@ fn method_of(setting: &Setting<'_>, class: ClassId, name: &Name) -> Option<Metho
 /// A method on a receiver, where the class has it.
 #[tactic(auto, using(crate::proofs::QuietSteps::quiet_counts, cool_ports::proofs::InputsInParts::took_nothing))]
 fn begin_call<'a, S: Source, K: Sink>(
-    setting: &Setting<'a>,
+    setting: &RunSetting<'a>,
     machine: &mut Machine<'a>,
     at: Place,
     method: Option<MethodRef>,
@@ -203,7 +203,7 @@ fn begin_call<'a, S: Source, K: Sink>(
 
 /// The body of a method, with its arguments at new locations.
 fn begin_method<'a>(
-    setting: &Setting<'a>,
+    setting: &RunSetting<'a>,
     machine: &mut Machine<'a>,
     owner: ClassId,
     index: u32,
@@ -231,7 +231,7 @@ fn begin_method<'a>(
 }
 
 /// The method at an index among the features of a class, if there is one.
-fn user_method<'a>(setting: &Setting<'a>, owner: ClassId, index: u32) -> Option<&'a MethodDef>
+fn user_method<'a>(setting: &RunSetting<'a>, owner: ClassId, index: u32) -> Option<&'a MethodDef>
     ensures { option_map (λ found. found.now) result ≡ method_at setting.now.table.now owner index }
 {
     if owner.0 >= setting.table.count() {

@@ -15,7 +15,7 @@ use crate::ending::{Ending, RunError};
 use crate::frame::{Focus, Frame};
 use crate::machine::{Machine, share, shared};
 use crate::part::{Part, Parts, Twigs};
-use crate::scene::{Scene, Setting};
+use crate::scene::{RunSetting, Scene};
 use crate::value::Value;
 use cool_syntax::{Name, Place};
 use std::rc::Rc;
@@ -65,7 +65,7 @@ pub(crate) fn next_item<'a>(
 /// An expression with one more variable, at a new location.
 #[tactic(auto, using(crate::proofs::LocalsAtEnd::locals_more), unfolding(crate::specs::StackMachine::bind))]
 pub(crate) fn bind<'a>(
-    setting: &Setting<'a>,
+    setting: &RunSetting<'a>,
     machine: &mut Machine<'a>,
     scene: &Scene<'a>,
     name: &'a Name,
@@ -89,7 +89,7 @@ pub(crate) fn bind<'a>(
 /// The branch of a case for a value.
 #[tactic(auto, unfolding(crate::specs::StackMachine::pick, crate::specs::StackMachine::take_named))]
 pub(crate) fn pick<'a>(
-    setting: &Setting<'a>,
+    setting: &RunSetting<'a>,
     machine: &mut Machine<'a>,
     scene: &Scene<'a>,
     at: Place,

@@ -14,7 +14,7 @@ ghost use Rattle.cool_eval.specs.Running.{outcome_of, Ended};
 use crate::ending::Ending;
 use crate::machine::Machine;
 use crate::report::finish;
-use crate::scene::Setting;
+use crate::scene::RunSetting;
 use crate::step::{first, step};
 use crate::store::Store;
 use cool_classes::{AttributeRef, ClassId, ClassTable};
@@ -70,7 +70,7 @@ pub fn evaluate<S: Source, K: Sink>(
     let Ok(layouts) = layouts(alloc, table) else {
         return EvalEnd::Memory;
     };
-    let setting = Setting {
+    let setting = RunSetting {
         alloc,
         table,
         layouts: layouts.as_slice(),
@@ -93,7 +93,7 @@ fn layouts(alloc: Global, table: &ClassTable) -> Result<Vec<Vec<AttributeRef>>, 
 /// Runs to the end. Each step is compiled into its loop, so that focus and frame stay in the processor's registers.
 #[inline(never)]
 fn run<'a, S: Source, K: Sink>(
-    setting: &Setting<'a>,
+    setting: &RunSetting<'a>,
     main: &'a Name,
     method: &'a Name,
     steps: u64,

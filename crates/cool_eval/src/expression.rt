@@ -22,7 +22,7 @@ use crate::frame::{Focus, Frame};
 use crate::machine::{Machine, room, share};
 use crate::object::begin_new;
 use crate::part::{Part, call_at, part_at, parts_at, twigs_at};
-use crate::scene::{Scene, Setting};
+use crate::scene::{RunSetting, Scene};
 use crate::value::Value;
 use cool_classes::ClassId;
 use cool_syntax::{Body, Name, Node, NodeId};
@@ -31,7 +31,7 @@ use std::rc::Rc;
 /// Begins an expression. One with no other in it is evaluated.
 #[tactic(auto, unfolding(crate::specs::StackMachine::begun))]
 pub(crate) fn begin<'a>(
-    setting: &Setting<'a>,
+    setting: &RunSetting<'a>,
     machine: &mut Machine<'a>,
     scene: Rc<Scene<'a>>,
     part: Part<'a>,
@@ -85,7 +85,7 @@ pub(crate) fn begin_under<'a>(
 /// Begins the arguments of a dispatch, whose parts have numbers below this one.
 #[tactic(auto, unfolding(crate::specs::StackMachine::begun))]
 fn begin_call<'a>(
-    setting: &Setting<'a>,
+    setting: &RunSetting<'a>,
     machine: &mut Machine<'a>,
     scene: Rc<Scene<'a>>,
     body: &'a Body,
@@ -154,7 +154,7 @@ fn begin_control<'a>(
 /// Begins a binding or a case, whose parts have numbers below this one.
 #[tactic(auto, unfolding(crate::specs::StackMachine::begun, crate::specs::StackMachine::begin_let))]
 fn begin_binding<'a>(
-    setting: &Setting<'a>,
+    setting: &RunSetting<'a>,
     machine: &mut Machine<'a>,
     scene: Rc<Scene<'a>>,
     body: &'a Body,
@@ -299,7 +299,7 @@ fn begin_binary<'a>(
 #[inline(always)]
 #[tactic(auto, unfolding(crate::specs::StackMachine::after))]
 fn begin_name<'a>(
-    setting: &Setting<'a>,
+    setting: &RunSetting<'a>,
     machine: &Machine<'a>,
     scene: Rc<Scene<'a>>,
     name: &Name,
@@ -314,7 +314,7 @@ fn begin_name<'a>(
 
 /// Gives a constant string.
 fn begin_string<'a>(
-    setting: &Setting<'a>,
+    setting: &RunSetting<'a>,
     machine: &Machine<'a>,
     bytes: &[u8],
 ) -> Result<Focus<'a>, Ending>
@@ -327,7 +327,7 @@ fn begin_string<'a>(
 
 /// Begins a new value of the class that is named.
 fn begin_made<'a>(
-    setting: &Setting<'a>,
+    setting: &RunSetting<'a>,
     machine: &mut Machine<'a>,
     scene: Rc<Scene<'a>>,
     name: &Name,
@@ -343,7 +343,7 @@ fn begin_made<'a>(
 }
 
 /// The class that `new` makes: for SELF_TYPE that of the object.
-fn class_made<'a>(setting: &Setting<'a>, scene: &Scene<'a>, name: &Name) -> Option<ClassId>
+fn class_made<'a>(setting: &RunSetting<'a>, scene: &Scene<'a>, name: &Name) -> Option<ClassId>
     requires ready { IsReady setting.now.table.now setting.now.layouts.now }
     ensures { result ≡ lookups.class_made setting.now.table.now (value_of scene.now.me) name.now }
 {
@@ -355,7 +355,7 @@ fn class_made<'a>(setting: &Setting<'a>, scene: &Scene<'a>, name: &Name) -> Opti
 
 /// The value of a name.
 fn value_named<'a>(
-    setting: &Setting<'a>,
+    setting: &RunSetting<'a>,
     machine: &Machine<'a>,
     scene: &Scene<'a>,
     name: &Name,

@@ -15,7 +15,7 @@ use crate::ending::Ending;
 use crate::frame::{Focus, Frame};
 use crate::machine::{Machine, shared};
 use crate::part::Part;
-use crate::scene::{Scene, Setting};
+use crate::scene::{RunSetting, Scene};
 use crate::store::location_after;
 use crate::value::{Object, Value};
 use cool_classes::{AttributeRef, BOOL, ClassId, INT, STRING};
@@ -23,7 +23,7 @@ use cool_classes::{AttributeRef, BOOL, ClassId, INT, STRING};
 /// Begins a new value of a class.
 #[tactic(auto, unfolding(crate::specs::StackMachine::begin_new))]
 pub(crate) fn begin_new<'a>(
-    setting: &Setting<'a>,
+    setting: &RunSetting<'a>,
     machine: &mut Machine<'a>,
     class: Option<ClassId>,
 ) -> Result<Focus<'a>, Ending>
@@ -53,7 +53,7 @@ pub(crate) fn begin_new<'a>(
 /// A new object with the defaults of its attributes, and then its initial values.
 #[tactic(auto, using(crate::proofs::NewObjects::object_begins))]
 fn begin_object<'a>(
-    setting: &Setting<'a>,
+    setting: &RunSetting<'a>,
     machine: &mut Machine<'a>,
     class: ClassId,
 ) -> Result<Focus<'a>, Ending>
@@ -84,7 +84,7 @@ fn begin_object<'a>(
 /// Begins the next initial value of an object.
 #[tactic(auto, unfolding(crate::specs::StackMachine::start_values, crate::specs::StackMachine::start_value))]
 pub(crate) fn start_values<'a>(
-    setting: &Setting<'a>,
+    setting: &RunSetting<'a>,
     machine: &mut Machine<'a>,
     object: Object,
     location: usize,

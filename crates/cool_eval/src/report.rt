@@ -13,7 +13,7 @@ ghost use Rattle.cool_eval.specs.Running.{outcome_of, Ended, IsNeverStuck};
 use crate::console::print;
 use crate::ending::{Ending, RunError};
 use crate::evaluation::EvalEnd;
-use crate::scene::Setting;
+use crate::scene::RunSetting;
 use cool_classes::ClassId;
 use cool_ports::Sink;
 use cool_syntax::Place;
@@ -21,7 +21,7 @@ use std::alloc::{AllocError, Global};
 
 /// Writes how a run ended.
 pub(crate) fn finish<K: Sink>(
-    setting: &Setting<'_>,
+    setting: &RunSetting<'_>,
     names: &[String],
     end: Result<(), Ending>,
     sink: &mut K,
@@ -72,7 +72,7 @@ fn placed(alloc: Global, names: &[String], at: Place, text: &[u8]) -> Result<Vec
 
 /// The text of an error, with its newline.
 fn error_text(
-    setting: &Setting<'_>,
+    setting: &RunSetting<'_>,
     names: &[String],
     error: RunError,
 ) -> Result<Vec<u8>, AllocError>
@@ -85,7 +85,7 @@ fn error_text(
 
 /// The text of an error without its newline.
 fn error_words(
-    setting: &Setting<'_>,
+    setting: &RunSetting<'_>,
     names: &[String],
     error: RunError,
 ) -> Result<Vec<u8>, AllocError>
@@ -109,7 +109,7 @@ fn error_words(
 
 /// The text for a case without a branch for a class.
 fn no_branch(
-    setting: &Setting<'_>,
+    setting: &RunSetting<'_>,
     names: &[String],
     at: Place,
     class: ClassId,

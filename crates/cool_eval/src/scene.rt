@@ -27,7 +27,7 @@ use std::alloc::{AllocError, Global};
 
 /// What stays the same during a run: the class table, and the attributes of each class.
 #[derive(Clone, Copy)]
-pub(crate) struct Setting<'a> {
+pub(crate) struct RunSetting<'a> {
     pub(crate) alloc: Global,
     pub(crate) table: &'a ClassTable,
     pub(crate) layouts: &'a [Vec<AttributeRef>],
@@ -47,7 +47,7 @@ pub(crate) struct Scene<'a> {
     pub(crate) locals: Vec<Local<'a>>,
 }
 
-impl<'a> Setting<'a> {
+impl<'a> RunSetting<'a> {
     /// The attributes of a class with those that it inherits; none where there is no such class.
     pub(crate) fn attributes(&self, class: ClassId) -> &'a [AttributeRef]
         requires ready { IsReady self.now.table.now self.now.layouts.now }
@@ -190,7 +190,7 @@ impl<'a> Setting<'a> {
 impl<'a> Scene<'a> {
     /// The location of a name: that of the latest variable of this name, or else of the attribute. `Stuck` comes where there is none.
     #[inline(always)]
-    pub(crate) fn location(&self, setting: &Setting<'a>, name: &Name) -> Result<usize, Ending>
+    pub(crate) fn location(&self, setting: &RunSetting<'a>, name: &Name) -> Result<usize, Ending>
         requires ready { IsReady setting.now.table.now setting.now.layouts.now }
         ensures location { IsLocation (env_of setting.now.table.now self.now) name.now result }
         ensures inner { IfErr result IsInner }

@@ -26,7 +26,7 @@ use crate::frame::{Focus, Frame};
 use crate::machine::{Machine, add};
 use crate::numbers::{compare, negate, operate};
 use crate::object::{begin_new, start_values};
-use crate::scene::{Scene, Setting};
+use crate::scene::{RunSetting, Scene};
 use crate::store::location_after;
 use crate::value::Value;
 use cool_ports::{Sink, Source};
@@ -36,7 +36,7 @@ use cool_syntax::{Name, Place};
 #[inline(always)]
 #[tactic(auto, using(crate::proofs::QuietFrames::quiet_else, crate::proofs::QuietSteps::quiet_counts, crate::proofs::QuietSteps::quiet_faults, cool_ports::proofs::InputsInParts::took_nothing), unfolding(crate::specs::StackMachine::returned))]
 fn give<'a, S: Source, K: Sink>(
-    setting: &Setting<'a>,
+    setting: &RunSetting<'a>,
     machine: &mut Machine<'a>,
     frame: Frame<'a>,
     value: Value,
@@ -67,7 +67,7 @@ fn give<'a, S: Source, K: Sink>(
 #[inline(always)]
 #[tactic(auto, using(crate::proofs::StoredValues::stored_more), unfolding(crate::specs::StackMachine::returned))]
 fn resume<'a>(
-    setting: &Setting<'a>,
+    setting: &RunSetting<'a>,
     machine: &mut Machine<'a>,
     frame: Frame<'a>,
     value: Value,
@@ -135,7 +135,7 @@ fn resume_control<'a>(
 /// A value comes to a variable, to the branches of a case or to an attribute.
 #[tactic(auto, unfolding(crate::specs::StackMachine::returned, crate::specs::StackMachine::after))]
 fn resume_binding<'a>(
-    setting: &Setting<'a>,
+    setting: &RunSetting<'a>,
     machine: &mut Machine<'a>,
     frame: Frame<'a>,
     value: Value,
@@ -214,7 +214,7 @@ fn resume_operator<'a>(
 
 /// Gives a variable or an attribute a value, which is the result.
 fn assign<'a>(
-    setting: &Setting<'a>,
+    setting: &RunSetting<'a>,
     machine: &mut Machine<'a>,
     scene: &Scene<'a>,
     name: &Name,
@@ -235,7 +235,7 @@ fn assign<'a>(
 
 /// Begins `(new Main).main()`.
 pub(crate) fn first<'a>(
-    setting: &Setting<'a>,
+    setting: &RunSetting<'a>,
     machine: &mut Machine<'a>,
     main: &'a Name,
     method: &'a Name,
@@ -264,7 +264,7 @@ pub(crate) fn first<'a>(
 #[inline(always)]
 #[tactic(auto, using(crate::proofs::QuietSteps::quiet_counts, crate::proofs::QuietSteps::quiet_faults, cool_ports::proofs::InputsInParts::took_nothing))]
 pub(crate) fn step<'a, S: Source, K: Sink>(
-    setting: &Setting<'a>,
+    setting: &RunSetting<'a>,
     machine: &mut Machine<'a>,
     focus: Focus<'a>,
     source: &mut S,

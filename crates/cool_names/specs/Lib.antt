@@ -4,6 +4,6 @@ pub mod Meanings
 pub mod Marks
 pub mod Programs
 pub mod ProgramUses
-pub mod Settings
+pub mod NamingSettings
 pub mod Uses
 pub mod WrittenNames

@@ -6,12 +6,12 @@ ghost use Rattle.cool_syntax.specs.NodeGroups.{IsBinding};
 ghost use Rattle.cool_syntax.specs.NodeLists.{tree_at, HasPartsBelow, cases_of, maybe_tree_of, tree_of_node};
 ghost use Rattle.cool_names.specs.Marks.{marks_of, marks_of_cases, marks_of_maybe};
 ghost use Rattle.cool_names.specs.Scopes.{variable_of, variables};
-ghost use Rattle.cool_names.specs.Settings.{IsReady, context};
+ghost use Rattle.cool_names.specs.NamingSettings.{IsReady, context};
 
 use crate::declaration::Declaration;
 use crate::expression::add_marks;
 use crate::mark::{Mark, Role};
-use crate::setting::Setting;
+use crate::naming_setting::NamingSetting;
 use cool_rules::Scope;
 use cool_syntax::{Name, Node, NodeBranch, NodeId};
 use std::alloc::AllocError;
@@ -19,7 +19,7 @@ use std::alloc::AllocError;
 /// Adds the marks of a `let` or a `case`, whose parts have numbers below this one. `Err` comes only for want of memory.
 #[cycle(walk)]
 pub(crate) fn add_binding<'a>(
-    setting: &Setting<'a, '_>,
+    setting: &NamingSetting<'a, '_>,
     locals: &mut Scope<'a, Declaration<'a>>,
     marks: &mut Vec<Mark>,
     id: NodeId,
@@ -64,7 +64,7 @@ pub(crate) fn add_binding<'a>(
 /// Adds the marks of an initial value, where there is one. `Err` comes only for want of memory.
 #[cycle(walk)]
 fn add_option<'a>(
-    setting: &Setting<'a, '_>,
+    setting: &NamingSetting<'a, '_>,
     locals: &mut Scope<'a, Declaration<'a>>,
     marks: &mut Vec<Mark>,
     end: NodeId,
@@ -84,7 +84,7 @@ fn add_option<'a>(
 /// Adds the marks of an expression in the scope with one more variable. `Err` comes only for want of memory.
 #[cycle(walk)]
 fn add_within<'a>(
-    setting: &Setting<'a, '_>,
+    setting: &NamingSetting<'a, '_>,
     locals: &mut Scope<'a, Declaration<'a>>,
     marks: &mut Vec<Mark>,
     name: &'a Name,
@@ -104,7 +104,7 @@ fn add_within<'a>(
 /// Adds the marks of branches, in order. `Err` comes only for want of memory.
 #[cycle(walk)]
 fn add_branches<'a>(
-    setting: &Setting<'a, '_>,
+    setting: &NamingSetting<'a, '_>,
     locals: &mut Scope<'a, Declaration<'a>>,
     marks: &mut Vec<Mark>,
     end: NodeId,

@@ -6,12 +6,12 @@ ghost use Rattle.cool_syntax.specs.NodeLists.{tree_at, HasPartsBelow, tree_of_no
 ghost use Rattle.cool_rules.specs.Conformance.{IsType};
 ghost use Rattle.cool_names.specs.Marks.{is_written, marks_of, seen_type};
 ghost use Rattle.cool_names.specs.Scopes.{variables};
-ghost use Rattle.cool_names.specs.Settings.{IsReady, context};
+ghost use Rattle.cool_names.specs.NamingSettings.{IsReady, context};
 
 use crate::declaration::Declaration;
 use crate::expression::{add_all, add_marks};
 use crate::mark::Mark;
-use crate::setting::Setting;
+use crate::naming_setting::NamingSetting;
 use cool_classes::{BOOL, INT, OBJECT, STRING, Ty};
 use cool_rules::Scope;
 use cool_syntax::{Node, NodeId, Place};
@@ -20,7 +20,7 @@ use std::alloc::AllocError;
 /// Adds the marks of a call, whose parts have numbers below this one. `Err` comes only for want of memory.
 #[cycle(walk)]
 pub(crate) fn add_call<'a>(
-    setting: &Setting<'a, '_>,
+    setting: &NamingSetting<'a, '_>,
     locals: &mut Scope<'a, Declaration<'a>>,
     marks: &mut Vec<Mark>,
     id: NodeId,
@@ -62,7 +62,7 @@ pub(crate) fn add_call<'a>(
 /// Adds the marks of a receiver, where it stands in the text. `Err` comes only for want of memory.
 #[cycle(walk)]
 fn add_receiver<'a>(
-    setting: &Setting<'a, '_>,
+    setting: &NamingSetting<'a, '_>,
     locals: &mut Scope<'a, Declaration<'a>>,
     marks: &mut Vec<Mark>,
     at: Place,
@@ -80,7 +80,7 @@ fn add_receiver<'a>(
 
 /// The type that the expression at this number has at first sight, where it has one.
 fn seen_type<'a>(
-    setting: &Setting<'a, '_>,
+    setting: &NamingSetting<'a, '_>,
     locals: &Scope<'a, Declaration<'a>>,
     id: NodeId,
 ) -> Option<Ty>

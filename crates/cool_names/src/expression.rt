@@ -6,13 +6,13 @@ ghost use Rattle.cool_syntax.specs.NodeGroups.{IsBinary, IsControl, IsLeaf, IsUn
 ghost use Rattle.cool_syntax.specs.NodeLists.{tree_at, HasPartsBelow, tree_of_node, trees_of};
 ghost use Rattle.cool_names.specs.Marks.{marks_of, marks_of_all};
 ghost use Rattle.cool_names.specs.Scopes.{variables};
-ghost use Rattle.cool_names.specs.Settings.{IsReady, IsSound, context};
+ghost use Rattle.cool_names.specs.NamingSettings.{IsReady, IsSound, context};
 
 use crate::binding::add_binding;
 use crate::call::add_call;
 use crate::declaration::Declaration;
 use crate::mark::{Mark, Role};
-use crate::setting::Setting;
+use crate::naming_setting::NamingSetting;
 use cool_rules::Scope;
 use cool_syntax::{Node, NodeId};
 use std::alloc::AllocError;
@@ -20,7 +20,7 @@ use std::alloc::AllocError;
 /// Adds the marks of the expression at this number. `Err` comes only for want of memory.
 #[cycle(walk)]
 pub(crate) fn add_marks<'a>(
-    setting: &Setting<'a, '_>,
+    setting: &NamingSetting<'a, '_>,
     locals: &mut Scope<'a, Declaration<'a>>,
     marks: &mut Vec<Mark>,
     id: NodeId,
@@ -55,7 +55,7 @@ pub(crate) fn add_marks<'a>(
 
 /// Adds the mark of a name or a new object; a constant has none. `Err` comes only for want of memory.
 fn add_leaf<'a>(
-    setting: &Setting<'a, '_>,
+    setting: &NamingSetting<'a, '_>,
     locals: &Scope<'a, Declaration<'a>>,
     marks: &mut Vec<Mark>,
     node: &Node,
@@ -78,7 +78,7 @@ fn add_leaf<'a>(
 /// memory.
 #[cycle(walk)]
 fn add_unary<'a>(
-    setting: &Setting<'a, '_>,
+    setting: &NamingSetting<'a, '_>,
     locals: &mut Scope<'a, Declaration<'a>>,
     marks: &mut Vec<Mark>,
     id: NodeId,
@@ -105,7 +105,7 @@ fn add_unary<'a>(
 /// Adds the marks of a conditional, a loop or a block, whose parts have numbers below this one. `Err` comes only for want of memory.
 #[cycle(walk)]
 fn add_control<'a>(
-    setting: &Setting<'a, '_>,
+    setting: &NamingSetting<'a, '_>,
     locals: &mut Scope<'a, Declaration<'a>>,
     marks: &mut Vec<Mark>,
     id: NodeId,
@@ -135,7 +135,7 @@ fn add_control<'a>(
 /// Adds the marks of some expressions, in order. `Err` comes only for want of memory.
 #[cycle(walk)]
 pub(crate) fn add_all<'a>(
-    setting: &Setting<'a, '_>,
+    setting: &NamingSetting<'a, '_>,
     locals: &mut Scope<'a, Declaration<'a>>,
     marks: &mut Vec<Mark>,
     end: NodeId,

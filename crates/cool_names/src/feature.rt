@@ -8,14 +8,14 @@ ghost use Rattle.cool_classes.specs.Tables.{IsTable};
 ghost use Rattle.cool_names.specs.Marks.{marks_of, type_mark};
 ghost use Rattle.cool_names.specs.Programs.{attributes_in_scope, feature_marks, features_marks, formals_in_scope, formals_marks, class_context};
 ghost use Rattle.cool_names.specs.Scopes.{variables};
-ghost use Rattle.cool_names.specs.Settings.{AreClasses};
+ghost use Rattle.cool_names.specs.NamingSettings.{AreClasses};
 
 use crate::declaration::Declaration;
 use crate::expression::add_marks;
 use crate::mark::{Mark, Role};
 use crate::meaning::defined_method;
+use crate::naming_setting::NamingSetting;
 use crate::program::Program;
-use crate::setting::Setting;
 use cool_classes::{AttributeRef, ClassId, ClassTable};
 use cool_rules::Scope;
 use cool_syntax::{AttributeDef, Body, Feature, Formal, MethodDef};
@@ -65,7 +65,7 @@ fn add_method<'a>(
     })?;
     let mut locals = add_formals(program, marks, method.formals.as_slice())?;
     marks.push(program.type_mark(&method.result)?)?;
-    let setting = Setting {
+    let setting = NamingSetting {
         program: *program,
         class,
         attributes,
@@ -125,7 +125,7 @@ fn add_attribute<'a>(
     let Some(body) = &attribute.init else {
         return Ok(());
     };
-    let setting = Setting {
+    let setting = NamingSetting {
         program: *program,
         class,
         attributes,

@@ -12,8 +12,8 @@ mod feature;
 mod laws;
 mod mark;
 mod meaning;
+mod naming_setting;
 mod program;
-mod setting;
 
 pub use laws::{
     law_declared_type, law_marks_are_names, law_program_uses_told, law_seen_type, law_uses_told,

@@ -10,7 +10,7 @@ ghost use Rattle.cool_names.specs.declared.mark.Target.TheVariants.{At};
 ghost use Rattle.cool_names.specs.Marks.{declared_marks, mark, type_mark};
 ghost use Rattle.cool_names.specs.Meanings.{class_target, type_meaning};
 ghost use Rattle.cool_names.specs.Programs.{class_marks, parent_marks, program_marks};
-ghost use Rattle.cool_names.specs.Settings.{AreClasses};
+ghost use Rattle.cool_names.specs.NamingSettings.{AreClasses};
 
 use crate::feature::add_features;
 use crate::mark::{Mark, Meaning, Role, Target};

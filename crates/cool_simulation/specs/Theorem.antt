@@ -10,7 +10,7 @@ use Rattle.cool_classes.specs.Chains.{Class}
 use Rattle.cool_faults.specs.Verdicts.{IsAccepted}
 use Rattle.cool_meaning.specs.Evaluation.{calls_within}
 use Rattle.cool_meaning.specs.SourceRun.{GoesOn, Run, run}
-use Rattle.cool_opt.specs.Folding.{fold_table}
+use Rattle.cool_fold.specs.Folding.{fold_table}
 use Rattle.cool_rules.specs.Fits.{Fits}
 use Rattle.cool_runtime.specs.Contents.{IsText}
 use Rattle.cool_emit.specs.FileNames.{AreShortNames}

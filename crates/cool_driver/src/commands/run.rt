@@ -96,7 +96,7 @@ fn compiled_program(
     ensures fits { (count : ℕ) → Fits program count → IfOk result (λ compiled. Fits compiled count) }
 {
     if fold {
-        cool_opt::fold(alloc, program)
+        cool_fold::fold(alloc, program)
     } else {
         Ok(program)
     }

@@ -6,7 +6,7 @@ use Rattle.cool_syntax.specs.Tree.{of_list, of_twigs}
 use Rattle.cool_syntax.specs.NodeLists.{all_trees, at_id, twig_at}
 use Rattle.cool_names.specs.Marks.{marks_of_all, marks_of_cases}
 use Rattle.cool_names.specs.Scopes.{variables}
-use Rattle.cool_names.specs.Settings.{context}
+use Rattle.cool_names.specs.NamingSettings.{context}
 use Rattle.cool_names.proofs.+walk.Given as goal
 
 abbrev pub decreases-expression::add_marks : goal.decreases-expression::add_marks

@@ -9,10 +9,10 @@ use Rattle.cool_faults.specs.Verdicts.{IsAccepted}
 use Rattle.cool_faults.proofs.AcceptedFiles.{accepted_meant}
 use Rattle.cool_meaning.specs.Laws.{IsOver}
 use Rattle.cool_meaning.specs.SourceRun.{Run, run}
-use Rattle.cool_opt.specs.Folding.{fold_table}
-use Rattle.cool_opt.specs.Laws.{NoMoreRun}
-use Rattle.cool_opt.proofs.FoldedPrograms.{folded_run}
-use Rattle.cool_opt.proofs.FoldedTableIsTyped.{folded_typed}
+use Rattle.cool_fold.specs.Folding.{fold_table}
+use Rattle.cool_fold.specs.Laws.{NoMoreRun}
+use Rattle.cool_fold.proofs.FoldedPrograms.{folded_run}
+use Rattle.cool_fold.proofs.FoldedTableIsTyped.{folded_typed}
 use Rattle.lists.specs.Bytes.{AreBytes}
 use Rattle.lists.specs.Prefixes.{IsPrefix, IsSuffix}
 use Rattle.cool_emit.specs.Programs.{IsBuildable, program_lines}

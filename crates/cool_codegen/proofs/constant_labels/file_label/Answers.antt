@@ -4,7 +4,7 @@ use Rattle.std.specs.Prelude.{string_bytes}
 use Rattle.std.proofs.lemmas.Result.{IfOk-weaker}
 use Rattle.std.proofs.lemmas.List.{get_or-map}
 use Rattle.cool_codegen.specs.Code.{file_name, string_label}
-use Rattle.cool_codegen.specs.Settings.{context}
+use Rattle.cool_codegen.specs.CodeSettings.{context}
 use Rattle.cool_codegen.proofs.constant_labels.file_label.Goals as goal
 
 pub returns-clause-label : goal.returns-clause-label

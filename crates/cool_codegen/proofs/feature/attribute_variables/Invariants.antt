@@ -4,7 +4,7 @@ use Rattle.std.specs.List.{AllByRecursion}
 use Rattle.cool_classes.specs.Features.{HasAttribute}
 use Rattle.cool_layout.specs.Members.{attributes}
 use Rattle.cool_codegen.specs.Features.{attributes_in, with_attributes}
-use Rattle.cool_codegen.specs.Settings.{HaveTypes}
+use Rattle.cool_codegen.specs.CodeSettings.{HaveTypes}
 use Rattle.cool_codegen.proofs.feature.attribute_variables.Given as goal
 
 abbrev pub invariant-loop-attribute : goal.invariant-loop-attribute

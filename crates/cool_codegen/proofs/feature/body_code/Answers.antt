@@ -7,7 +7,7 @@ use Rattle.cool_consts.specs.Constants.{Constants}
 use Rattle.cool_codegen.specs.Asked.{Extends, Keeps}
 use Rattle.cool_codegen.specs.Numbered.{asked_at, lines_at, spans_at}
 use Rattle.cool_codegen.specs.Shown.{shown_of}
-use Rattle.cool_codegen.specs.Settings.{context, typed_body}
+use Rattle.cool_codegen.specs.CodeSettings.{context, typed_body}
 use Rattle.cool_codegen.specs.Variables.{scope_of}
 use Rattle.cool_rules.proofs.PartsStand.{whole_is_part}
 use Rattle.cool_codegen.proofs.WholeBodies.{whole_asked, whole_lines, whole_size, whole_spans}

@@ -1,7 +1,7 @@
 -- The formals that are left are entered after those that were.
 use Rattle.std.proofs.Common.{◌≡◌, ◌<◌, ◌^◌, length, drop}
 use Rattle.cool_codegen.specs.Features.{with_formals}
-use Rattle.cool_codegen.specs.Settings.{HaveTypes}
+use Rattle.cool_codegen.specs.CodeSettings.{HaveTypes}
 use Rattle.cool_codegen.proofs.feature.formal_variables.Given as goal
 
 abbrev pub invariant-loop-formal : goal.invariant-loop-formal

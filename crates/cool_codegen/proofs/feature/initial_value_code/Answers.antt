@@ -1,7 +1,7 @@
 -- The initial value stands at the begin.
 use Rattle.std.proofs.Common.{length, map, ap, ◌∙◌, rules}
 use Rattle.mips_isa.specs.Lines.{lines_of}
-use Rattle.cool_codegen.specs.Settings.{context}
+use Rattle.cool_codegen.specs.CodeSettings.{context}
 use Rattle.cool_codegen.specs.Shown.{noted, shown}
 use Rattle.cool_codegen.specs.Spans.{spans}
 use Rattle.cool_codegen.proofs.feature.initial_value_code.Goals as goal

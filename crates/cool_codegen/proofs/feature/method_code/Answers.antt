@@ -9,7 +9,7 @@ use Rattle.cool_layout.specs.Labels.{method_label}
 use Rattle.cool_codegen.specs.Code.{code}
 use Rattle.cool_codegen.specs.Features.{attributes_in, with_formals}
 use Rattle.cool_codegen.specs.Pieces.{leave_lines, mark_lines}
-use Rattle.cool_codegen.specs.Settings.{context}
+use Rattle.cool_codegen.specs.CodeSettings.{context}
 use Rattle.cool_codegen.specs.Shown.{noted, shown}
 use Rattle.cool_codegen.specs.Spans.{spans}
 use Rattle.cool_codegen.proofs.feature.method_code.Goals as goal

@@ -5,7 +5,7 @@ use Rattle.mips_isa.specs.Lines.{lines_of}
 use Rattle.cool_runtime.specs.RoutineLabels.{overflow_abort}
 use Rattle.cool_runtime.specs.Routines.{new_int_lines}
 use Rattle.cool_codegen.specs.Code.{file_label, label_at}
-use Rattle.cool_codegen.specs.Settings.{context}
+use Rattle.cool_codegen.specs.CodeSettings.{context}
 use Rattle.cool_codegen.specs.Pieces.{ends_where_lines}
 use Rattle.cool_codegen.proofs.operation.make_int.Goals as goal
 

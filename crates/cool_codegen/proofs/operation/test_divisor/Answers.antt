@@ -4,7 +4,7 @@ use Rattle.std.specs.Prelude.{codes}
 use Rattle.mips_isa.specs.Lines.{lines_of}
 use Rattle.cool_runtime.specs.Labels.{div_abort}
 use Rattle.cool_codegen.specs.Code.{file_label, label_at}
-use Rattle.cool_codegen.specs.Settings.{context}
+use Rattle.cool_codegen.specs.CodeSettings.{context}
 use Rattle.cool_codegen.specs.Pieces.{is_zero_lines, ends_where_lines}
 use Rattle.cool_codegen.proofs.operation.test_divisor.Goals as goal
 

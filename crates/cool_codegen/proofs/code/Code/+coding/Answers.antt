@@ -22,9 +22,9 @@ use Rattle.cool_codegen.specs.Code.{file_name, int_code, label_at, range_code}
 use Rattle.cool_runtime.specs.Routines.{push_lines}
 use Rattle.cool_codegen.specs.Numbered.{asked_at, branch_lines, branch_sizes_at, branch_spans, branches_asked, branches_made, class_of_branch, lines_at, made_lines, node_asked, node_lines, node_size, node_spans, size_at, spans_at, with_bytes, with_file}
 use Rattle.cool_codegen.specs.Pieces.{mark_lines, negate_lines, repeat_lines, test_lines, turn_lines}
-use Rattle.cool_codegen.specs.Settings.{context, typed_body}
-use Rattle.cool_codegen.specs.declared.setting.Setting.{Setting}
-use Rattle.cool_codegen.specs.declared.setting.Wanted.{Wanted}
+use Rattle.cool_codegen.specs.CodeSettings.{context, typed_body}
+use Rattle.cool_codegen.specs.declared.code_setting.CodeSetting.{CodeSetting}
+use Rattle.cool_codegen.specs.declared.code_setting.Wanted.{Wanted}
 use Rattle.cool_rules.specs.TypedParts.{AreBranches}
 use Rattle.cool_codegen.specs.Variables.{bind, scope_of}
 use Rattle.cool_codegen.proofs.NumbersAgree.{extends_same}
@@ -341,7 +341,7 @@ expression-end_span-requires t c =
     let same = c.in_ok-parts.ensures.made.setting ∙ c.begin_span.ensures.alone.setting in
     record {
       begun = λ spans. noted_there c.args.self.now.setting.wanted c.args.self.now.spans.items c.begin_span.new.self.spans.items c.parts.new.self.spans.items _ _ _
-          c.in_ok-span.ensures.number (c.in_ok-span.ensures.spans []) c.in_ok-parts.ensures.made.spans (sym (ap (λ (s : Setting). s.wanted) same) ∙ spans);
+          c.in_ok-span.ensures.number (c.in_ok-span.ensures.spans []) c.in_ok-parts.ensures.made.spans (sym (ap (λ (s : CodeSetting). s.wanted) same) ∙ spans);
     }
 
 pub expression-returns : goal.expression-returns
@@ -360,7 +360,7 @@ expression-returns t c =
     let alone = c.begin_span.ensures.alone in
     let last = c.end_span.ensures.alone in
     let made = in_begun d id n _ _ _ _ alone c.in_ok-parts.ensures.made in
-    let wanted : c.parts.new.self.setting.wanted ≡ want = ap (λ (r : Setting). r.wanted) (made.setting ∙ alone.setting) in
+    let wanted : c.parts.new.self.setting.wanted ≡ want = ap (λ (r : CodeSetting). r.wanted) (made.setting ∙ alone.setting) in
     let begun : Shown = whole vs d (length before) (length before) (tree_made (all_trees b) n) in
     let parts = node_spans want s b old vs d before id n in
     let written : lines_of c.parts.new.self.lines.items ≡ before ++ node_lines s b old vs d id n =

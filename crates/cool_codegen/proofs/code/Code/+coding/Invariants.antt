@@ -9,7 +9,7 @@ use Rattle.cool_rules.specs.TypedParts.{AreBranches, AreParts}
 use Rattle.cool_codegen.specs.Shown.{made_of, shown_of}
 use Rattle.cool_codegen.specs.Asked.{Keeps}
 use Rattle.cool_codegen.specs.Numbered.{all_asked, arguments_lines, arguments_spans, branch_sizes_at, branches_asked, branches_made, items_lines, items_spans, sizes_at}
-use Rattle.cool_codegen.specs.Settings.{context, typed_body}
+use Rattle.cool_codegen.specs.CodeSettings.{context, typed_body}
 use Rattle.cool_codegen.specs.Variables.{scope_of}
 use Rattle.cool_codegen.proofs.code.Code.+coding.Given as goal
 

@@ -5,7 +5,7 @@ use Rattle.cool_consts.specs.Constants.{Constants}
 use Rattle.cool_codegen.specs.Code.{file_label, file_name}
 use Rattle.cool_codegen.specs.Numbered.{with_bytes}
 use Rattle.cool_codegen.specs.Pieces.{case_begin_lines}
-use Rattle.cool_codegen.specs.Settings.{context}
+use Rattle.cool_codegen.specs.CodeSettings.{context}
 use Rattle.cool_codegen.proofs.NumbersAgree.{extends_same}
 use Rattle.cool_codegen.proofs.code.Code.begin_case.Goals as goal
 

@@ -6,7 +6,7 @@ use Rattle.cool_layout.specs.Labels.{method_label}
 use Rattle.cool_codegen.specs.Code.{file_label, file_name}
 use Rattle.cool_codegen.specs.Numbered.{with_bytes}
 use Rattle.cool_codegen.specs.Pieces.{call_static_lines}
-use Rattle.cool_codegen.specs.Settings.{context}
+use Rattle.cool_codegen.specs.CodeSettings.{context}
 use Rattle.cool_codegen.proofs.NumbersAgree.{extends_same}
 use Rattle.cool_codegen.proofs.code.Code.call_by_label.Goals as goal
 

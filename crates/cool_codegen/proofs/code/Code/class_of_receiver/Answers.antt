@@ -9,7 +9,7 @@ use Rattle.cool_rules.specs.StaticTypes.{type_of}
 use Rattle.cool_rules.proofs.PartsStand.{part_type}
 use Rattle.cool_rules.proofs.TypesAreTypes.{type_is_type}
 use Rattle.cool_codegen.specs.Numbered.{receiver_class}
-use Rattle.cool_codegen.specs.Settings.{typed_body}
+use Rattle.cool_codegen.specs.CodeSettings.{typed_body}
 use Rattle.cool_codegen.specs.Variables.{scope_of}
 use Rattle.cool_codegen.proofs.VariablesHave.{types_in_scope}
 use Rattle.cool_codegen.proofs.code.Code.class_of_receiver.Goals as goal

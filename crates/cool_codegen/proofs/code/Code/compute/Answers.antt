@@ -6,7 +6,7 @@ use Rattle.cool_codegen.specs.Asked.{Extends}
 use Rattle.cool_codegen.specs.Code.{file_name, int_code, operation_code}
 use Rattle.cool_codegen.specs.Numbered.{with_bytes}
 use Rattle.cool_codegen.specs.Pieces.{values_lines}
-use Rattle.cool_codegen.specs.Settings.{context}
+use Rattle.cool_codegen.specs.CodeSettings.{context}
 use Rattle.cool_codegen.proofs.NumbersAgree.{extends_before, extends_same}
 use Rattle.cool_codegen.proofs.OperationsAsk.{asked_is}
 use Rattle.cool_codegen.proofs.code.Code.compute.Goals as goal

@@ -1,7 +1,7 @@
 -- The span at its number is the one that was noted there, with another end; where lines alone are wanted none was.
 use Rattle.std.proofs.Common.{◌∷◌, [], ◌++◌, length, ap, sym, ◌∙◌}
 use Rattle.mips_isa.specs.Lines.{lines_of}
-use Rattle.cool_codegen.specs.declared.setting.Wanted.{Wanted}
+use Rattle.cool_codegen.specs.declared.code_setting.Wanted.{Wanted}
 use Rattle.cool_codegen.specs.Shown.{ended, noted}
 use Rattle.cool_codegen.proofs.SpansNoted.{as_many, replaced}
 use Rattle.cool_codegen.proofs.code.Code.end_span.Goals as goal

@@ -7,7 +7,7 @@ use Rattle.cool_codegen.specs.Code.{integer_label, string_label}
 use Rattle.cool_codegen.specs.Numbered.{node_lines, node_spans, with_bytes, with_value}
 use Rattle.cool_codegen.specs.Shown.{shown_of}
 use Rattle.cool_codegen.specs.Pieces.{take_lines}
-use Rattle.cool_codegen.specs.Settings.{context}
+use Rattle.cool_codegen.specs.CodeSettings.{context}
 use Rattle.cool_codegen.proofs.NumbersAgree.{extends_same}
 use Rattle.cool_codegen.proofs.code.Code.leaf.Goals as goal
 

@@ -4,7 +4,7 @@ use Rattle.cool_syntax.proofs.TreesHaveNodes.{one_le_size}
 use Rattle.cool_syntax.specs.NodeLists.{tree_at}
 use Rattle.cool_syntax.specs.TreesWithinLimits.{IsTreeWithin}
 use Rattle.cool_codegen.specs.Numbered.{size_at}
-use Rattle.cool_codegen.specs.Settings.{context, typed_body}
+use Rattle.cool_codegen.specs.CodeSettings.{context, typed_body}
 use Rattle.cool_codegen.specs.Variables.{scope_of}
 use Rattle.cool_rules.proofs.PartsStand.{has_parts, part_within}
 use Rattle.cool_codegen.proofs.CodeByNumbers.{asked_of_node, lines_of_node, size_of_node}

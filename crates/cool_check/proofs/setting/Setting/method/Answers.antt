@@ -1,8 +1,0 @@
--- The nearest method on the chain is that of the chain by the table.
-use Rattle.cool_rules.proofs.RulesOfTables.{method_of_is}
-use Rattle.cool_check.proofs.setting.Setting.method.Goals as goal
-
-pub returns-clause-method : goal.returns-clause-method
-returns-clause-method c =
-    let p = c.args.self.now.table.now in
-    method_of_is p c.args.class c.args.name.now _ c.requires.sound.whole.table c.requires.class c.find_method.ensures.nearest

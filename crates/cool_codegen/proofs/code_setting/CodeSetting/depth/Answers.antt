@@ -1,0 +1,12 @@
+-- The chain of a class is the class and those above it.
+use Rattle.std.proofs.Common.{◌≡◌, ◌+◌, length, arith}
+use Rattle.cool_classes.specs.ClimbedChains.{chain}
+use Rattle.cool_classes.proofs.ChainsOfTables.{chain_is}
+use Rattle.cool_codegen.proofs.setting.CodeSetting.depth.Goals as goal
+
+pub returns : goal.returns
+unfolding chain
+returns c =
+    let p = c.args.self.now.table.now in
+    let all : length (chain p c.args.class) ≡ c.depth.result + 1 = c.depth.ensures (chain p c.args.class) (chain_is p c.args.class c.requires.sound.whole.table c.requires.class) in
+    omega arith

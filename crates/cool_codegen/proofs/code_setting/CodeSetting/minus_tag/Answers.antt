@@ -1,0 +1,11 @@
+-- A tag is below the number of classes.
+use Rattle.std.proofs.Common.{arith}
+use Rattle.cool_layout.proofs.TagRanges.{at_tag}
+use Rattle.cool_codegen.proofs.setting.CodeSetting.minus_tag.Goals as goal
+
+pub negative-requires : goal.negative-requires
+negative-requires c =
+    let is = c.tag.ensures c.args.self.now.table.now c.requires.sound.layout c.requires.class in
+    let low = (at_tag c.args.self.now.table.now c.requires.sound.layout.rooted c.args.class c.requires.class).0 in
+    let few = c.requires.sound.layout.limits.classes in
+    omega arith

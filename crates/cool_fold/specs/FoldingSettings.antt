@@ -1,0 +1,35 @@
+-- In what an expression is folded: a class of a whole table, where the column of the body has a type of the table for each node; and the
+-- trees that numbers of the body stand for.
+use Rattle.std.specs.Prelude.{◌≡◌, ◌<◌, List, length, map, slice_get, Option, Some}
+use Rattle.std.specs.List.{AllByRecursion}
+use Rattle.std.specs.Option.{option_map}
+use Rattle.cool_syntax.specs.declared.node.Node.{Node}
+use Rattle.cool_syntax.specs.declared.node.NodeBranch.{NodeBranch}
+use Rattle.cool_syntax.specs.declared.node.NodeId.{NodeId}
+use Rattle.cool_syntax.specs.Tree.{Tree, Trees, MaybeTree, Cases, of_list, of_option, of_twigs, tree_size}
+use Rattle.cool_syntax.specs.NodeLists.{all_trees, at_id, made, twig_at, tree_of_node}
+use Rattle.cool_classes.specs.Chains.{Class}
+use Rattle.cool_classes.specs.Tables.{IsWholeTable}
+use Rattle.cool_rules.specs.Conformance.{IsType}
+use Rattle.cool_rules.specs.Scopes.{AreTypes, Binding}
+use Rattle.cool_rules.specs.StaticTypes.{type_of}
+use Rattle.cool_rules.specs.TypedParts.{TypedBody, HasParts}
+use Rattle.cool_fold.specs.declared.folding_setting.FoldingSetting.{FoldingSetting}
+use Rattle.cool_fold.specs.Definers.{AreDefiners}
+
+pub record IsSound (s : FoldingSetting) : Type 0 where
+  pub table : IsWholeTable s.table.now
+  pub definers : AreDefiners s.table.now s.definers.now
+  pub class : s.class.0 < length s.table.now
+  pub types : AllByRecursion (IsType s.table.now) s.types.now
+  pub each : length s.types.now ≡ tree_size s.body.now
+
+-- the body with the types of its nodes
+abbrev pub typed_body : FoldingSetting → TypedBody
+typed_body s = record { table = s.table.now; class = s.class; body = s.body.now; types = s.types.now }
+
+-- A node stands at this number, with these names in scope: its parts stand at their numbers, and the type there is that of what it makes.
+pub record IsStanding (s : FoldingSetting) (scope : List Binding) (id : NodeId) (n : Node) : Type 0 where
+  pub types : AreTypes s.table.now scope
+  pub parts : HasParts (typed_body s) scope n
+  pub type : slice_get s.types.now id.0 ≡ Some (type_of s.table.now s.class scope (tree_of_node s.body.now n))

@@ -1,0 +1,12 @@
+pub mod Examples
+pub mod Expressions
+pub mod Foldable
+pub mod FoldedNodes
+pub mod Forms
+pub mod PlacedForms
+pub mod Folding
+pub mod Laws
+pub mod NothingLeft
+pub mod FoldingSettings
+pub mod Shrinking
+pub mod Definers

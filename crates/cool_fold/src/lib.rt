@@ -1,0 +1,25 @@
+//! Folding: constants are computed, tests on constants decided, and a dispatch that can go to one method only is called directly.
+//!
+//! Comes in: an accepted program. Goes out: the folded program. `specs/Folding.antt` defines what becomes of each form of expression and of a
+//! table, over the static types of `cool_rules`; `specs/Foldable.antt` says of what nothing is left to fold. The functions `law_*` say what a
+//! folded program is. The types of expressions are read in the program's columns and not computed, and the folded program has its own.
+#![tactic(auto)]
+
+mod constant;
+mod definers;
+mod expression;
+mod feature;
+mod fold_binding;
+mod fold_call;
+mod fold_control;
+mod fold_operator;
+mod folding_setting;
+mod form;
+mod laws;
+mod place;
+mod place_form;
+mod place_operator;
+mod program;
+
+pub use laws::{law_folded, law_folded_fits, law_folded_is_typed, law_nothing_left};
+pub use program::fold;

@@ -1,5 +1,0 @@
-use Rattle.cool_opt.proofs.FoldedPrograms.{folded_run}
-use Rattle.cool_opt.proofs.laws.law_folded.Goals as goal
-
-pub returns : goal.returns
-returns c = folded_run

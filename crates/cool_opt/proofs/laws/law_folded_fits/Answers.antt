@@ -1,5 +1,0 @@
-use Rattle.cool_opt.proofs.FoldedTableFits.{folded_fits}
-use Rattle.cool_opt.proofs.laws.law_folded_fits.Goals as goal
-
-pub returns : goal.returns
-returns c = record { fits = folded_fits }

@@ -1,5 +1,0 @@
-use Rattle.cool_opt.proofs.FoldedTableIsTyped.{nothing_left}
-use Rattle.cool_opt.proofs.laws.law_nothing_left.Goals as goal
-
-pub returns : goal.returns
-returns c = record { done = nothing_left }
