@@ -1,7 +1,5 @@
 -- The lines of one more number.
-use Rattle.std.proofs.Common.{◌≡◌, ℕ, zero, suc, ◌+◌, List, ◌++◌, flat_map, ap, ◌∙◌, sym, append_assoc, arith}
-use Rattle.std.specs.List.{range_with_len}
-use Rattle.std.proofs.lemmas.List.{append-nil}
+use Rattle.std.proofs.Common.{◌≡◌, ℕ, suc, ◌+◌, ◌++◌, ap, ◌∙◌, arith}
 use Rattle.cool_big.specs.declared.line.Line.{Line}
 use Rattle.cool_big.specs.BigPrograms.{line_text, line_texts}
 use Rattle.lists.proofs.JoinedLists.{flat_more}

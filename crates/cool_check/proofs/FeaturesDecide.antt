@@ -1,7 +1,6 @@
 -- A feature is typed by the rules exactly where checking it finds no fault, where its names are different.
 use Rattle.std.proofs.Common.{◌≡◌, ◌<◌, ℕ, List, [], ◌∷◌, ◌++◌, map, length, Option, Some, None, sym, refl, subst}
 use Rattle.std.specs.Prelude.{Ok}
-use Rattle.std.specs.List.{AllByRecursion}
 use Rattle.cool_syntax.specs.declared.file_tree.Feature.{Feature}
 use Rattle.cool_syntax.specs.declared.file_tree.Feature.TheVariants.{Method, Attribute}
 use Rattle.cool_syntax.specs.declared.file_tree.AttributeDef.{AttributeDef}

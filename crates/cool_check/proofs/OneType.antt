@@ -1,12 +1,10 @@
 -- An expression has one type at most by the rules, in a class of a whole table where all names in scope have types of the table.
 use Rattle.std.proofs.Common.{◌≡◌, ◌<◌, List, [], length}
-use Rattle.std.specs.List.{AllByRecursion}
 use Rattle.cool_syntax.specs.Tree.{Tree}
 use Rattle.cool_classes.specs.declared.class_id.ClassId.{ClassId}
 use Rattle.cool_classes.specs.declared.class_id.Ty.{Ty}
 use Rattle.cool_classes.specs.Chains.{Class}
 use Rattle.cool_classes.specs.Tables.{IsWholeTable}
-use Rattle.cool_rules.specs.Conformance.{IsType}
 use Rattle.cool_rules.specs.Scopes.{AreTypes, Binding}
 use Rattle.cool_rules.specs.Typing.{HasType}
 use Rattle.cool_check.proofs.CheckedDecides.{checked_decides, one_of}

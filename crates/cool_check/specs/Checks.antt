@@ -1,14 +1,10 @@
 -- What the checks of expressions are asked and answer: what the definition gives, a value or the first fault, or that memory is wanting;
 -- and which types of nodes they add to those before.
-use Rattle.std.specs.Prelude.{◌≡◌, ℕ, ◌<◌, List, ◌++◌, length, map, Option, Result, Ok, IfOk, IfErr}
+use Rattle.std.specs.Prelude.{◌≡◌, ℕ, ◌<◌, List, ◌++◌, length, Result, Ok, IfOk, IfErr}
 use Rattle.std.specs.List.{AllByRecursion}
-use Rattle.std.specs.Option.{option_map}
 use Rattle.cool_syntax.specs.declared.file_tree.Feature.{Feature}
-use Rattle.cool_syntax.specs.declared.node.Node.{Node}
-use Rattle.cool_syntax.specs.declared.node.NodeBranch.{NodeBranch}
 use Rattle.cool_syntax.specs.declared.node.NodeId.{NodeId}
-use Rattle.cool_syntax.specs.Tree.{Tree, Trees, MaybeTree, Cases, of_list, of_option, of_twigs, tree_size}
-use Rattle.cool_syntax.specs.NodeLists.{all_trees, at_id, made, twig_at}
+use Rattle.cool_syntax.specs.Tree.{Tree, Trees, MaybeTree, Cases, tree_size}
 use Rattle.cool_syntax.specs.TreesWithinLimits.{IsFeatureWithin, IsTreeWithin}
 use Rattle.cool_classes.specs.declared.class_id.ClassId.{ClassId}
 use Rattle.cool_classes.specs.declared.class_id.Ty.{Ty}

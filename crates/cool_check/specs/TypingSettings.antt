@@ -1,10 +1,8 @@
 -- In what an expression is checked: a class of a whole table, where all names in scope have types of the table.
 use Rattle.std.specs.Prelude.{◌<◌, List, length}
-use Rattle.std.specs.List.{AllByRecursion}
 use Rattle.cool_classes.specs.declared.class_id.ClassId.{ClassId}
 use Rattle.cool_classes.specs.Chains.{Class}
 use Rattle.cool_classes.specs.Tables.{IsWholeTable}
-use Rattle.cool_rules.specs.Conformance.{IsType}
 use Rattle.cool_rules.specs.Scopes.{AreTypes, Binding}
 use Rattle.cool_check.specs.declared.typing_setting.TypingSetting.{TypingSetting}
 

@@ -11,12 +11,11 @@ use Rattle.cool_syntax.specs.declared.file_tree.Feature.TheVariants.{Method, Att
 use Rattle.cool_syntax.specs.declared.file_tree.Formal.{Formal}
 use Rattle.cool_classes.specs.declared.class_id.ClassId.{ClassId}
 use Rattle.cool_classes.specs.declared.class_id.Ty.TheVariants.{Class as IsClass, SelfType}
-use Rattle.cool_classes.specs.declared.fault.ClassKind.{ClassKind}
 use Rattle.cool_classes.specs.Chains.{Class, class_number, features_of, nothing}
 use Rattle.cool_classes.specs.Definitions.{HasFewFormals}
 use Rattle.cool_classes.specs.FirstNames.{first_index}
 use Rattle.cool_classes.specs.Tables.{IsClassName, IsTypeName, IsTyped}
-use Rattle.cool_classes.specs.FeatureFaults.{noted, is_class, type_faults, formal_faults, formals_faults, one_feature_faults, features_faults, class_faults, is_over_limit}
+use Rattle.cool_classes.specs.FeatureFaults.{is_class, type_faults, formal_faults, formals_faults, one_feature_faults, features_faults, class_faults, is_over_limit}
 use Rattle.cool_classes.specs.Names.{self_type}
 use Rattle.lists.proofs.JoinedLists.{none_both}
 use Rattle.cool_classes.proofs.NamesOfFeatures.{not_noted}

@@ -1,5 +1,5 @@
 -- The faults so far, with those that are left.
-use Rattle.std.proofs.Common.{◌≡◌, ℕ, zero, suc, ◌+◌, ◌<◌, ◌≤◌, List, is_some, [], ◌∷◌, ◌++◌, length, drop, get_or, Some, Option, None, ap, sym, ◌∙◌, refl, subst, arith, append_assoc, append-nil}
+use Rattle.std.proofs.Common.{◌≡◌, ℕ, zero, suc, ◌+◌, ◌<◌, ◌≤◌, List, is_some, [], ◌∷◌, ◌++◌, length, drop, get_or, Some, Option, None, ap, sym, ◌∙◌, refl, arith, append_assoc, append-nil}
 use Rattle.std.proofs.lemmas.List.{get_or-map, drop_more}
 use native.Mathlib.Numerals.{add-one}
 use Rattle.cool_syntax.specs.declared.place.Place.{Place}

@@ -1,8 +1,7 @@
 -- Where the features of a class have no fault, its formals and its attributes have different names.
 use Rattle.std.proofs.Common.{◌≡◌, ◌≢◌, ℕ, suc, ◌+◌, ◌<◌, List, [], ◌∷◌, ◌++◌, map, length, Option, Some, None, Bool, true, false, not, ◌||◌, cond, ap, sym, ◌∙◌, refl, subst, arith}
-use Rattle.std.specs.Prelude.{bytes_eq, nat_eq, slice_get, is_some}
+use Rattle.std.specs.Prelude.{bytes_eq, slice_get, is_some}
 use Rattle.std.specs.List.{AllByRecursion}
-use Rattle.std.proofs.lemmas.Slice.Eq.{bytes_eq-Decides}
 use Rattle.cool_syntax.specs.declared.place.Place.{Place}
 use Rattle.cool_syntax.specs.declared.file_tree.Feature.{Feature}
 use Rattle.cool_syntax.specs.declared.file_tree.Feature.TheVariants.{Method, Attribute}

@@ -19,7 +19,7 @@ use Rattle.cool_classes.specs.Entries.{as_class, classes, no_entry, depth_at, Ar
 use Rattle.cool_classes.specs.Names.{first_named, self_type}
 use Rattle.cool_classes.specs.Depths.{parents_with_basic, HasDepth, AreDepths}
 use Rattle.cool_classes.specs.Resolved.{AreResolved, AreGood, ArePlaced}
-use Rattle.cool_classes.specs.Settled.{basic_names, names_in, names_with_basic, parent_meant, parents_meant, entries_meant, entries_of, or_zero, or_object, IsParentKnown, AreSettled}
+use Rattle.cool_classes.specs.Settled.{basic_names, names_with_basic, parent_meant, parents_meant, entries_meant, entries_of, or_zero, or_object, IsParentKnown, AreSettled}
 use Rattle.cool_classes.proofs.AllOfLists.{all_map}
 use Rattle.cool_classes.proofs.BasicDepths.{basic_top, basic_below}
 use Rattle.cool_classes.proofs.GroundedByDepths.{grounded_by}

@@ -7,7 +7,7 @@ use Rattle.std.specs.Prelude.{bytes_eq}
 use Rattle.cool_classes.specs.declared.class_id.ClassId.{ClassId}
 use Rattle.cool_classes.specs.declared.entry.Entry.{Entry}
 use Rattle.cool_classes.specs.Chains.{class_at, nothing}
-use Rattle.cool_classes.specs.Entries.{classes, as_class, no_entry}
+use Rattle.cool_classes.specs.Entries.{classes, as_class}
 
 pub within_classes : (es : List Entry) (c : ClassId) → c.0 < length es → c.0 < length (classes es)
 within_classes es c h = subst (λ (n : ℕ). c.0 < n) (sym (length-map es as_class)) h

@@ -13,7 +13,6 @@ use Rattle.cool_syntax.proofs.TreesHaveNodes.{one_le_size}
 use Rattle.cool_syntax.specs.NodeLists.{root, root_of_maybe, roots, branch_roots, nodes, nodes_of_all, nodes_of_maybe, nodes_of_cases, all_trees, made, tree_at}
 use Rattle.mips_isa.specs.Lines.{Line, Name}
 use Rattle.cool_classes.specs.declared.class_id.Ty.{Ty}
-use Rattle.cool_classes.specs.ClimbedChains.{above}
 use Rattle.cool_rules.specs.Rules.{type_meant}
 use Rattle.cool_rules.specs.Scopes.{Binding}
 use Rattle.cool_rules.specs.TypedParts.{IsPart, Lies, TypedBody}
@@ -28,7 +27,7 @@ use Rattle.cool_codegen.specs.Spans as of_trees
 use Rattle.cool_codegen.specs.declared.code_setting.Wanted.{Wanted}
 use Rattle.cool_codegen.specs.declared.code_setting.Wanted.TheVariants.{Lines, Spans}
 use Rattle.cool_codegen.specs.Shown.{IsWithin, Shown, arms_spans, later, shown, whole}
-use Rattle.cool_codegen.specs.Numbered.{arguments_lines, arguments_spans, asked_at, branch_lines, branch_spans, branches_made, initial_lines, initial_spans, items_spans, lines_at, maybe_asked, no_constants, node_asked, node_lines, node_spans, nodes_before, own_span, spans_at, with_file, within_branch}
+use Rattle.cool_codegen.specs.Numbered.{arguments_lines, arguments_spans, asked_at, branches_made, initial_lines, initial_spans, items_spans, lines_at, no_constants, node_asked, node_lines, node_spans, nodes_before, own_span, spans_at, with_file, within_branch}
 use Rattle.cool_rules.proofs.PartsStand.{Stands, tree_there, top, first_stands, others_stand, first_branch_stands, other_branches_stand, one_stands, two_stand, maybe_stands, three_stand, all_stand}
 use Rattle.cool_codegen.proofs.ArmsInOrder.{all_put}
 use Rattle.cool_codegen.proofs.CodeByNumbers.{at_part, count_is, node_coded}

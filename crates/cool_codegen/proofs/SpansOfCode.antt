@@ -1,6 +1,6 @@
 -- Each span is the code of its tree: whatever lines have that their parts have too, where those begin, the code of each span has.
-use Rattle.std.proofs.Common.{◌≡◌, ℕ, ◌+◌, List, [], ◌∷◌, ◌++◌, map as each, Bool as Truth, true, false, ap, refl, ◌∙◌, subst}
-use Rattle.std.specs.Prelude.{if◌then◌else◌, nat_lt, codes, flat_map, Option, Some, None}
+use Rattle.std.proofs.Common.{◌≡◌, ℕ, ◌+◌, List, [], ◌∷◌, ◌++◌, map as each, ap, refl, ◌∙◌, subst}
+use Rattle.std.specs.Prelude.{if◌then◌else◌, codes, flat_map, Option, Some, None}
 use Rattle.std.specs.List.{AllByRecursion}
 use Rattle.cool_syntax.specs.declared.file_tree.Feature.{Feature}
 use Rattle.cool_syntax.specs.declared.file_tree.Feature.TheVariants.{Method, Attribute}
@@ -15,7 +15,7 @@ use Rattle.cool_runtime.specs.CodeOfCalls.{enter_lines}
 use Rattle.cool_runtime.specs.Routines.{push_lines}
 use Rattle.cool_layout.specs.Labels.{method_label}
 use Rattle.cool_consts.specs.Constants.{Constants}
-use Rattle.cool_codegen.specs.Arms.{Arm, with_arm, arms_lines}
+use Rattle.cool_codegen.specs.Arms.{Arm, arms_lines}
 use Rattle.cool_codegen.specs.Code.{Context, code, arguments_code, items_code, initial_code, arms_code, file_label, label_at, range_code}
 use Rattle.cool_codegen.specs.Features.{attributes_in, with_formals, feature_code, initial_value_code}
 use Rattle.cool_codegen.specs.Pieces.{case_begin_lines, case_end_lines, mark_lines, test_lines, turn_lines}

@@ -1,5 +1,5 @@
 -- The rows of an initializer, of a class and of classes, put together.
-use Rattle.std.proofs.Common.{◌≡◌, ◌∙◌, ℕ, ◌+◌, List, [], ◌∷◌, ◌++◌, length, flat_map, Bool, true, false, refl, sym, ap, ap₂, append_assoc, append-nil, arith}
+use Rattle.std.proofs.Common.{◌≡◌, ◌∙◌, ℕ, ◌+◌, List, [], ◌∷◌, ◌++◌, flat_map, Bool, true, false, sym, ap, ap₂, append_assoc, append-nil, arith}
 use Rattle.std.specs.Prelude.{nat_lt, if◌then◌else◌}
 use Rattle.std.proofs.lemmas.Grind.{flat_map-append}
 use Rattle.mips_isa.specs.Lines.{Line}
@@ -16,7 +16,7 @@ use Rattle.cool_emit.specs.CodeTables.{Row}
 use Rattle.cool_emit.specs.Programs.{attributes_in, begin_code, class_code, end_code, initializer_code, methods_in, parent_code, placed_code}
 use Rattle.cool_emit.specs.SpansOfPrograms.{told_in_class, told_in_initializer}
 use Rattle.cool_emit.specs.TableLines.{row_line}
-use Rattle.cool_emit.specs.Tellings.{Tells, TellsClass, TellsFeatures, TellsInitializer, constants, rows_of}
+use Rattle.cool_emit.specs.Tellings.{TellsClass, TellsFeatures, TellsInitializer, constants, rows_of}
 use Rattle.cool_emit.specs.declared.code_table.Told.{Told}
 use Rattle.cool_emit.specs.declared.emission.Emission.{Emission}
 use Rattle.cool_emit.proofs.PartsAreLight.{numbers_parts}

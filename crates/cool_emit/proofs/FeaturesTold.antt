@@ -15,7 +15,7 @@ use Rattle.cool_consts.specs.Constants.{Constants}
 use Rattle.cool_codegen.specs.Code.{Context}
 use Rattle.cool_codegen.specs.Features.{feature_code, with_formals}
 use Rattle.cool_codegen.specs.Shown.{Shown, shown}
-use Rattle.cool_codegen.specs.Spans.{Span, StandsBehind, code_of, feature_spans}
+use Rattle.cool_codegen.specs.Spans.{StandsBehind, code_of, feature_spans}
 use Rattle.cool_codegen.specs.declared.variables.Base.TheVariants.{Frame}
 use Rattle.cool_codegen.specs.Variables.{Named}
 use Rattle.cool_emit.proofs.KindsInAll.{kinds, kinds_of_feature}
@@ -23,10 +23,9 @@ use Rattle.cool_codegen.proofs.SpansOfCode.{Stands, law_feature}
 use Rattle.cool_codegen.proofs.SpansStand.{behind_front, behind_back}
 use Rattle.cool_emit.specs.Additions.{files_of}
 use Rattle.cool_emit.specs.CodeTables.{Row, attribute_row, formal_row, code_row, head_rows, shown_row}
-use Rattle.cool_emit.specs.Programs.{Placed}
 use Rattle.cool_emit.specs.SpansOfPrograms.{context_of}
 use Rattle.cool_emit.specs.TableLines.{named_text, row_line}
-use Rattle.cool_emit.specs.Tellings.{Tells, TellsFeatures, addresses, constants}
+use Rattle.cool_emit.specs.Tellings.{TellsFeatures, addresses, constants}
 use Rattle.cool_emit.specs.declared.code_table.Told.{Told}
 use Rattle.cool_emit.specs.declared.emission.Emission.{Emission}
 use Rattle.cool_emit.proofs.RowsStanding.{within}

@@ -3,14 +3,13 @@ use Rattle.std.proofs.Common.{◌≡◌, ◌∙◌, ℕ, suc, ◌+◌, ◌≤◌
 use Rattle.std.specs.Prelude.{Option, Some, None, Contains}
 use Rattle.std.specs.List.{AllByRecursion}
 use Rattle.std.proofs.lemmas.List.{length-append}
-use Rattle.std.proofs.lemmas.List.Elements.{All-contains, All-from_recursion}
 use Rattle.cool_syntax.specs.declared.file_tree.Feature.{Feature}
 use Rattle.cool_syntax.specs.declared.file_tree.Feature.TheVariants.{Method, Attribute}
 use Rattle.cool_syntax.specs.Tree.{Tree}
 use Rattle.mips_isa.specs.declared.address_map.TheConstants.{TEXT_START}
 use Rattle.mips_isa.specs.Lines.{Line}
 use Rattle.cool_classes.specs.declared.class_id.ClassId.{ClassId}
-use Rattle.cool_classes.specs.Chains.{Class, name_of}
+use Rattle.cool_classes.specs.Chains.{Class}
 use Rattle.cool_runtime.specs.Reaches.{World}
 use Rattle.cool_runtime.specs.Standing.{sizes, HasLines}
 use Rattle.cool_runtime.proofs.Pieces.{has_front, has_back}
@@ -21,10 +20,10 @@ use Rattle.cool_codegen.specs.Spans.{Span, StandsBehind, code_of, feature_spans}
 use Rattle.cool_codegen.specs.Variables.{Named}
 use Rattle.cool_codegen.proofs.SpansOfCode.{Stands, law_feature}
 use Rattle.cool_codegen.proofs.SpansStand.{behind_front, behind_back, behind_stands}
-use Rattle.cool_emit.specs.CodeTables.{Row, class_row, attribute_row, initial_row, method_row, formal_row, code_row, class_rows, head_rows, initial_rows, behind, shown_row, feature_rows, code_rows, table_rows}
-use Rattle.cool_emit.specs.Programs.{Placed, placed_code, program_constants, program_text}
+use Rattle.cool_emit.specs.CodeTables.{Row, attribute_row, initial_row, method_row, formal_row, class_rows, head_rows, initial_rows, behind, shown_row, feature_rows}
+use Rattle.cool_emit.specs.Programs.{Placed, placed_code, program_constants}
 use Rattle.cool_emit.specs.SpansOfPrograms.{context_of}
-use Rattle.cool_emit.specs.StandingRows.{StandsBetween, HasFeature, HasExpression, IsTrue, RowsStand}
+use Rattle.cool_emit.specs.StandingRows.{StandsBetween, HasFeature, IsTrue, RowsStand}
 use Rattle.cool_emit.proofs.SpansOfPrograms.{all_mapped, in_text}
 use Rattle.cool_emit.proofs.TellingParts.{sizes_append, take_front}
 use Rattle.lists.proofs.AllItems.{all_append}

@@ -1,7 +1,6 @@
 -- Parts of the code of a program that are told one behind the other, and the addresses of lines.
-use Rattle.std.proofs.Common.{◌≡◌, ◌∙◌, ℕ, zero, suc, ◌+◌, ◌*◌, ◌≤◌, ◌<◌, List, [], ◌∷◌, ◌++◌, length, flat_map, map, take, get_or, Bool, true, false, refl, sym, ap, ap₂, subst, append_assoc, append-nil, arith}
+use Rattle.std.proofs.Common.{◌≡◌, ◌∙◌, ℕ, zero, suc, ◌+◌, ◌*◌, ◌≤◌, ◌<◌, List, [], ◌∷◌, ◌++◌, length, flat_map, take, get_or, Bool, true, false, refl, sym, ap, ap₂, subst, append_assoc, append-nil, arith}
 use native.Mathlib.Numerals.{add-one}
-use Rattle.std.specs.List.{AllByRecursion}
 use Rattle.std.proofs.lemmas.Grind.{flat_map-append}
 use Rattle.mips_isa.specs.Assembly.{Need, need}
 use Rattle.mips_isa.specs.Lines.{Line}

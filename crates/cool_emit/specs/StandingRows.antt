@@ -1,7 +1,6 @@
 -- That the rows of the table of code say where code stands in the text of a machine.
 use Rattle.std.specs.Prelude.{◌≡◌, ℕ, ◌+◌, List, length, Contains}
 use Rattle.std.specs.List.{AllByRecursion}
-use Rattle.cool_syntax.specs.declared.file_tree.Feature.{Feature}
 use Rattle.mips_isa.specs.declared.address_map.TheConstants.{TEXT_START}
 use Rattle.mips_isa.specs.Lines.{Line}
 use Rattle.cool_classes.specs.declared.class_id.ClassId.{ClassId}

@@ -13,7 +13,7 @@ use Rattle.cool_syntax.specs.TokenFacts.{IsPlaced}
 use Rattle.cool_syntax.specs.Tree.{Tree, Trees, MaybeTree, Cases, Last, More, Without, With, NoCase, CaseOf, place_of}
 use Rattle.cool_syntax.specs.Tree as trees
 use Rattle.cool_syntax.specs.TreesWithinLimits.{AreCasesWithin, AreTreesWithin, IsFeatureWithin, IsMaybeWithin, IsTreeWithin}
-use Rattle.cool_syntax.specs.ConcreteTrees.{Operator, Arith, Compare, Unary, Not, IsVoid, Neg, Constant, Int, Str, Truth, Concrete, Name, Literal, New, Paren, Dispatch, If, While, Block, Case, Binary, Before, Callee, OfSelf, Of, OfClass, Args, NoArgs, Given, Parts, NoPart, Then, Branches, NoBranch, Also, Branch, On, Prefix, Let, Assign, Mark, Bindings, NoBinding, Next, Binding, Default, Init, ConcreteFeature, Method, Attribute, Initialized}
+use Rattle.cool_syntax.specs.ConcreteTrees.{Operator, Arith, Compare, Not, IsVoid, Neg, Int, Str, Truth, Concrete, Name, Literal, New, Paren, Dispatch, If, While, Block, Case, Binary, Before, Callee, OfSelf, Of, OfClass, Args, NoArgs, Given, Parts, NoPart, Then, Branches, NoBranch, Also, Branch, On, Prefix, Let, Assign, Mark, Bindings, NoBinding, Next, Binding, Default, Init, ConcreteFeature, Method, Attribute, Initialized}
 use Rattle.cool_syntax.specs.PlainTrees.{operation, plain, plain_call, plain_args, plain_parts, plain_branches, plain_branch, plain_prefix, plain_bindings, plain_binding, plain_feature}
 use Rattle.cool_syntax.specs.Readings.{word, symbol, reading, callee_reading, args_reading, parts_reading, branches_reading, branch_reading, prefix_reading, bindings_reading, binding_reading, signature_reading, feature_reading}
 use Rattle.lists.proofs.AllItems.{all_left, all_right}

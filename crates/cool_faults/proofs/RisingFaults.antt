@@ -1,7 +1,7 @@
 -- The typing faults of files that are trees, class by class and feature by feature, stand in rising places: the tokens of a feature stand
 -- behind those of the features before it. So two of them at one place are one.
 use Rattle.std.proofs.Common.{◌≡◌, ◌⊎◌, inl, inr, ℕ, ◌+◌, ◌<◌, ◌≤◌, suc, List, [], ◌∷◌, ◌++◌, map, length, ap, sym, ◌∙◌, refl, subst, arith, append_assoc, append-nil}
-use Rattle.std.specs.Prelude.{Ok, Err, IfErr, Some, None}
+use Rattle.std.specs.Prelude.{Ok, Err, IfErr}
 use Rattle.std.specs.List.{AllByRecursion}
 use Rattle.cool_syntax.specs.declared.file_tree.ClassDef.{ClassDef}
 use Rattle.cool_syntax.specs.declared.file_tree.Feature.{Feature}

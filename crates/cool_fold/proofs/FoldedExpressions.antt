@@ -1,7 +1,6 @@
 -- The folded expression keeps the meaning, and no meter grows, where calls do.
 use Rattle.std.proofs.Common.{◌≡◌, ◌*◌, ◌≢◌, ℕ, suc, ◌<◌, List, [], ◌∷◌, map, length, Option, Some, Bool, true, false, ap, sym, ◌∙◌, refl, subst, neg_ℤ, not}
 use Rattle.std.specs.Prelude.{if◌then◌else◌, bytes_eq, slice_get}
-use Rattle.std.specs.List.{AllByRecursion}
 use Rattle.std.proofs.lemmas.Slice.Eq.{bytes_eq-Decides}
 use Rattle.cool_classes.specs.declared.class_id.ClassId.{ClassId}
 use Rattle.cool_classes.specs.declared.class_id.Ty.{Ty}
@@ -9,7 +8,6 @@ use Rattle.cool_classes.specs.declared.class_id.Ty.TheVariants.{Class as IsClass
 use Rattle.cool_classes.specs.Chains.{Class, name_of, Below}
 use Rattle.cool_classes.specs.Features.{Denotes}
 use Rattle.cool_rules.specs.Conformance.{class_of as class_meant}
-use Rattle.cool_rules.specs.Conformance.{IsType}
 use Rattle.cool_rules.specs.Scopes.{AreTypes, Binding}
 use Rattle.cool_rules.specs.Typing.{int_type, bool_type, object_type, with_name, HasType, HaveTypes, HaveItems, HasInit, HaveBranches}
 use Rattle.cool_rules.specs.TypedTables.{IsTypedTable}

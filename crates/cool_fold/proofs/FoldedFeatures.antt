@@ -1,7 +1,6 @@
 -- Every feature of a typed table, folded, fits what it declares as before, and nothing is left to fold in it.
 use Rattle.std.proofs.Common.{◌≡◌, ◌++◌, ℕ, ◌<◌, List, [], length, Option, Some, None, ap, sym, subst}
 use Rattle.std.specs.Prelude.{slice_get}
-use Rattle.std.specs.List.{AllByRecursion}
 use Rattle.cool_syntax.specs.declared.file_tree.Feature.{Feature}
 use Rattle.cool_syntax.specs.declared.file_tree.Feature.TheVariants.{Attribute}
 use Rattle.cool_syntax.specs.declared.file_tree.Feature.TheVariants.{Method}
@@ -15,7 +14,6 @@ use Rattle.cool_classes.specs.ClimbedChains.{chain as chain_of}
 use Rattle.cool_syntax.specs.Tree.{Tree}
 use Rattle.cool_classes.specs.Features.{attributes_of}
 use Rattle.cool_classes.proofs.ChainsOfTables.{chain_of as chain_by}
-use Rattle.cool_rules.specs.Conformance.{IsType}
 use Rattle.cool_rules.specs.NodeTypes.{own_scope}
 use Rattle.cool_fold.specs.Folding.{fold}
 use Rattle.cool_fold.specs.Foldable.{IsDone}

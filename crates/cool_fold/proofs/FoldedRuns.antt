@@ -15,7 +15,6 @@ use Rattle.cool_classes.specs.Features.{attributes_of, formals_in}
 use Rattle.cool_classes.proofs.AttributesOfChains.{attributes_have}
 use Rattle.cool_classes.proofs.Climbs.{all_within}
 use Rattle.cool_rules.specs.Conformance.{class_of as class_meant}
-use Rattle.cool_rules.specs.Conformance.{IsType}
 use Rattle.cool_rules.specs.Scopes.{AreTypes, Binding}
 use Rattle.cool_rules.specs.Typing.{HasType}
 use Rattle.cool_rules.specs.Typing.{FitsDeclared, IsTypedInit, formals_in_scope, attributes_in_scope}

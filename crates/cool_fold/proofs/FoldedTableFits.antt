@@ -15,7 +15,6 @@ use Rattle.cool_classes.specs.Features.{attributes_of}
 use Rattle.cool_classes.specs.Limits.{IsImplemented, KeepsLimits}
 use Rattle.cool_classes.proofs.AlikeTables.{FindSame, flipped}
 use Rattle.cool_classes.proofs.ChainsOfTables.{chain_of}
-use Rattle.cool_rules.specs.Conformance.{IsType}
 use Rattle.cool_rules.specs.Fits.{weight_of, Fits}
 use Rattle.cool_rules.specs.Scopes.{AreTypes, Binding}
 use Rattle.cool_rules.specs.TypedTables.{IsTypedTable}

@@ -1,7 +1,6 @@
 -- A folded expression has the type that the expression has.
 use Rattle.std.proofs.Common.{◌≡◌, ℕ, ℤ, ◌<◌, List, [], ◌∷◌, length, Option, Some, None, Bool as Truth, true, false, refl, sym, ap, ◌∙◌, subst, neg_ℤ}
 use Rattle.std.specs.Prelude.{int_lt, int_le, if◌then◌else◌}
-use Rattle.std.specs.List.{AllByRecursion}
 use Rattle.cool_syntax.specs.declared.place.Place.{Place}
 use Rattle.cool_syntax.specs.declared.operator.ArithOp.{ArithOp}
 use Rattle.cool_syntax.specs.declared.operator.CompareOp.{CompareOp}

@@ -2,7 +2,6 @@
 -- the source.
 use Rattle.std.proofs.Common.{◌≡◌, ℕ, ◌<◌, ◌^◌, ℤ, pos, negsuc, neg_ℤ, List, [], ◌∷◌, length, Option, Some, None, Bool as Truth, true, false, refl, sym, subst, arith}
 use Rattle.std.specs.Prelude.{int_lt, int_le, int_div, ◌+ℤ◌, ◌-ℤ◌, ◌*ℤ◌, if◌then◌else◌}
-use Rattle.std.specs.List.{AllByRecursion}
 use Rattle.cool_syntax.specs.declared.place.Place.{Place}
 use Rattle.cool_syntax.specs.declared.operator.ArithOp.{ArithOp}
 use Rattle.cool_syntax.specs.declared.operator.ArithOp.TheVariants.{Add, Sub, Mul, Div}
@@ -17,7 +16,7 @@ use Rattle.cool_classes.specs.declared.class_id.Ty.{Ty}
 use Rattle.cool_classes.specs.declared.class_id.Ty.TheVariants.{Class as IsClass}
 use Rattle.cool_classes.specs.Chains.{Class, name_of}
 use Rattle.cool_classes.specs.Tables.{IsWholeTable}
-use Rattle.cool_rules.specs.Conformance.{IsType, class_of}
+use Rattle.cool_rules.specs.Conformance.{class_of}
 use Rattle.cool_rules.specs.Rules.{same_type}
 use Rattle.cool_rules.specs.Scopes.{AreTypes, Binding}
 use Rattle.cool_rules.specs.Typing.{bool_type, int_type, object_type, with_name, HasType, HaveTypes, HaveItems, HasInit, HaveBranches}

@@ -1,6 +1,5 @@
 -- The names in scope of the expression of a feature have types of the table.
 use Rattle.std.proofs.Common.{◌++◌, List}
-use Rattle.std.specs.List.{AllByRecursion}
 use Rattle.cool_classes.specs.declared.class_id.ClassId.{ClassId}
 use Rattle.cool_classes.specs.Chains.{Class}
 use Rattle.cool_classes.specs.ClimbedChains.{chain}

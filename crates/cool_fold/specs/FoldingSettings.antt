@@ -1,14 +1,11 @@
 -- In what an expression is folded: a class of a whole table, where the column of the body has a type of the table for each node; and the
 -- trees that numbers of the body stand for.
-use Rattle.std.specs.Prelude.{◌≡◌, ◌<◌, List, length, map, slice_get, Option, Some}
+use Rattle.std.specs.Prelude.{◌≡◌, ◌<◌, List, length, slice_get, Some}
 use Rattle.std.specs.List.{AllByRecursion}
-use Rattle.std.specs.Option.{option_map}
 use Rattle.cool_syntax.specs.declared.node.Node.{Node}
-use Rattle.cool_syntax.specs.declared.node.NodeBranch.{NodeBranch}
 use Rattle.cool_syntax.specs.declared.node.NodeId.{NodeId}
-use Rattle.cool_syntax.specs.Tree.{Tree, Trees, MaybeTree, Cases, of_list, of_option, of_twigs, tree_size}
-use Rattle.cool_syntax.specs.NodeLists.{all_trees, at_id, made, twig_at, tree_of_node}
-use Rattle.cool_classes.specs.Chains.{Class}
+use Rattle.cool_syntax.specs.Tree.{tree_size}
+use Rattle.cool_syntax.specs.NodeLists.{tree_of_node}
 use Rattle.cool_classes.specs.Tables.{IsWholeTable}
 use Rattle.cool_rules.specs.Conformance.{IsType}
 use Rattle.cool_rules.specs.Scopes.{AreTypes, Binding}

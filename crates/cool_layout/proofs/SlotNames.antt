@@ -4,7 +4,6 @@ use Rattle.std.specs.Prelude.{bytes_eq, nat_lt, position, option_map, ifâ—Œthenâ
 use Rattle.std.specs.List.{position_or_len, list_any}
 use Rattle.std.proofs.lemmas.List.{append-nil}
 use Rattle.std.proofs.lemmas.List.Folds.{list_any-append}
-use Rattle.std.proofs.lemmas.Slice.Eq.{bytes_eq-Decides}
 use Rattle.cool_syntax.specs.declared.file_tree.Feature.{Feature}
 use Rattle.cool_syntax.specs.declared.file_tree.Feature.TheVariants.{Method, Attribute}
 use Rattle.cool_classes.specs.declared.class_id.ClassId.{ClassId}

@@ -2,7 +2,7 @@
 use Rattle.std.proofs.Common.{◌≡◌, ℕ, suc, ◌+◌, ◌-◌, ◌<◌, List, [], ◌∷◌, ◌++◌, length, flat_map, get_or, Option, Some, None, refl, sym, ap, ◌∙◌, subst, arith, inl, inr, append_assoc}
 use Rattle.std.specs.Prelude.{reverse, slice_get}
 use Rattle.std.specs.List.{AllByRecursion}
-use Rattle.std.proofs.lemmas.List.{append-nil, reverse-append, reverse-reverse, get_or_append_left, get_or_push, length_push}
+use Rattle.std.proofs.lemmas.List.{reverse-append, reverse-reverse, get_or_append_left, get_or_push, length_push}
 use Rattle.std.proofs.lemmas.List.Concat.{flat_map-append}
 use Rattle.std.proofs.lemmas.Bool.{cases_eq}
 use Rattle.cool_classes.specs.declared.class_id.ClassId.{ClassId}
@@ -10,7 +10,7 @@ use Rattle.cool_classes.specs.Chains.{Class, class_number}
 use Rattle.cool_layout.specs.Preorder.{children, family, preorder}
 use Rattle.cool_layout.specs.Roots.{IsRooted}
 use Rattle.cool_layout.specs.Walks.{AreNext}
-use Rattle.cool_layout.proofs.Families.{family_step, children_are, IsChild, object_in}
+use Rattle.cool_layout.proofs.Families.{family_step, children_are, IsChild}
 use Rattle.lists.proofs.AllItems.{all_append}
 
 pub record Walking (p : List Class) (order : List ClassId) (next : List (Option ClassId)) (waiting : List ClassId) : Type 0 where

@@ -9,7 +9,7 @@ use Rattle.cool_syntax.specs.declared.token.Sign.TheVariants as sign
 use Rattle.cool_syntax.specs.declared.lexical.LexKind.TheVariants.{L6, L7}
 use Rattle.cool_syntax.specs.Lexemes as lexemes
 use Rattle.cool_lexer.specs.Views as views
-use Rattle.cool_syntax.specs.Lexemes.{Form, Space, Comment, Lexeme, Class, Capital, Small, Digit, Quote, White, Dash, Star, Open, Angle, Equals, Single, Stray, class_of, is_digit, is_in_word, value, comment_size, constant, is_whole, lexeme_if, comment_if, string_of, dash, open_sign, angle, equals, alone, form_of, word, form}
+use Rattle.cool_syntax.specs.Lexemes.{Form, Comment, Class, Capital, Small, Digit, Quote, White, Dash, Star, Open, Angle, Equals, Single, Stray, class_of, is_digit, is_in_word, value, comment_size, constant, is_whole, lexeme_if, comment_if, string_of, dash, open_sign, angle, equals, alone}
 use Rattle.cool_syntax.specs.LexicalStructure.{fault_if}
 use Rattle.cool_lexer.specs.declared.front.Front.{Front}
 use Rattle.cool_lexer.specs.declared.front.Front.TheVariants.{Item, Fault}

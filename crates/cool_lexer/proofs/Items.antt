@@ -7,7 +7,6 @@ use Rattle.cool_lexer.specs.declared.front.Front.{Front}
 use Rattle.cool_lexer.specs.declared.front.Front.TheVariants.{Item, Fault}
 use Rattle.cool_lexer.specs.Views.{form_seen}
 use Rattle.cool_lexer.specs.Fronts.{IsAfter, IsFront, front_of, Begins}
-use Rattle.std.proofs.lemmas.List.{take_all}
 use Rattle.cool_lexer.proofs.FrontsAreItems.{front_is}
 use Rattle.lists.proofs.ItemsLeft.{first_and_tail}
 

@@ -22,11 +22,11 @@ use Rattle.cool_parser.specs.declared.item.Item.{Item}
 use Rattle.cool_parser.specs.declared.mode.Mode.TheVariants as mode
 use Rattle.cool_parser.specs.Levels as levels
 use Rattle.cool_parser.specs.ParsingMachine as machine
-use Rattle.cool_parser.specs.ParsingMachine.{Context, State, Reduced, reduced, node_if, nodes_of}
-use Rattle.cool_parser.proofs.ConcreteMachine.{Opened, OpenMethod, ClosedMethod, Around, InMethod, InAttribute, Target, Dot, StaticDot, OpenCase, Form, Parenthesis, Arguments, IfTest, IfYes, IfNo, WhileTest, WhileBody, Items, Value, CaseValue, BranchBody, Left, Front, Open}
+use Rattle.cool_parser.specs.ParsingMachine.{Context, State}
+use Rattle.cool_parser.proofs.ConcreteMachine.{Opened, Around, InMethod, InAttribute, Dot, StaticDot, OpenCase, Form, Parenthesis, Arguments, IfTest, IfYes, IfNo, WhileTest, WhileBody, Items, Value, CaseValue, BranchBody, Left, Front, Open}
 use Rattle.cool_parser.proofs.ConcreteMachine.{Need, Identifier, Have, StaticClass, StaticEnd, MethodName, CallParenthesis, FirstArgument, NextItem, LetName, LetColon, LetType, LetEnd, BranchName, BranchColon, BranchType, BranchArrow, NextBranch, NewType}
 use Rattle.cool_parser.proofs.ConcreteMachine.{File, ClassName, ClassHead, ParentName, ClassBrace, InClass, ClassEnd, FeatureName, FirstFormal, FormalName, FormalColon, FormalType, FormalEnd, ResultColon, ResultType, MethodBrace, MethodEnd, AttributeType, AttributeEnd, Inside}
-use Rattle.cool_parser.proofs.ConcreteMachine.{Top, reduce, with_branch, callee_of}
+use Rattle.cool_parser.proofs.ConcreteMachine.{Top, reduce, with_branch}
 use Rattle.cool_parser.proofs.ConcreteMachine as concrete
 use Rattle.cool_parser.proofs.NodesOfConcreteTrees.{Laid, lay, number, parts_laid, bindings_laid, self_at, callee_laid, case_laid, form_laid, laid, variable, between_of, parts_numbers, branch_nodes, call_of, open_case, bindings_items, form_items, open_class, body_item, prefix_items, items, classes_of, context, shown, laid_counted, operand_shown, regroup, regroup_four, dispatch_list, block_list, case_list, top_shown, level_shown, reduced_shown}
 

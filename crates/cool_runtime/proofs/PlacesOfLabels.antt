@@ -3,18 +3,15 @@ use Rattle.std.proofs.Common.{◌≡◌, ℕ, suc, ◌+◌, ◌*◌, ◌<◌, �
 use Rattle.std.specs.Prelude.{if◌then◌else◌, ◌||◌, bytes_eq}
 use Rattle.std.proofs.lemmas.List.Folds.{list_any-append}
 use Rattle.std.proofs.lemmas.Slice.Eq.{bytes_eq-Decides}
-use Rattle.mips_isa.specs.declared.asm_fault.AsmKind.{AsmKind}
 use Rattle.mips_isa.specs.declared.asm_fault.AsmKind.TheVariants.{A5, A8, A9}
-use Rattle.mips_isa.specs.declared.asm_fault.AsmFault.{AsmFault}
 use Rattle.mips_isa.specs.declared.place.Place.{Place}
 use Rattle.mips_isa.specs.declared.place.Segment.{Segment}
 use Rattle.mips_isa.specs.declared.place.Segment.TheVariants.{Text, Data}
 use Rattle.mips_isa.specs.Lines.{Name, Line}
 use Rattle.mips_isa.specs.declared.address_map.TheConstants.{TEXT_START}
-use Rattle.mips_isa.specs.Assembly.{Need, Nothing, Words, Item, Switch, Padding, need, Position, after_need, after_line, padded, first_pass, fault_or, defining_fault, is_wrong, any_twice, is_too_large, has, place_from, place_in, next_item, item_or, address_or_zero, is_text}
+use Rattle.mips_isa.specs.Assembly.{Need, Nothing, Words, Item, Switch, Padding, need, Position, after_need, after_line, first_pass, defining_fault, is_wrong, any_twice, is_too_large, has, place_from, place_in, next_item, item_or, address_or_zero, is_text}
 use Rattle.mips_asm.specs.Passes.{Fits, after_lines}
 use Rattle.mips_asm.proofs.LinePlaces.{position_fits, fine_here}
-use Rattle.mips_asm.specs.TextWords.{words_needed}
 use Rattle.std.proofs.lemmas.Bool.{or_left, or_right, or_parts}
 use Rattle.mips_asm.proofs.WordsOfText.{words_after}
 

@@ -18,7 +18,7 @@ use Rattle.mips_isa.specs.Words.{bits_of}
 use Rattle.mips_isa.specs.declared.address_map.TheConstants.{TEXT_START}
 use Rattle.mips_isa.specs.Bytes.{Bytes, Segments, writable, readable, lies}
 use Rattle.mips_isa.specs.Machine as machine
-use Rattle.mips_isa.specs.Machine.{Core, Registers, set_register, wrap, three_result, imm_result, two_result, one_result, put, put_or_overflow, mem, mul_div, step, act, access, word_of_text, On, Call}
+use Rattle.mips_isa.specs.Machine.{Core, Registers, set_register, wrap, three_result, imm_result, two_result, one_result, put, put_or_overflow, mem, mul_div, step, act, access}
 use Rattle.mips_isa.specs.Calls.{State, Running, Exited, call, print_string}
 use Rattle.mips_isa.specs.Run.{cycle, after}
 use Rattle.mips_isa.specs.Lines.{Name, AsmInstr, Plain, ToTwo, ToOne, ToJump, La, Li, Move, B, BranchZero, Statement, Empty, Instruction, Line}

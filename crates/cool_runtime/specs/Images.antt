@@ -2,7 +2,7 @@
 use Rattle.std.specs.Prelude.{◌≡◌, ◌+◌, ◌*◌, ◌<◌, List, [], ◌∷◌, length, None}
 use Rattle.mips_isa.specs.declared.address_map.TheConstants.{TEXT_START, MOST_TEXT_WORDS}
 use Rattle.mips_isa.specs.Lines.{Line, AreInRange}
-use Rattle.mips_isa.specs.Assembly.{Need, Nothing, Words, Item, Switch, Padding, need, Position, after_line, fault_of_all, image_of_all, place_of, address_or_zero}
+use Rattle.mips_isa.specs.Assembly.{Need, Nothing, Words, Item, Switch, Padding, need, fault_of_all, image_of_all, place_of, address_or_zero}
 use Rattle.cool_runtime.specs.Reaches.{World}
 
 -- the text of a run is that of the image of lines, which are already completed, have no fault and do not fill the text to its end

@@ -3,7 +3,6 @@ use Rattle.std.proofs.Common.{◌≡◌, ◌≢◌, ◌⊎◌, inl, inr, ℕ, su
 use Rattle.std.specs.Prelude.{nat_lt, if◌then◌else◌, Option, Some, None, Result, Ok, Err}
 use Rattle.std.proofs.Math.Seq.{drop-append_seam}
 use Rattle.std.proofs.Math.Seq.{take-append_seam}
-use Rattle.cool_syntax.specs.declared.token.TokenKind.{TokenKind}
 use Rattle.cool_faults.specs.declared.fault.Fault.{Fault}
 use Rattle.cool_faults.specs.Verdicts.{IsFaultList}
 use Rattle.cool_faults.proofs.OneVerdict.{one_list}
@@ -17,7 +16,6 @@ use Rattle.cool_session.specs.Fresh.{Base, Differ, IsFresh, Types}
 use Rattle.cool_session.specs.Fresh as fresh
 use Rattle.cool_session.specs.Held.{Held, with_file, without_file, with_base}
 use Rattle.cool_session.specs.Replies.{reply_lines}
-use Rattle.cool_session.specs.Signatures.{ClassSignature, signatures}
 use Rattle.cool_session.proofs.ChecksOfFiles.{one_base}
 use Rattle.std.proofs.lemmas.Bool.{cases_lt}
 

@@ -1,7 +1,7 @@
 -- Code with marks at the first words of expressions alone: the pieces of an expression's own code, those between its parts and behind them,
 -- have none, nor has what follows the first word where no part stands first.
 use Rattle.std.specs.Prelude.{◌≡◌, ℕ, ◌+◌, ◌-◌, ◌%◌, ◌<◌, ◌≤◌, List, [], ◌∷◌, codes, Bool as Truth, false, Some, IfSome, flat_map, Contains}
-use Rattle.cool_syntax.specs.Tree.{Tree, Trees, Last, More, Without, With, tree_size, maybe_size}
+use Rattle.cool_syntax.specs.Tree.{Tree, Trees, Last, More, Without, With, tree_size}
 use Rattle.cool_syntax.specs.Tree as trees
 use Rattle.cool_syntax.specs.NodeLists.{root}
 use Rattle.cool_rules.specs.Rules.{type_meant}

@@ -1,7 +1,5 @@
 -- The note of a status that was told.
-use Rattle.std.proofs.Common.{◌≡◌, ◌≢◌, ◌⊎◌, inl, inr, ℕ, List, ap, ◌∙◌, sym}
-use Rattle.std.specs.Prelude.{Option}
-use Rattle.cool_ports.specs.SinkBytes.{appended}
+use Rattle.std.proofs.Common.{◌≡◌, ◌≢◌, ◌⊎◌, inl, inr, ap, ◌∙◌, sym}
 use Rattle.cool_sources.specs.declared.status.Status.{Status}
 use Rattle.cool_sources.specs.declared.status.Status.TheVariants.{WriteFault}
 

@@ -5,7 +5,7 @@ use Rattle.std.proofs.ByRecursion.{All-append}
 use Rattle.cool_syntax.specs.declared.place.Place.{Place}
 use Rattle.cool_syntax.specs.declared.token.Token.{Token}
 use Rattle.cool_syntax.specs.declared.file_tree.ClassDef.{ClassDef}
-use Rattle.cool_syntax.specs.Tree.{Tree, Trees, Cases, Last, More, NoCase, CaseOf}
+use Rattle.cool_syntax.specs.Tree.{Tree, Trees, Cases, Last, More, NoCase}
 use Rattle.cool_syntax.specs.Tree as trees
 use Rattle.cool_syntax.specs.ConcreteTrees.{Operator, Arith, Compare, Unary, Not, IsVoid, Neg, Constant, Int, Str, Truth, Concrete, Name, Literal, New, Paren, Dispatch, If, While, Block, Case, Binary, Before, Callee, OfSelf, Of, OfClass, Args, NoArgs, Given, Parts, NoPart, Then, Branches, NoBranch, Also, Branch, On, Prefix, Let, Assign, Mark, Bindings, NoBinding, Next, Binding, Default, Init, ConcreteFeature, Method, Attribute, Initialized, Features, NoFeature, Another, Classes, NoClass, Class}
 use Rattle.cool_syntax.specs.PlainTrees.{operation, marked, constant, plain, plain_call, plain_args, plain_parts, plain_branches, plain_branch, plain_prefix, plain_bindings, plain_binding, plain_feature, plain_features, plain_class, plain_file}

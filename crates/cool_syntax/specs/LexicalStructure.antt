@@ -12,7 +12,7 @@ use Rattle.cool_syntax.specs.declared.token.Key.TheVariants as key
 use Rattle.cool_syntax.specs.declared.token.Sign.TheVariants as sign
 use Rattle.cool_syntax.specs.declared.lexical.LexKind.{LexKind}
 use Rattle.cool_syntax.specs.declared.lexical.LexKind.TheVariants.{L1, L2, L3, L4, L5, L6, L7, L8}
-use Rattle.cool_syntax.specs.Lexemes.{Form, Space, Comment, Lexeme, Class, class_of, is_digit, value, Piece, piece, is_backslash, comment_size, form}
+use Rattle.cool_syntax.specs.Lexemes.{Form, Lexeme, Class, class_of, is_digit, value, Piece, piece, is_backslash, comment_size, form}
 use Rattle.cool_syntax.specs.Lexemes as lexemes
 
 -- The place of a text's k-th byte in a file. Its line is 1 and a line more for each newline before it.

@@ -1,5 +1,5 @@
 -- The first pass, line by line.
-use Rattle.std.specs.Prelude.{◌≡◌, ℕ, suc, ◌+◌, List, [], ◌∷◌, ◌++◌, length, Option, Some, None, is_some, Bool, true, false, refl}
+use Rattle.std.specs.Prelude.{◌≡◌, ℕ, suc, ◌+◌, List, [], ◌∷◌, ◌++◌, length, Option, Some, None, is_some, true, false, refl}
 use Rattle.std.proofs.Common.{ap, sym, ◌∙◌, append_assoc, append-nil, arith, length-append, flat_map, subst}
 use Rattle.mips_isa.specs.declared.asm_fault.AsmKind.{AsmKind}
 use Rattle.mips_isa.specs.declared.asm_fault.AsmFault.{AsmFault}

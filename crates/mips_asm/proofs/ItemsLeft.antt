@@ -1,12 +1,10 @@
 -- The items of `.word`, one after another.
-use Rattle.std.proofs.Common.{◌≡◌, refl, sym, ◌∙◌, ap, ℕ, List, ◌∷◌, ◌++◌, flat_map, true, false, not, is_some, Option, Some, None}
-use Rattle.std.proofs.lemmas.List.{append_assoc}
+use Rattle.std.proofs.Common.{◌≡◌, ◌∙◌, ℕ, List, ◌∷◌, ◌++◌, flat_map, Option}
 use Rattle.std.specs.List.{AllByRecursion}
 use Rattle.mips_isa.specs.declared.place.Place.{Place}
-use Rattle.mips_isa.specs.declared.asm_fault.AsmKind.TheVariants.{A6}
-use Rattle.mips_isa.specs.Lines.{Name, WordItem, Number, Address, IsItem}
+use Rattle.mips_isa.specs.Lines.{Name, WordItem, IsItem}
 use Rattle.mips_isa.specs.Assembly.{item_value, four_bytes, address_or_zero}
-use Rattle.mips_asm.specs.Parts.{items_fault, word_in, address_if}
+use Rattle.mips_asm.specs.Parts.{items_fault}
 
 -- the bytes of items
 abbrev pub bytes_of_items : (Name → Option Place) → List WordItem → List ℕ

@@ -1,13 +1,8 @@
 -- What a loop over a list has left.
-use Rattle.std.proofs.Common.{◌≡◌, ℕ, zero, suc, ◌+◌, ◌<◌, List, [], ◌∷◌, length, drop, get_or, ap, sym, ◌∙◌, Option, Some, None, is_some, false, refl, true≢false, arith, nat_lt, IfSome, slice_get, subst}
-use Rattle.std.specs.Option.{option_copied}
+use Rattle.std.proofs.Common.{◌≡◌, ℕ, zero, suc, ◌+◌, ◌<◌, List, [], ◌∷◌, drop, ◌∙◌, true≢false, arith, subst}
 use Rattle.mips_isa.specs.declared.line.Line as declared_line
 use Rattle.mips_isa.specs.Lines.{line_of, lines_of, IsInRange, AreInRange}
-use Rattle.std.proofs.lemmas.Option.{slice_get_past, slice_get-get_or}
-use Rattle.std.proofs.lemmas.Bool.{ltb-false}
-use borrow.Author.Tests.{ltb-true}
 use denote.Ref.{Bor}
-use Rattle.std.proofs.Math.Seq.{drop-cons}
 
 -- the numbers of the lines from an index on are in their ranges
 ranges_rest : (lines : List declared_line.Line) (k : ℕ) → AreInRange (lines_of lines) → AreInRange (lines_of (drop k lines))

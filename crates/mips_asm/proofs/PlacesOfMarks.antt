@@ -7,14 +7,14 @@ use Rattle.mips_isa.specs.declared.place.Segment.{Segment}
 use Rattle.mips_isa.specs.declared.place.Segment.TheVariants.{Text, Data}
 use Rattle.mips_isa.specs.declared.place.Place.{Place}
 use Rattle.mips_isa.specs.declared.asm_fault.AsmFault.{AsmFault}
-use Rattle.mips_isa.specs.declared.address_map.TheConstants.{TEXT_START, DATA_START}
+use Rattle.mips_isa.specs.declared.address_map.TheConstants.{DATA_START}
 use Rattle.mips_isa.specs.Lines.{Name, Line}
 use Rattle.mips_isa.specs.Assembly.{Need, Nothing, Words, Item, Switch, Padding, Position, start_position, after_line, need, up, next_item, item_or, place_in, place_from, place_of, has, in_text, start_name, main_name, added_lines, completed, first_pass}
 use Rattle.mips_asm.specs.declared.mark.Mark.{Mark}
 use Rattle.mips_asm.specs.declared.first_pass.FirstPass.{FirstPass}
 use Rattle.mips_asm.specs.Passes.{after_lines, item_in, items_from, mark_in, marked, table_from, shown, marks_text, is_lacking}
 use Rattle.mips_asm.specs.Places.{LabelParts, item_place, place_at, places_of}
-use Rattle.mips_asm.specs.FirstPasses.{HasTaken, IsPassed, Passed}
+use Rattle.mips_asm.specs.FirstPasses.{HasTaken, IsPassed}
 use Rattle.lists.proofs.ItemsAt.{seam_get}
 
 -- a look-up in the labels of a line, and then in others

@@ -1,5 +1,5 @@
 -- What the first pass knows after lines.
-use Rattle.std.specs.Prelude.{◌≡◌, ℕ, List, [], ◌++◌, length, Option, None, Some}
+use Rattle.std.specs.Prelude.{◌≡◌, List, [], ◌++◌, length, Option, None, Some}
 use Rattle.mips_isa.specs.declared.asm_fault.AsmFault.{AsmFault}
 use Rattle.mips_isa.specs.Lines.{Line}
 use Rattle.mips_isa.specs.Assembly.{start_position, first_pass}

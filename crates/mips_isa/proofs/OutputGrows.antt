@@ -4,7 +4,7 @@ use Rattle.std.specs.Fmt.{signed_decimal}
 use Rattle.std.proofs.Common.{ap, sym, ◌∙◌, append_assoc, append-nil}
 use Rattle.mips_isa.specs.Bytes.{Segments}
 use Rattle.mips_isa.specs.Machine.{Next, On, Call, Stop, step}
-use Rattle.mips_isa.specs.Calls.{State, Outcome, Running, Exited, Trapped, call, print, print_string, string_at, read_int, read_char, read_string, sbrk, asked, asked_line, bad_address, bad_call, store_string, with_v0, signed, v0, a0, a1, all_writable}
+use Rattle.mips_isa.specs.Calls.{State, Outcome, Running, Exited, Trapped, call, print_string, string_at, read_int, read_char, read_string, sbrk, asked, asked_line, bad_address, bad_call, store_string, with_v0, signed, v0, a0, a1, all_writable}
 use Rattle.mips_isa.specs.Machine.{is_negative}
 use Rattle.mips_isa.specs.Run.{after, cycle, and_then, run}
 

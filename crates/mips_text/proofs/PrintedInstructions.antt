@@ -23,7 +23,7 @@ use Rattle.mips_isa.specs.declared.instr.ImmOp.TheVariants.{Addi, Addiu, Slti, S
 use Rattle.mips_isa.specs.Words.{InRange, IsSigned, IsUnsigned, IsImmediate}
 use Rattle.mips_isa.specs.Assembly.{names_of_instruction}
 use Rattle.mips_isa.specs.Lines as lines
-use Rattle.mips_isa.specs.Lines.{Statement, IsByte, IsInRange, IsInstructionInRange, IsItem, IsWord}
+use Rattle.mips_isa.specs.Lines.{Statement, IsInstructionInRange, IsWord}
 use Rattle.mips_text.specs.declared.mnemonics.Mnemonic.{Mnemonic}
 use Rattle.mips_text.specs.declared.mnemonics.Mnemonic.TheVariants as mnemonics
 use Rattle.mips_text.specs.declared.wanted.Range.{Range}

@@ -1,6 +1,6 @@
 -- Printed texts are read as the lines that they were.
 use Rattle.std.proofs.Common.{◌≡◌, ◌∙◌, ap, refl, arith, ℕ, ◌≤◌, ◌<◌, ℤ, pos, negsuc, Bool, true, false, List, [], ◌∷◌, ◌++◌, append_assoc, length, map, flat_map, codes, nat_le, if◌then◌else◌, Ok}
-use Rattle.std.specs.Prelude.{Some, None, not, ◌&&◌, ◌==◌}
+use Rattle.std.specs.Prelude.{Some, None, ◌&&◌, ◌==◌}
 use Rattle.std.specs.List.{AllByRecursion, list_all}
 use Rattle.std.specs.Option.{option_or}
 use Rattle.std.specs.Fmt.{signed_decimal}
@@ -9,7 +9,7 @@ use Rattle.std.proofs.lemmas.List.Folds.{list_all-append}
 use Rattle.std.proofs.lemmas.Bool.Decides.{nat_tests}
 use Rattle.mips_isa.specs.declared.address_map.TheConstants.{MOST_DATA_BYTES}
 use Rattle.mips_isa.specs.Lines as lines
-use Rattle.mips_isa.specs.Lines.{Line, Statement, IsByte, IsDataInRange, IsDirectiveInRange, IsInRange, IsItem, IsWord}
+use Rattle.mips_isa.specs.Lines.{Line, Statement, IsByte, IsDataInRange, IsDirectiveInRange, IsInRange, IsItem}
 use Rattle.mips_text.specs.declared.directives.Directive.{Directive}
 use Rattle.mips_text.specs.declared.directives.Directive.TheVariants as directives
 use Rattle.mips_text.specs.declared.wanted.Range.TheVariants as range

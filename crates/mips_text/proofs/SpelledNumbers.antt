@@ -1,5 +1,5 @@
 -- Decimal numbers spell their values.
-use Rattle.std.proofs.Common.{◌≡◌, ◌∙◌, sym, ap, subst, refl, arith, ℕ, zero, suc, ◌+◌, ◌-◌, ◌*◌, ◌/◌, ◌%◌, ◌^◌, ◌≤◌, ◌<◌, ℤ, pos, negsuc, Bool, true, false, List, [], ◌∷◌, ◌++◌, length, take, drop, nat_lt, min, if◌then◌else◌}
+use Rattle.std.proofs.Common.{◌≡◌, ◌∙◌, ap, refl, arith, ℕ, suc, ◌+◌, ◌-◌, ◌*◌, ◌/◌, ◌%◌, ◌^◌, ◌≤◌, ◌<◌, ℤ, pos, negsuc, Bool, true, false, List, [], ◌∷◌, ◌++◌, length, take, min, if◌then◌else◌}
 use Rattle.std.specs.Prelude.{Some, None, option_map, not, ◌&&◌, ◌==◌}
 use Rattle.std.specs.Option.{option_or}
 use Rattle.std.specs.List.{list_all, prefix_len}
@@ -15,7 +15,7 @@ use Rattle.mips_text.specs.declared.class.Start.TheVariants as start
 use Rattle.mips_text.specs.declared.span.Span.TheVariants as span
 use Rattle.mips_text.specs.declared.numbers.TheConstants.{LARGEST}
 use Rattle.mips_text.specs.Letters.{class_of, name_rest}
-use Rattle.mips_text.specs.Words.{Word, Number, Front, capped, digit_value, value, words_of}
+use Rattle.mips_text.specs.Words.{Word, Number, digit_value, value, words_of}
 use Rattle.mips_text.specs.Fronts.{decimal_found, decimal_of, digits_front, hexadecimal_found, magnitude_found, minus_front, takes}
 use Rattle.mips_text.proofs.SpelledWords.{Spells, all_in_line, breaks, in_line, prefix_stop, stops, word_here}
 use Rattle.std.proofs.lemmas.Bool.{and_parts}

@@ -1,6 +1,6 @@
 -- What a script says: a command for each line that is not empty, or the first line that is in no form, or names no word of the text. The rule
 -- is in `docs/debugger.md`, Scripts.
-use Rattle.std.specs.Prelude.{◌≡◌, refl, ℕ, suc, ◌==◌, ◌&&◌, ◌||◌, nat_le, Bool, if◌then◌else◌, List, [], ◌∷◌, length, bytes_eq, codes, Option, Some, None, Result, Ok, Err}
+use Rattle.std.specs.Prelude.{◌≡◌, refl, ℕ, suc, ◌==◌, ◌&&◌, ◌||◌, nat_le, if◌then◌else◌, List, [], ◌∷◌, length, bytes_eq, codes, Option, Some, None, Result, Ok, Err}
 use Rattle.std.specs.Option.{is_some}
 use Rattle.mips_isa.specs.Lines as lines
 use Rattle.mips_asm.specs.TextLabels.{has_word, text_end, text_label}

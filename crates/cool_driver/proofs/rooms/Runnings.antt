@@ -1,5 +1,5 @@
 -- How a call of `run` ends.
-use Rattle.std.proofs.Common.{Bool, List, arith, inl, inr, refl, subst, ℕ, ◌≡◌, ◌≢◌, ◌⊎◌}
+use Rattle.std.proofs.Common.{List, arith, inl, inr, refl, subst, ℕ, ◌≡◌, ◌≢◌, ◌⊎◌}
 use Rattle.cool_classes.specs.Chains.{Class}
 use Rattle.cool_emit.specs.Programs.{program_lines}
 use Rattle.cool_faults.specs.Verdicts.{IsAccepted}

@@ -4,7 +4,7 @@ use Rattle.std.specs.Prelude.{Contains, codes}
 use Rattle.std.specs.List.{AllByRecursion}
 use Rattle.std.proofs.lemmas.List.Elements.{All-contains, All-from_recursion, Contains-append_cases, Contains-append_left}
 use Rattle.mips_isa.specs.Lines.{Name, Line}
-use Rattle.cool_syntax.specs.Tree.{Tree, Trees, MaybeTree, Cases, Last, More, Without, With, NoCase, CaseOf, tree_size, maybe_size}
+use Rattle.cool_syntax.specs.Tree.{Tree, Trees, Cases, Last, More, Without, With, NoCase, CaseOf, tree_size}
 use Rattle.cool_syntax.specs.Tree as trees
 use Rattle.cool_syntax.specs.NodeLists.{root}
 use Rattle.cool_rules.specs.Conformance.{class_of}

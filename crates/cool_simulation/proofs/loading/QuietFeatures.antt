@@ -23,7 +23,7 @@ use Rattle.cool_codegen.specs.Pieces.{begin_init_lines, leave_lines, mark_lines,
 use Rattle.cool_codegen.specs.Spans.{Span, along, feature_spans, method_spans, spans, initial_value_spans}
 use Rattle.cool_codegen.specs.Variables.{Named}
 use Rattle.cool_layout.specs.Labels.{initializer, method_label}
-use Rattle.cool_emit.specs.Programs.{Placed, attributes_from, class_code, initializer_code, methods_from, methods_in, parent_code, placed_code, program_constants}
+use Rattle.cool_emit.specs.Programs.{Placed, attributes_from, initializer_code, methods_from, methods_in, parent_code, placed_code, program_constants}
 use Rattle.cool_emit.specs.Programs as programs
 use Rattle.cool_emit.specs.SpansOfPrograms.{SpanOf, context_of, initializer_spans, placed_spans}
 use Rattle.cool_simulation.specs.Quiet.{AreStoresFree, IsFree, IsQuiet, IsQuietInitializer, IsQuietMethod, IsStoreFree}

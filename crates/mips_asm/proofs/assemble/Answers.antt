@@ -1,6 +1,6 @@
 -- All lines are one part.
-use Rattle.std.proofs.Common.{List, [], append-nil, sym, subst}
-use Rattle.mips_isa.specs.Lines.{Line, lines_of}
+use Rattle.std.proofs.Common.{[], append-nil, sym, subst}
+use Rattle.mips_isa.specs.Lines.{lines_of}
 use Rattle.mips_asm.specs.SecondPasses.{HasLeft}
 use Rattle.mips_asm.proofs.assemble.Goals as goal
 

@@ -1,5 +1,5 @@
 -- Faults that are put in order are the same ones.
-use Rattle.std.proofs.Common.{rules, ◌≡◌, ◌≢◌, inl, inr, List, [], length, sym, ap, ◌∷◌, ◌∙◌, refl, subst, arith}
+use Rattle.std.proofs.Common.{rules, ◌≡◌, ◌≢◌, inl, inr, List, [], length, sym, ap, ◌∷◌, ◌∙◌, subst, arith}
 use Rattle.std.specs.List.{AllByRecursion}
 use Rattle.std.specs.List.Sorted.{IsPermutation}
 use Rattle.cool_syntax.specs.FaultOrder.{AreInOrder}

@@ -1,7 +1,6 @@
 -- The spans lie within the lines of their branch, which are there with those before them.
-use Rattle.std.proofs.Common.{◌+◌, ◌<◌, ◌^◌, ◌++◌, length, map, ap, sym, subst, rules, arith}
+use Rattle.std.proofs.Common.{◌+◌, ◌<◌, ◌^◌, ◌++◌, length, sym, subst, rules, arith}
 use Rattle.std.specs.List.{AllByRecursion}
-use Rattle.std.proofs.lemmas.List.{length-append}
 use Rattle.mips_isa.specs.Lines.{lines_of}
 use Rattle.cool_codegen.specs.declared.span.Span as declared_span
 use Rattle.cool_codegen.specs.Shown.{made_of, IsWithin}

@@ -1,5 +1,5 @@
 -- The initial value stands at the begin.
-use Rattle.std.proofs.Common.{length, map, ap, ◌∙◌, rules}
+use Rattle.std.proofs.Common.{length, map, ◌∙◌, rules}
 use Rattle.mips_isa.specs.Lines.{lines_of}
 use Rattle.cool_codegen.specs.CodeSettings.{context}
 use Rattle.cool_codegen.specs.Shown.{noted, shown}

@@ -1,7 +1,7 @@
 -- The feature is the one at its place, whatever way it is reached, and its code is that of its kind.
 use Rattle.std.proofs.Common.{◌≡◌, ◌∙◌, ◌<◌, ◌++◌, List, [], length, map, Option, Some, ap, sym, subst, arith}
 use Rattle.std.specs.Prelude.{string_bytes, IfOk, OnOk}
-use Rattle.mips_isa.specs.Lines.{Line, lines_of}
+use Rattle.mips_isa.specs.Lines.{lines_of}
 use Rattle.cool_syntax.specs.declared.file_tree.Feature.{Feature}
 use Rattle.cool_syntax.specs.declared.file_tree.Formal.{Formal}
 use Rattle.cool_syntax.specs.Tree.{Tree}
@@ -16,10 +16,10 @@ use Rattle.cool_codegen.specs.Shown.{noted, shown, shown_of}
 use Rattle.cool_codegen.specs.Spans.{initial_value_spans, method_spans}
 use Rattle.cool_codegen.specs.Asked.{with_integers, with_strings, Extends}
 use Rattle.cool_codegen.specs.Code.{Context}
-use Rattle.cool_codegen.specs.Features.{attributes_in, feature_code, feature_integers, feature_strings, initial_integers, initial_strings, initial_value_code, method_code, with_formals}
+use Rattle.cool_codegen.specs.Features.{attributes_in, initial_integers, initial_strings, initial_value_code, method_code, with_formals}
 use Rattle.cool_codegen.specs.Variables.{scope_of}
 use Rattle.cool_codegen.proofs.AttributesOfClasses.{attribute_there}
-use Rattle.cool_codegen.proofs.ConstantsKept.{extended_kept, kept_same}
+use Rattle.cool_codegen.proofs.ConstantsKept.{extended_kept}
 use Rattle.cool_codegen.proofs.FeaturesThere.{one_there, small_value, stands}
 use Rattle.cool_codegen.proofs.ScopesOfFeatures.{method_types, value_types}
 use Rattle.cool_codegen.proofs.feature.wanted_code.Goals as goal

@@ -1,5 +1,5 @@
 -- The labels of a line are put into the table one by one.
-use Rattle.std.proofs.Common.{◌≡◌, ◌+◌, ◌∷◌, [], ◌++◌, drop, ap, sym, ◌∙◌, refl, subst, is_some, None, true, false, List, ℕ}
+use Rattle.std.proofs.Common.{◌≡◌, ◌+◌, ◌∷◌, [], ◌++◌, drop, ap, sym, ◌∙◌, refl, subst, is_some, None, true, false, List}
 use Rattle.std.proofs.lemmas.List.{drop_all}
 use Rattle.mips_isa.specs.Lines.{Name}
 use Rattle.mips_isa.specs.Assembly.{has}

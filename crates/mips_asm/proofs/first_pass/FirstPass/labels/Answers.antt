@@ -1,5 +1,5 @@
 -- The places of the labels are those of the lines that were taken.
-use Rattle.std.proofs.Common.{◌≡◌, ◌+◌, ◌++◌, ◌∷◌, [], ap, sym, ◌∙◌, refl, arith, Some, None, Option}
+use Rattle.std.proofs.Common.{◌≡◌, ◌+◌, ◌++◌, ◌∷◌, [], ap, ◌∙◌, refl, arith, Some, None, Option}
 use Rattle.mips_isa.specs.declared.asm_fault.AsmFault.{AsmFault}
 use Rattle.mips_isa.specs.Assembly.{Position}
 use Rattle.mips_asm.specs.Passes.{shown}

@@ -2,7 +2,7 @@
 use Rattle.std.proofs.Common.{◌≡◌, ◌+◌, ◌∷◌, [], ◌++◌, drop, List, subst}
 use Rattle.std.proofs.lemmas.List.{drop_all}
 use Rattle.mips_isa.specs.declared.line.Line as declared_line
-use Rattle.mips_isa.specs.Lines.{Line, line_of, lines_of}
+use Rattle.mips_isa.specs.Lines.{Line, lines_of}
 use Rattle.mips_asm.specs.Places.{places_of}
 use Rattle.mips_asm.specs.SecondPasses.{IsLeft}
 use Rattle.mips_asm.proofs.LoopRests.{line_in_range}
