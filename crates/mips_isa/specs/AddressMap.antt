@@ -1,6 +1,6 @@
 -- The address map of a machine (SPIM): where text, data and heap begin and the stack ends, and how many words of text and bytes of
 -- data an image may have, each by its value.
-use Rattle.std.specs.Prelude.{◌≡◌, refl}
+use Rattle.std.specs.Prelude.{◌≡◌, refl, ◌^◌}
 use Rattle.mips_isa.specs.declared.address_map.TheConstants.{TEXT_START, DATA_START, HEAP_START, STACK_END, MOST_TEXT_WORDS, MOST_DATA_BYTES}
 
 text_start : TEXT_START ≡ 0x00400000
@@ -18,5 +18,5 @@ stack_end = refl
 most_text_words : MOST_TEXT_WORDS ≡ 66060288
 most_text_words = refl
 
-most_data_bytes : MOST_DATA_BYTES ≡ 268435456
+most_data_bytes : MOST_DATA_BYTES ≡ 2 ^ 28
 most_data_bytes = refl

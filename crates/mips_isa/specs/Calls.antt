@@ -1,5 +1,5 @@
 -- The system calls of SPIM: one case for each number.
-use Rattle.std.specs.Prelude.{◌≡◌, refl, ℕ, zero, suc, ◌+◌, ◌-◌, ◌*◌, ◌%◌, ℤ, pos, negsuc, Bool, true, false, ◌&&◌, ◌||◌, ◌==◌, not, nat_le, if◌then◌else◌, List, [], ◌∷◌, ◌++◌, length, Option, Some, None, option_map}
+use Rattle.std.specs.Prelude.{◌≡◌, refl, ℕ, zero, suc, ◌+◌, ◌-◌, ◌*◌, ◌%◌, ◌^◌, ℤ, pos, negsuc, Bool, true, false, ◌&&◌, ◌||◌, ◌==◌, not, nat_le, if◌then◌else◌, List, [], ◌∷◌, ◌++◌, length, Option, Some, None, option_map}
 use Rattle.std.specs.Fmt.{signed_decimal}
 use Rattle.mips_isa.specs.declared.register.TheConstants.{V0, A0, A1}
 use Rattle.mips_isa.specs.declared.system_call.TheConstants.{PRINT_INT, PRINT_STRING, READ_INT, READ_STRING, SBRK, EXIT, PRINT_CHAR, READ_CHAR, EXIT2}
@@ -65,14 +65,14 @@ digits_from n (b ∷ rest) = if is_digit b then digits_from (wrap (10 * n + (b -
 
 abbrev pub number_after_blanks : List ℕ → ℕ
 number_after_blanks [] = 0
-number_after_blanks (b ∷ rest) = if b == 45 then wrap (4294967296 - digits_from 0 rest) else digits_from 0 (b ∷ rest)
+number_after_blanks (b ∷ rest) = if b == 45 then wrap (2 ^ 32 - digits_from 0 rest) else digits_from 0 (b ∷ rest)
 
 abbrev pub number_of : List ℕ → ℕ
 number_of line = number_after_blanks (skip_blanks line)
 
 -- a word as a signed number
 abbrev pub signed : ℕ → ℤ
-signed a = if is_negative a then negsuc (4294967295 - a) else pos a
+signed a = if is_negative a then negsuc (2 ^ 32 - 1 - a) else pos a
 
 -- the end of the segment in which an address lies
 abbrev pub segment_end : Segments → ℕ → Option ℕ
@@ -137,7 +137,7 @@ abbrev pub read_int : State → Taken → Outcome
 read_int s t = Running (with_v0 (after_taking s t) (number_of t.got))
 
 abbrev pub char_of : List ℕ → ℕ
-char_of [] = 4294967295
+char_of [] = 2 ^ 32 - 1
 char_of (b ∷ rest) = b
 
 abbrev pub read_char : State → Taken → Outcome
@@ -157,7 +157,7 @@ read_string b s =
 abbrev pub sbrk : Segments → State → Outcome
 sbrk b s =
     if nat_le (s.heap_break + a0 s) b.heap_end then Running (record (with_v0 s s.heap_break) { heap_break = s.heap_break + a0 s })
-    else Running (with_v0 s 4294967295)
+    else Running (with_v0 s (2 ^ 32 - 1))
 
 -- the system call whose number is in $v0
 abbrev pub call : Segments → State → Outcome

@@ -1,6 +1,6 @@
 -- The instruction of a word, by cases on its fields. `Words.antt` is the table; that this finds just the instruction whose
 -- word it is stands as clauses on `decode`.
-use Rattle.std.specs.Prelude.{ℕ, ◌-◌, ◌/◌, ◌%◌, ℤ, pos, negsuc, Bool, ◌&&◌, ◌==◌, nat_lt, if◌then◌else◌, Option, Some, None}
+use Rattle.std.specs.Prelude.{ℕ, ◌-◌, ◌/◌, ◌%◌, ◌^◌, ℤ, pos, negsuc, Bool, ◌&&◌, ◌==◌, nat_lt, if◌then◌else◌, Option, Some, None}
 use Rattle.mips_isa.specs.declared.instr.Instr.{Instr}
 use Rattle.mips_isa.specs.declared.instr.Instr.TheVariants.{Three, Shift, ShiftReg, Jr, Jalr, Syscall, MoveFrom, MoveTo, MulDiv, Imm, Lui, BranchTwo, BranchOne, Jump, Mem}
 use Rattle.mips_isa.specs.declared.instr.ThreeOp.{ThreeOp}
@@ -128,4 +128,4 @@ row op rs rt rd sh fn imm index =
 -- the instruction of a word, if it is of a row
 unfoldable pub decoded : ℕ → Option Instr
 decoded word =
-    row (word / 67108864) (word / 2097152 % 32) (word / 65536 % 32) (word / 2048 % 32) (word / 64 % 32) (word % 64) (word % 65536) (word % 67108864)
+    row (word / 2 ^ 26) (word / 2 ^ 21 % 2 ^ 5) (word / 2 ^ 16 % 2 ^ 5) (word / 2 ^ 11 % 2 ^ 5) (word / 2 ^ 6 % 2 ^ 5) (word % 2 ^ 6) (word % 2 ^ 16) (word % 2 ^ 26)

@@ -1,5 +1,5 @@
 -- Lines of assembly, as contracts see them: the labels of a line, and its statement.
-use Rattle.std.specs.Prelude.{ℕ, ℤ, pos, negsuc, ◌<◌, ◌≤◌, List, map}
+use Rattle.std.specs.Prelude.{ℕ, ◌^◌, ℤ, pos, negsuc, ◌<◌, ◌≤◌, List, map}
 use Rattle.std.specs.List.{AllByRecursion}
 use Rattle.mips_isa.specs.declared.address_map.TheConstants.{MOST_DATA_BYTES}
 use Rattle.mips_isa.specs.declared.instr.Instr.{Instr}
@@ -120,8 +120,8 @@ lines_of = map line_of
 -- the numbers of a line are in their ranges
 
 abbrev pub IsWord : ℤ → Type 0
-IsWord (pos n) = n < 4294967296
-IsWord (negsuc n) = n < 2147483648
+IsWord (pos n) = n < 2 ^ 32
+IsWord (negsuc n) = n < 2 ^ 31
 
 abbrev pub IsByte : ℤ → Type 0
 IsByte (pos n) = n < 256

@@ -43,18 +43,18 @@ set_register r k v = λ q. if q == k then (if k == ZERO then 0 else v) else r q
 -- Numbers of 32 bits
 
 abbrev pub wrap : ℕ → ℕ
-wrap n = n % 4294967296
+wrap n = n % 2 ^ 32
 
 abbrev pub is_negative : ℕ → Bool
-is_negative a = nat_le 2147483648 a
+is_negative a = nat_le (2 ^ 31) a
 
 -- a signed number, moved up by 2 ^ 31, so that the order of the signed numbers is that of these
 abbrev pub lifted : ℕ → ℕ
-lifted a = wrap (a + 2147483648)
+lifted a = wrap (a + 2 ^ 31)
 
 -- the lifted sum and difference of two signed numbers, moved up once more, and whether the number behind one has 32 bits
 abbrev pub fits : ℕ → Bool
-fits n = nat_le 2147483648 n && nat_lt n 6442450944
+fits n = nat_le (2 ^ 31) n && nat_lt n (2 ^ 31 + 2 ^ 32)
 
 abbrev pub unless_overflow : Bool → ℕ → Option ℕ
 unless_overflow fit n = if fit then Some (wrap n) else None
@@ -63,7 +63,7 @@ abbrev pub signed_sum : ℕ → ℕ → Option ℕ
 signed_sum a b = unless_overflow (fits (lifted a + lifted b)) (a + b)
 
 abbrev pub signed_difference : ℕ → ℕ → Option ℕ
-signed_difference a b = unless_overflow (fits (lifted a + 4294967296 - lifted b)) (a + 4294967296 - b)
+signed_difference a b = unless_overflow (fits (lifted a + 2 ^ 32 - lifted b)) (a + 2 ^ 32 - b)
 
 abbrev pub flag : Bool → ℕ
 flag b = if b then 1 else 0
@@ -73,11 +73,11 @@ abbrev pub three_result : ThreeOp → ℕ → ℕ → Option ℕ
 three_result Add a b = signed_sum a b
 three_result Addu a b = Some (wrap (a + b))
 three_result Sub a b = signed_difference a b
-three_result Subu a b = Some (wrap (a + 4294967296 - b))
+three_result Subu a b = Some (wrap (a + 2 ^ 32 - b))
 three_result And a b = Some (bit_and a b)
 three_result Or a b = Some (bit_or a b)
 three_result Xor a b = Some (bit_xor a b)
-three_result Nor a b = Some (4294967295 - bit_or a b)
+three_result Nor a b = Some (2 ^ 32 - 1 - bit_or a b)
 three_result Slt a b = Some (flag (nat_lt (lifted a) (lifted b)))
 three_result Sltu a b = Some (flag (nat_lt a b))
 
@@ -94,7 +94,7 @@ imm_result Xori a n = Some (bit_xor a n)
 abbrev pub shift_result : ShiftOp → ℕ → ℕ → ℕ
 shift_result Sll a k = wrap (a * 2 ^ k)
 shift_result Srl a k = a / 2 ^ k
-shift_result Sra a k = if is_negative a then 4294967295 - (4294967295 - a) / 2 ^ k else a / 2 ^ k
+shift_result Sra a k = if is_negative a then 2 ^ 32 - 1 - (2 ^ 32 - 1 - a) / 2 ^ k else a / 2 ^ k
 
 abbrev pub shift_of : ShiftRegOp → ShiftOp
 shift_of Sllv = Sll
@@ -103,14 +103,14 @@ shift_of Srav = Sra
 
 -- a signed number as one of 64 bits
 abbrev pub long : ℕ → ℕ
-long a = if is_negative a then a + 18446744069414584320 else a
+long a = if is_negative a then a + (2 ^ 64 - 2 ^ 32) else a
 
 abbrev pub magnitude : ℕ → ℕ
-magnitude a = if is_negative a then 4294967296 - a else a
+magnitude a = if is_negative a then 2 ^ 32 - a else a
 
 -- a number of this magnitude
 abbrev pub with_sign : Bool → ℕ → ℕ
-with_sign negative n = if negative then wrap (4294967296 - n) else n
+with_sign negative n = if negative then wrap (2 ^ 32 - n) else n
 
 -- the quotient is truncated toward zero, and the remainder has the sign of the dividend
 abbrev pub have_two_signs : ℕ → ℕ → Bool
@@ -135,10 +135,10 @@ one_result Bgez a = not (is_negative a)
 
 -- a byte and a half, extended by sign
 abbrev pub signed_byte : ℕ → ℕ
-signed_byte n = if nat_lt n 128 then n else n + 4294967040
+signed_byte n = if nat_lt n 128 then n else n + (2 ^ 32 - 2 ^ 8)
 
 abbrev pub signed_half : ℕ → ℕ
-signed_half n = if nat_lt n 32768 then n else n + 4294901760
+signed_half n = if nat_lt n 32768 then n else n + (2 ^ 32 - 2 ^ 16)
 
 -- The state, without the console.
 pub record Core : Type 0 where
@@ -173,8 +173,8 @@ put_hi_lo s hi lo = On (record s { hi = hi; lo = lo; pc = s.pc + 4 })
 
 -- HI and LO after a multiplication or a division; a divisor 0 leaves both
 abbrev pub mul_div : MulDivOp → Core → ℕ → ℕ → Next
-mul_div Mult s a b = put_hi_lo s (long a * long b % 18446744073709551616 / 4294967296) (wrap (long a * long b))
-mul_div Multu s a b = put_hi_lo s (a * b / 4294967296) (wrap (a * b))
+mul_div Mult s a b = put_hi_lo s (long a * long b % 2 ^ 64 / 2 ^ 32) (wrap (long a * long b))
+mul_div Multu s a b = put_hi_lo s (a * b / 2 ^ 32) (wrap (a * b))
 mul_div Div s a b = if b == 0 then put_hi_lo s s.hi s.lo else put_hi_lo s (signed_remainder a b) (signed_quotient a b)
 mul_div Divu s a b = if b == 0 then put_hi_lo s s.hi s.lo else put_hi_lo s (a % b) (a / b)
 
@@ -184,7 +184,7 @@ branch s taken imm = if taken then go_to s (wrap (s.pc + 4 + 4 * bits_of imm)) e
 
 -- a jump keeps the upper four bits of the next instruction's address
 abbrev pub jump_target : ℕ → ℕ → ℕ
-jump_target pc index = (pc + 4) / 268435456 * 268435456 + 4 * index
+jump_target pc index = (pc + 4) / 2 ^ 28 * 2 ^ 28 + 4 * index
 
 -- an access of this size at a, which traps where a is no multiple of the size, or where it may not be
 abbrev pub access : ℕ → Bool → ℕ → ℕ → Next → Next
@@ -268,7 +268,7 @@ sra_of_smallest = refl
 mult_of_minus_one : wrap (long 0xffffffff * long 2) ≡ 0xfffffffe
 mult_of_minus_one = refl
 
-mult_upper : long 0xffffffff * long 2 % 18446744073709551616 / 4294967296 ≡ 0xffffffff
+mult_upper : long 0xffffffff * long 2 % 2 ^ 64 / 2 ^ 32 ≡ 0xffffffff
 mult_upper = refl
 
 div_negative : signed_quotient 0xfffffff9 2 ≡ 0xfffffffd

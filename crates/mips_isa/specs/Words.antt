@@ -1,7 +1,7 @@
 -- Instruction words: the table of the integer R2000 (MIPS I). A word has the fields op (bits 31 to 26), rs (25 to 21),
 -- rt (20 to 16), rd (15 to 11), sh (10 to 6), fn (5 to 0), imm (15 to 0) and index (25 to 0). A field that a row does not
 -- name is 0.
-use Rattle.std.specs.Prelude.{◌≡◌, ℕ, ◌+◌, ◌-◌, ◌*◌, ◌%◌, ◌<◌, ℤ, pos, negsuc, refl}
+use Rattle.std.specs.Prelude.{◌≡◌, ℕ, ◌+◌, ◌-◌, ◌*◌, ◌%◌, ◌^◌, ◌<◌, ℤ, pos, negsuc, refl}
 use Rattle.mips_isa.specs.declared.instr.Instr.{Instr}
 use Rattle.mips_isa.specs.declared.instr.Instr.TheVariants.{Three, Shift, ShiftReg, Jr, Jalr, Syscall, MoveFrom, MoveTo, MulDiv, Imm, Lui, BranchTwo, BranchOne, Jump, Mem}
 use Rattle.mips_isa.specs.declared.instr.ThreeOp.{ThreeOp}
@@ -29,19 +29,19 @@ use Rattle.mips_isa.specs.declared.instr.MemOp.TheVariants.{Lb, Lh, Lw, Lbu, Lhu
 
 -- a word of these fields, the last of which are 16 bits
 abbrev pub fields : ℕ → ℕ → ℕ → ℕ → ℕ
-fields op rs rt low = op * 67108864 + rs * 2097152 + rt * 65536 + low
+fields op rs rt low = op * 2 ^ 26 + rs * 2 ^ 21 + rt * 2 ^ 16 + low
 
 -- a word with op 0
 abbrev pub special : ℕ → ℕ → ℕ → ℕ → ℕ → ℕ
-special rs rt rd sh fn = fields 0 rs rt (rd * 2048 + sh * 64 + fn)
+special rs rt rd sh fn = fields 0 rs rt (rd * 2 ^ 11 + sh * 2 ^ 6 + fn)
 
 -- the 32 bits of a signed number, and its lower 16
 abbrev pub bits_of : ℤ → ℕ
 bits_of (pos n) = n
-bits_of (negsuc n) = 4294967295 - n
+bits_of (negsuc n) = 2 ^ 32 - 1 - n
 
 abbrev pub half_of : ℤ → ℕ
-half_of z = bits_of z % 65536
+half_of z = bits_of z % 2 ^ 16
 
 -- fn with op 0
 
@@ -138,7 +138,7 @@ word_of (Imm op rt rs imm) = fields (imm_number op) rs rt (half_of imm)
 word_of (Lui rt imm) = fields 15 0 rt (half_of imm)
 word_of (BranchTwo op rs rt imm) = fields (two_number op) rs rt (half_of imm)
 word_of (BranchOne op rs imm) = fields (one_number op) rs (one_rt op) (half_of imm)
-word_of (Jump op index) = jump_number op * 67108864 + index
+word_of (Jump op index) = jump_number op * 2 ^ 26 + index
 word_of (Mem op rt rs imm) = fields (mem_number op) rs rt (half_of imm)
 
 -- immediates that are extended by sign, and those that are extended by zeros
@@ -174,7 +174,7 @@ InRange (Imm op rt rs imm) = (rt < 32) × (rs < 32) × IsImmediate op imm
 InRange (Lui rt imm) = (rt < 32) × IsUnsigned imm
 InRange (BranchTwo op rs rt imm) = (rs < 32) × (rt < 32) × IsSigned imm
 InRange (BranchOne op rs imm) = (rs < 32) × IsSigned imm
-InRange (Jump op index) = index < 67108864
+InRange (Jump op index) = index < 2 ^ 26
 InRange (Mem op rt rs imm) = (rt < 32) × (rs < 32) × IsSigned imm
 
 -- Worked examples, as an assembler writes them: addi $t0, $zero, -1; sll $t0, $t0, 2; lw $a0, -4($fp); bgez $t0, 3.

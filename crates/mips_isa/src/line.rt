@@ -34,7 +34,7 @@ pub enum OrderOp {
 /// An operand of `.word`.
 #[derive(Drop)]
 pub enum WordItem {
-    /// A number from -2147483648 to 4294967295.
+    /// A number from -2 ^ 31 to 2 ^ 32 - 1.
     Number(i64),
     /// The address of a label.
     Address(Label),
