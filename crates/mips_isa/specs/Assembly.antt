@@ -24,8 +24,8 @@ use Rattle.mips_isa.specs.declared.place.Segment.{Segment}
 use Rattle.mips_isa.specs.declared.place.Segment.TheVariants.{Text, Data}
 use Rattle.mips_isa.specs.declared.place.Place.{Place}
 use Rattle.mips_isa.specs.declared.address_map.TheConstants.{TEXT_START, DATA_START, MOST_TEXT_WORDS, MOST_DATA_BYTES}
-use Rattle.mips_isa.specs.declared.register.TheConstants.{ZERO, AT, V0}
-use Rattle.mips_isa.specs.declared.system_call.TheConstants.{EXIT}
+use Rattle.mips_isa.specs.declared.register.TheConstants.{ZERO, AT, V0, A0, RA}
+use Rattle.mips_isa.specs.declared.system_call.TheConstants.{PRINT_STRING, EXIT}
 use Rattle.mips_isa.specs.ImageBounds.{ImageParts}
 use Rattle.mips_isa.specs.Bytes.{byte_of_word}
 use Rattle.mips_isa.specs.Words.{word_of, bits_of}
@@ -415,8 +415,8 @@ Assembles lines (Err (Fault fault)) = fault_of lines ≡ Some fault
 abbrev hello : List Line
 hello =
     directive_line ToData ∷ record { labels = codes "m" ∷ []; statement = statements.Data (Asciiz (codes "hi\n")) } ∷ directive_line ToText
-    ∷ record { labels = main_name ∷ []; statement = Instruction (La 4 (codes "m")) } ∷ instruction_line (Li 2 (pos 4))
-    ∷ instruction_line (Plain instr.Syscall) ∷ instruction_line (Plain (instr.Jr 31)) ∷ []
+    ∷ record { labels = main_name ∷ []; statement = Instruction (La A0 (codes "m")) } ∷ instruction_line (Li V0 (pos PRINT_STRING))
+    ∷ instruction_line (Plain instr.Syscall) ∷ instruction_line (Plain (instr.Jr RA)) ∷ []
 
 hello_has_no_fault : fault_of hello ≡ None
 hello_has_no_fault = refl

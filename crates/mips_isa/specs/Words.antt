@@ -26,6 +26,7 @@ use Rattle.mips_isa.specs.declared.instr.JumpOp.{JumpOp}
 use Rattle.mips_isa.specs.declared.instr.JumpOp.TheVariants.{J, Jal}
 use Rattle.mips_isa.specs.declared.instr.MemOp.{MemOp}
 use Rattle.mips_isa.specs.declared.instr.MemOp.TheVariants.{Lb, Lh, Lw, Lbu, Lhu, Sb, Sh, Sw}
+use Rattle.mips_isa.specs.declared.register.TheConstants.{ZERO, A0, T0, FP}
 
 -- a word of these fields, the last of which are 16 bits
 abbrev pub fields : ℕ → ℕ → ℕ → ℕ → ℕ
@@ -178,14 +179,14 @@ InRange (Jump op index) = index < 2 ^ 26
 InRange (Mem op rt rs imm) = (rt < 32) × (rs < 32) × IsSigned imm
 
 -- Worked examples, as an assembler writes them: addi $t0, $zero, -1; sll $t0, $t0, 2; lw $a0, -4($fp); bgez $t0, 3.
-addi : word_of (Imm Addi 8 0 (negsuc 0)) ≡ 0x2008ffff
+addi : word_of (Imm Addi T0 ZERO (negsuc 0)) ≡ 0x2008ffff
 addi = refl
 
-sll : word_of (Shift Sll 8 8 2) ≡ 0x00084080
+sll : word_of (Shift Sll T0 T0 2) ≡ 0x00084080
 sll = refl
 
-lw : word_of (Mem Lw 4 30 (negsuc 3)) ≡ 0x8fc4fffc
+lw : word_of (Mem Lw A0 FP (negsuc 3)) ≡ 0x8fc4fffc
 lw = refl
 
-bgez : word_of (BranchOne Bgez 8 (pos 3)) ≡ 0x05010003
+bgez : word_of (BranchOne Bgez T0 (pos 3)) ≡ 0x05010003
 bgez = refl
