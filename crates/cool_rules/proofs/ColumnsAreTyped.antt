@@ -4,8 +4,9 @@ use Rattle.std.specs.Prelude.{slice_get}
 use Rattle.cool_syntax.specs.declared.file_tree.Feature.{Feature}
 use Rattle.cool_syntax.specs.declared.file_tree.Feature.TheVariants.{Method, Attribute}
 use Rattle.cool_syntax.specs.declared.node.NodeId.{NodeId}
+use Rattle.cool_syntax.specs.declared.place.Place.{Place}
 use Rattle.cool_syntax.specs.Bare.{nowhere}
-use Rattle.cool_syntax.specs.Tree.{Tree, Trees, MaybeTree, Cases, Last, More, Without, With, NoCase, CaseOf, tree_size}
+use Rattle.cool_syntax.specs.Tree.{Unary, Binary, Call, Tree, Trees, MaybeTree, Cases, Last, More, Without, With, NoCase, CaseOf, tree_size}
 use Rattle.cool_syntax.specs.Tree as trees
 use Rattle.cool_syntax.proofs.TreesOfLists.{parts, parts_of_all, parts_of_maybe, parts_of_cases, length-parts, all_trees-parts}
 use Rattle.cool_classes.specs.declared.class_id.ClassId.{ClassId}
@@ -72,23 +73,43 @@ module _ (p : List Class) (whole : IsWholeTable p) (c : ClassId) (within : c.0 <
   within_name name declared bound type scope t denotes has =
       subst (λ (u : Ty). HasType p c (with_name name u scope) t type) (type_meant_is p declared bound whole.table denotes) has
 
+  -- where a form with one part has a type, so has the part; those with two parts, and calls
+  part_typed : (at : Place) (form : Unary) (e : Tree) (scope : List Binding) (type : Ty) → HasType p c scope (trees.unary at form e) type → (t : Ty) × HasType p c scope e t
+  part_typed at (trees.assign name) e scope type h = (type, h.2)
+  part_typed at trees.isvoid e scope type h = (h.0, h.1)
+  part_typed at trees.neg e scope type h = (int_type, h.0)
+  part_typed at trees.not e scope type h = (bool_type, h.0)
+
+  parts_typed : (at : Place) (form : Binary) (a b : Tree) (scope : List Binding) (type : Ty) → HasType p c scope (trees.binary at form a b) type
+      → (t : Ty) × (u : Ty) × HasType p c scope a t × HasType p c scope b u
+  parts_typed at (trees.arith op) a b scope type h = (int_type, int_type, h.0, h.1)
+  parts_typed at (trees.compare op) a b scope type h = (h.0, h.1, h.2, h.3)
+  parts_typed at trees.while a b scope type h = (bool_type, h.0, h.1, h.2)
+
+  call_typed : (at : Place) (form : Call) (e : Tree) (es : Trees) (scope : List Binding) (type : Ty) → HasType p c scope (trees.call at form e es) type
+      → (t : Ty) × (given : List Ty) × HasType p c scope e t × HaveTypes p c scope es given
+  call_typed at (trees.dynamic name) e es scope type h = (h.0, h.1, h.2, h.3)
+  call_typed at (trees.static class name) e es scope type h = (h.0, h.1, h.3, h.4)
+
   mutual
     each_has : (t : Tree) (scope : List Binding) (type : Ty) → AreTypes p scope → HasType p c scope t type → EachHas (node_scopes p scope t) (parts t) (node_types p c scope t)
-    each_has (trees.Assign at name e) scope type types h = with_own (trees.Assign at name e) (parts e) scope type types h (each_has e scope type types h.2)
-    each_has (trees.Dispatch at e name es) scope type types h =
-        with_own (trees.Dispatch at e name es) (parts e ++ parts_of_all es) scope type types h
-        (both (node_scopes p scope e) (parts e) (node_types p c scope e) (scopes_of_all p scope es) (parts_of_all es) (types_of_all p c scope es) (each_has e scope h.0 types h.2) (all_have es scope h.1 types h.3))
-    each_has (trees.StaticDispatch at e class name es) scope type types h =
-        with_own (trees.StaticDispatch at e class name es) (parts e ++ parts_of_all es) scope type types h
-        (both (node_scopes p scope e) (parts e) (node_types p c scope e) (scopes_of_all p scope es) (parts_of_all es) (types_of_all p c scope es) (each_has e scope h.0 types h.3) (all_have es scope h.1 types h.4))
+    each_has (trees.leaf at form) scope type types h = with_own (trees.leaf at form) [] scope type types h tt
+    each_has (trees.unary at form e) scope type types h =
+        let part = part_typed at form e scope type h in
+        with_own (trees.unary at form e) (parts e) scope type types h (each_has e scope part.0 types part.1)
+    each_has (trees.binary at form a b) scope type types h =
+        let both_parts = parts_typed at form a b scope type h in
+        with_own (trees.binary at form a b) (parts a ++ parts b) scope type types h
+        (both (node_scopes p scope a) (parts a) (node_types p c scope a) (node_scopes p scope b) (parts b) (node_types p c scope b) (each_has a scope both_parts.0 types both_parts.2) (each_has b scope both_parts.1 types both_parts.3))
+    each_has (trees.call at form e es) scope type types h =
+        let call_parts = call_typed at form e es scope type h in
+        with_own (trees.call at form e es) (parts e ++ parts_of_all es) scope type types h
+        (both (node_scopes p scope e) (parts e) (node_types p c scope e) (scopes_of_all p scope es) (parts_of_all es) (types_of_all p c scope es) (each_has e scope call_parts.0 types call_parts.2) (all_have es scope call_parts.1 types call_parts.3))
     each_has (trees.If at test y n) scope type types h =
         with_own (trees.If at test y n) (parts test ++ parts y ++ parts n) scope type types h
         (both (node_scopes p scope test ++ node_scopes p scope y) (parts test ++ parts y) (node_types p c scope test ++ node_types p c scope y) (node_scopes p scope n) (parts n) (node_types p c scope n)
         (both (node_scopes p scope test) (parts test) (node_types p c scope test) (node_scopes p scope y) (parts y) (node_types p c scope y) (each_has test scope bool_type types h.2) (each_has y scope h.0 types h.3))
         (each_has n scope h.1 types h.4))
-    each_has (trees.While at test body) scope type types h =
-        with_own (trees.While at test body) (parts test ++ parts body) scope type types h
-        (both (node_scopes p scope test) (parts test) (node_types p c scope test) (node_scopes p scope body) (parts body) (node_types p c scope body) (each_has test scope bool_type types h.1) (each_has body scope h.0 types h.2))
     each_has (trees.Block at es) scope type types h = with_own (trees.Block at es) (parts_of_all es) scope type types h (items_have es scope object_type type types h)
     each_has (trees.Let at name declared o e) scope type types h =
         let inner = with_name name (type_meant p declared.name) scope in
@@ -98,20 +119,6 @@ module _ (p : List Class) (whole : IsWholeTable p) (c : ClassId) (within : c.0 <
     each_has (trees.Case at e cs) scope type types h =
         with_own (trees.Case at e cs) (parts e ++ parts_of_cases cs) scope type types h
         (both (node_scopes p scope e) (parts e) (node_types p c scope e) (scopes_of_cases p scope cs) (parts_of_cases cs) (types_of_cases p c scope cs) (each_has e scope h.0 types h.2) (branches_have cs scope h.1 types h.3))
-    each_has (trees.New at class) scope type types h = with_own (trees.New at class) [] scope type types h tt
-    each_has (trees.IsVoid at e) scope type types h = with_own (trees.IsVoid at e) (parts e) scope type types h (each_has e scope h.0 types h.1)
-    each_has (trees.Not at e) scope type types h = with_own (trees.Not at e) (parts e) scope type types h (each_has e scope bool_type types h.0)
-    each_has (trees.Neg at e) scope type types h = with_own (trees.Neg at e) (parts e) scope type types h (each_has e scope int_type types h.0)
-    each_has (trees.Arith at op a b) scope type types h =
-        with_own (trees.Arith at op a b) (parts a ++ parts b) scope type types h
-        (both (node_scopes p scope a) (parts a) (node_types p c scope a) (node_scopes p scope b) (parts b) (node_types p c scope b) (each_has a scope int_type types h.0) (each_has b scope int_type types h.1))
-    each_has (trees.Compare at op a b) scope type types h =
-        with_own (trees.Compare at op a b) (parts a ++ parts b) scope type types h
-        (both (node_scopes p scope a) (parts a) (node_types p c scope a) (node_scopes p scope b) (parts b) (node_types p c scope b) (each_has a scope h.0 types h.2) (each_has b scope h.1 types h.3))
-    each_has (trees.Id at name) scope type types h = with_own (trees.Id at name) [] scope type types h tt
-    each_has (trees.Int at value) scope type types h = with_own (trees.Int at value) [] scope type types h tt
-    each_has (trees.Str at bytes) scope type types h = with_own (trees.Str at bytes) [] scope type types h tt
-    each_has (trees.Bool at value) scope type types h = with_own (trees.Bool at value) [] scope type types h tt
 
     all_have : (es : Trees) (scope : List Binding) (ts : List Ty) → AreTypes p scope → HaveTypes p c scope es ts → EachHas (scopes_of_all p scope es) (parts_of_all es) (types_of_all p c scope es)
     all_have Last scope ts types h = tt

@@ -7,7 +7,8 @@ use Rattle.std.proofs.lemmas.Option.{same_Some, slice_get_read}
 use Rattle.cool_syntax.specs.declared.node.Node.{Node}
 use Rattle.cool_syntax.specs.declared.node.Node.TheVariants as node
 use Rattle.cool_syntax.specs.declared.node.NodeId.{NodeId}
-use Rattle.cool_syntax.specs.Tree.{Tree, Trees, MaybeTree, Cases, Last, More, Without, With, NoCase, CaseOf, tree_size, maybe_size}
+use Rattle.cool_syntax.specs.declared.place.Place.{Place}
+use Rattle.cool_syntax.specs.Tree.{Binary, Call, Tree, Trees, MaybeTree, Cases, Last, More, Without, With, NoCase, CaseOf, tree_size, maybe_size}
 use Rattle.cool_syntax.specs.Tree as trees
 use Rattle.cool_syntax.specs.Bare.{nowhere}
 use Rattle.cool_syntax.proofs.TreesHaveNodes.{one_le_size}
@@ -193,26 +194,35 @@ module _ (b : TypedBody) where
       let types = two_typed inner t (types_of_cases b.table b.class scope cs) u in
       (is_part inner k t (first_branch_stands t cs s) types.0, are_branches scope (k + tree_size t) cs (other_branches_stand t cs s) types.1)
 
+  -- the node of a form with two parts has them, and that of a call
+  two_there : (scope : List Binding) (at : Place) (form : Binary) (l r : NodeId) → IsPart b scope l → IsPart b scope r → HasParts b scope (binary_node at form l r)
+  two_there scope at (trees.arith op) l r h g = (h, g)
+  two_there scope at (trees.compare op) l r h g = (h, g)
+  two_there scope at trees.while l r h g = (h, g)
+
+  call_there : (scope : List Binding) (at : Place) (form : Call) (a : NodeId) (ids : List NodeId) → IsPart b scope a → AreParts b scope ids → HasParts b scope (call_node at form a ids)
+  call_there scope at (trees.dynamic name) a ids h g = (h, g)
+  call_there scope at (trees.static class name) a ids h g = (h, g)
+
   -- the parts of the node of an expression whose nodes and types stand there
   parts_are_parts : (scope : List Binding) (k : ℕ) (t : Tree) → Stands (nodes 0 b.body) k t → Lies b.types k (part_types b.table b.class scope t) → HasParts b scope (top k t)
   parts_are_parts scope k (trees.Assign at name t) s u = is_part scope k t (one_stands t _ s) u
-  parts_are_parts scope k (trees.Dispatch at t name ts) s u =
+  parts_are_parts scope k (trees.IsVoid at t) s u = is_part scope k t (one_stands t _ s) u
+  parts_are_parts scope k (trees.Neg at t) s u = is_part scope k t (one_stands t _ s) u
+  parts_are_parts scope k (trees.Not at t) s u = is_part scope k t (one_stands t _ s) u
+  parts_are_parts scope k (trees.binary at form l r) s u =
+      let two = two_stand l (nodes (k + tree_size l) r) _ s in
+      let types = two_typed scope l (node_types b.table b.class scope r) u in
+      two_there scope at form _ _ (is_part scope k l two.0 types.0) (is_part scope (k + tree_size l) r two.1 types.1)
+  parts_are_parts scope k (trees.call at form t ts) s u =
       let two = two_stand t (nodes_of_all (k + tree_size t) ts) _ s in
       let types = two_typed scope t (types_of_all b.table b.class scope ts) u in
-      (is_part scope k t two.0 types.0, are_parts scope (k + tree_size t) ts two.1 types.1)
-  parts_are_parts scope k (trees.StaticDispatch at t class name ts) s u =
-      let two = two_stand t (nodes_of_all (k + tree_size t) ts) _ s in
-      let types = two_typed scope t (types_of_all b.table b.class scope ts) u in
-      (is_part scope k t two.0 types.0, are_parts scope (k + tree_size t) ts two.1 types.1)
+      call_there scope at form _ _ (is_part scope k t two.0 types.0) (are_parts scope (k + tree_size t) ts two.1 types.1)
   parts_are_parts scope k (trees.If at t y n) s u =
       let all = three_stand t y n _ s in
       let types = three_parts (node_types b.table b.class scope t) (node_types b.table b.class scope y) (node_types b.table b.class scope n) (tree_size t) (tree_size y)
       (length-node_types b.table b.class scope t) (length-node_types b.table b.class scope y) u in
       (is_part scope k t all.0 types.0, is_part scope (k + tree_size t) y all.1 types.1, is_part scope (k + tree_size t + tree_size y) n all.2 types.2)
-  parts_are_parts scope k (trees.While at t a) s u =
-      let two = two_stand t (nodes (k + tree_size t) a) _ s in
-      let types = two_typed scope t (node_types b.table b.class scope a) u in
-      (is_part scope k t two.0 types.0, is_part scope (k + tree_size t) a two.1 types.1)
   parts_are_parts scope k (trees.Block at ts) s u = are_parts scope k ts (all_stand ts _ s) u
   parts_are_parts scope k (trees.Let at name declared o t) s u =
       let inner = with_name name (type_meant b.table declared.name) scope in
@@ -224,21 +234,7 @@ module _ (b : TypedBody) where
       let types = two_typed scope t (types_of_cases b.table b.class scope cs) u in
       (is_part scope k t two.0 types.0, are_branches scope (k + tree_size t) cs two.1 types.1)
   parts_are_parts scope k (trees.New at class) s u = tt
-  parts_are_parts scope k (trees.IsVoid at t) s u = is_part scope k t (one_stands t _ s) u
-  parts_are_parts scope k (trees.Arith at op l r) s u =
-      let two = two_stand l (nodes (k + tree_size l) r) _ s in
-      let types = two_typed scope l (node_types b.table b.class scope r) u in
-      (is_part scope k l two.0 types.0, is_part scope (k + tree_size l) r two.1 types.1)
-  parts_are_parts scope k (trees.Neg at t) s u = is_part scope k t (one_stands t _ s) u
-  parts_are_parts scope k (trees.Compare at op l r) s u =
-      let two = two_stand l (nodes (k + tree_size l) r) _ s in
-      let types = two_typed scope l (node_types b.table b.class scope r) u in
-      (is_part scope k l two.0 types.0, is_part scope (k + tree_size l) r two.1 types.1)
-  parts_are_parts scope k (trees.Not at t) s u = is_part scope k t (one_stands t _ s) u
-  parts_are_parts scope k (trees.Id at name) s u = tt
-  parts_are_parts scope k (trees.Int at value) s u = tt
-  parts_are_parts scope k (trees.Str at bytes) s u = tt
-  parts_are_parts scope k (trees.Bool at value) s u = tt
+  parts_are_parts scope k _ s u = tt
 
   module _ (scope : List Binding) (id : NodeId) where
     -- the expression at the number of a part

@@ -24,21 +24,13 @@ module _ (p : List Class) (c : ClassId) where
     type_same_in (trees.Dispatch at t name ts) s1 s2 h = ap (λ (x : Ty). type_of_call p (class_of c x) x name) (type_same_in t s1 s2 h)
     type_same_in (trees.StaticDispatch at t class name ts) s1 s2 h = ap (λ (x : Ty). type_of_call p (class_of c (type_meant p class.name)) x name) (type_same_in t s1 s2 h)
     type_same_in (trees.If at t y n) s1 s2 h = λ i. join_in p c (type_same_in y s1 s2 h i) (type_same_in n s1 s2 h i)
-    type_same_in (trees.While at t b) s1 s2 h = refl
     type_same_in (trees.Block at ts) s1 s2 h = last_same ts s1 s2 object_type h
     type_same_in (trees.Let at name declared o t) s1 s2 h =
         type_same_in t (with_name name (type_meant p declared.name) s1) (with_name name (type_meant p declared.name) s2) (same_with name (type_meant p declared.name) s1 s2 h)
     type_same_in (trees.Case at t cs) s1 s2 h = ap (λ (o : Option Ty). unwrap_or o object_type) (branches_same cs s1 s2 None h)
-    type_same_in (trees.New at class) s1 s2 h = refl
-    type_same_in (trees.IsVoid at t) s1 s2 h = refl
-    type_same_in (trees.Arith at op a b) s1 s2 h = refl
-    type_same_in (trees.Neg at t) s1 s2 h = refl
-    type_same_in (trees.Compare at op a b) s1 s2 h = refl
-    type_same_in (trees.Not at t) s1 s2 h = refl
     type_same_in (trees.Id at name) s1 s2 h = ap (λ (o : Option Ty). unwrap_or (if bytes_eq name (codes "self") then Some SelfType else o) object_type) (h name)
-    type_same_in (trees.Int at value) s1 s2 h = refl
-    type_same_in (trees.Str at bytes) s1 s2 h = refl
-    type_same_in (trees.Bool at value) s1 s2 h = refl
+    type_same_in (trees.While at t b) s1 s2 h = refl
+    type_same_in _ s1 s2 h = refl
 
     last_same : (ts : Trees) (s1 s2 : List Binding) (last : Ty) → AreSame s1 s2 → last_type_of p c s1 last ts ≡ last_type_of p c s2 last ts
     last_same Last s1 s2 last h = refl
@@ -57,12 +49,12 @@ module _ (p : List Class) (c : ClassId) where
 
   mutual
     parts_same : (t : Tree) (s1 s2 : List Binding) → AreSame s1 s2 → part_types p c s1 t ≡ part_types p c s2 t
-    parts_same (trees.Assign at name t) s1 s2 h = with_own t s1 s2 h (parts_same t s1 s2 h)
-    parts_same (trees.Dispatch at t name ts) s1 s2 h = λ i. with_own t s1 s2 h (parts_same t s1 s2 h) i ++ all_same ts s1 s2 h i
-    parts_same (trees.StaticDispatch at t class name ts) s1 s2 h = λ i. with_own t s1 s2 h (parts_same t s1 s2 h) i ++ all_same ts s1 s2 h i
+    parts_same (trees.leaf at form) s1 s2 h = refl
+    parts_same (trees.unary at form t) s1 s2 h = with_own t s1 s2 h (parts_same t s1 s2 h)
+    parts_same (trees.binary at form a b) s1 s2 h = λ i. with_own a s1 s2 h (parts_same a s1 s2 h) i ++ with_own b s1 s2 h (parts_same b s1 s2 h) i
+    parts_same (trees.call at form t ts) s1 s2 h = λ i. with_own t s1 s2 h (parts_same t s1 s2 h) i ++ all_same ts s1 s2 h i
     parts_same (trees.If at t y n) s1 s2 h =
         λ i. with_own t s1 s2 h (parts_same t s1 s2 h) i ++ with_own y s1 s2 h (parts_same y s1 s2 h) i ++ with_own n s1 s2 h (parts_same n s1 s2 h) i
-    parts_same (trees.While at t b) s1 s2 h = λ i. with_own t s1 s2 h (parts_same t s1 s2 h) i ++ with_own b s1 s2 h (parts_same b s1 s2 h) i
     parts_same (trees.Block at ts) s1 s2 h = all_same ts s1 s2 h
     parts_same (trees.Let at name declared o t) s1 s2 h =
         let within = same_with name (type_meant p declared.name) s1 s2 h in
@@ -70,16 +62,6 @@ module _ (p : List Class) (c : ClassId) where
         (parts_same t (with_name name (type_meant p declared.name) s1) (with_name name (type_meant p declared.name) s2) within) in
         λ i. maybe_same o s1 s2 h i ++ inner i
     parts_same (trees.Case at t cs) s1 s2 h = λ i. with_own t s1 s2 h (parts_same t s1 s2 h) i ++ cases_same cs s1 s2 h i
-    parts_same (trees.New at class) s1 s2 h = refl
-    parts_same (trees.IsVoid at t) s1 s2 h = with_own t s1 s2 h (parts_same t s1 s2 h)
-    parts_same (trees.Arith at op a b) s1 s2 h = λ i. with_own a s1 s2 h (parts_same a s1 s2 h) i ++ with_own b s1 s2 h (parts_same b s1 s2 h) i
-    parts_same (trees.Neg at t) s1 s2 h = with_own t s1 s2 h (parts_same t s1 s2 h)
-    parts_same (trees.Compare at op a b) s1 s2 h = λ i. with_own a s1 s2 h (parts_same a s1 s2 h) i ++ with_own b s1 s2 h (parts_same b s1 s2 h) i
-    parts_same (trees.Not at t) s1 s2 h = with_own t s1 s2 h (parts_same t s1 s2 h)
-    parts_same (trees.Id at name) s1 s2 h = refl
-    parts_same (trees.Int at value) s1 s2 h = refl
-    parts_same (trees.Str at bytes) s1 s2 h = refl
-    parts_same (trees.Bool at value) s1 s2 h = refl
 
     all_same : (ts : Trees) (s1 s2 : List Binding) → AreSame s1 s2 → types_of_all p c s1 ts ≡ types_of_all p c s2 ts
     all_same Last s1 s2 h = refl

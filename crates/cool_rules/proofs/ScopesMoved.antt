@@ -21,9 +21,6 @@ module _ (p : List Class) (c : ClassId) where
   mutual
     pub moved : (e : Tree) (s1 s2 : List Binding) (t : Ty) → AreSame s1 s2 → HasType p c s1 e t → HasType p c s2 e t
     moved (trees.Id at name) s1 s2 t h g = sym (ap (λ (o : Option Ty). if bytes_eq name (codes "self") then Some SelfType else o) (h name)) ∙ g
-    moved (trees.Int at n) s1 s2 t h g = g
-    moved (trees.Str at bytes) s1 s2 t h g = g
-    moved (trees.Bool at b) s1 s2 t h g = g
     moved (trees.Assign at name e) s1 s2 t h (d, other, has, there, conforms) = (d, other, moved e s1 s2 t h has, sym (h name) ∙ there, conforms)
     moved (trees.Dispatch at e name es) s1 s2 t h (r, given, has, have, call) = (r, given, moved e s1 s2 r h has, all_moved es s1 s2 given h have, call)
     moved (trees.StaticDispatch at e class name es) s1 s2 t h (r, given, k, has, have, denotes, conforms, call) = (r, given, k, moved e s1 s2 r h has, all_moved es s1 s2 given h have, denotes, conforms, call)
@@ -33,12 +30,12 @@ module _ (p : List Class) (c : ClassId) where
     moved (trees.Let at name declared init e) s1 s2 t h (bound, other, denotes, fits, has) =
         (bound, other, denotes, init_moved init s1 s2 bound h fits, moved e (with_name name bound s1) (with_name name bound s2) t (same_with name bound s1 s2 h) has)
     moved (trees.Case at e cs) s1 s2 t h (u, ts, has, have, different, join) = (u, ts, moved e s1 s2 u h has, branches_moved cs s1 s2 ts h have, different, join)
-    moved (trees.New at class) s1 s2 t h g = g
     moved (trees.IsVoid at e) s1 s2 t h (u, has, is) = (u, moved e s1 s2 u h has, is)
     moved (trees.Not at e) s1 s2 t h (has, is) = (moved e s1 s2 _ h has, is)
     moved (trees.Neg at e) s1 s2 t h (has, is) = (moved e s1 s2 _ h has, is)
     moved (trees.Arith at op a b) s1 s2 t h (has, has1, is) = (moved a s1 s2 _ h has, moved b s1 s2 _ h has1, is)
     moved (trees.Compare at op a b) s1 s2 t h (u, v, has, has1, comparable, is) = (u, v, moved a s1 s2 u h has, moved b s1 s2 v h has1, comparable, is)
+    moved _ s1 s2 t h g = g
 
     all_moved : (es : Trees) (s1 s2 : List Binding) (ts : List Ty) → AreSame s1 s2 → HaveTypes p c s1 es ts → HaveTypes p c s2 es ts
     all_moved Last s1 s2 [] h g = g

@@ -127,9 +127,6 @@ module _ (p : List Class) (whole : IsWholeTable p) (c : ClassId) (within : c.0 <
     -- the type of an expression, also in a scope that gives the names more types
     pub type_is_in : (e : Tree) (scope seen : List Binding) (type : Ty) → AreTypes p scope → Covers scope seen → HasType p c scope e type → type_of p c seen e ≡ type
     type_is_in (trees.Id at name) scope seen type types covers h = named_is scope seen name type covers h
-    type_is_in (trees.Int at n) scope seen type types covers h = sym h
-    type_is_in (trees.Str at bytes) scope seen type types covers h = sym h
-    type_is_in (trees.Bool at b) scope seen type types covers h = sym h
     type_is_in (trees.Assign at name e) scope seen type types covers (declared, other, has, there, conforms) = type_is_in e scope seen type types covers has
     type_is_in (trees.Dispatch at e name es) scope seen type types covers (receiver, given, has, have, call) =
         let same = type_is_in e scope seen receiver types covers has in
@@ -157,6 +154,7 @@ module _ (p : List Class) (whole : IsWholeTable p) (c : ClassId) (within : c.0 <
     type_is_in (trees.Neg at e) scope seen type types covers (has, is) = sym is
     type_is_in (trees.Arith at op a b) scope seen type types covers (has, has1, is) = sym is
     type_is_in (trees.Compare at op a b) scope seen type types covers (t, u, has, has1, comparable, is) = sym is
+    type_is_in _ scope seen type types covers h = sym h
 
     last_is : (es : Trees) (scope seen : List Binding) (last before type : Ty) → AreTypes p scope → Covers scope seen → last ≡ before → HaveItems p c scope before es type
         → last_type_of p c seen last es ≡ type

@@ -107,29 +107,19 @@ module _ (p : List Class) (whole : IsWholeTable p) where
 
     mutual
       parts_are_types : (t : Tree) (scope : List Binding) → AreTypes p scope → AllByRecursion (IsType p) (part_types p c scope t)
-      parts_are_types (trees.Assign at name t) scope h = with_own t scope h (parts_are_types t scope h)
-      parts_are_types (trees.Dispatch at t name ts) scope h = both (node_types p c scope t) (types_of_all p c scope ts) (with_own t scope h (parts_are_types t scope h)) (all_are_types ts scope h)
-      parts_are_types (trees.StaticDispatch at t class name ts) scope h = both (node_types p c scope t) (types_of_all p c scope ts) (with_own t scope h (parts_are_types t scope h)) (all_are_types ts scope h)
+      parts_are_types (trees.leaf at form) scope h = tt
+      parts_are_types (trees.unary at form t) scope h = with_own t scope h (parts_are_types t scope h)
+      parts_are_types (trees.binary at form a b) scope h = both (node_types p c scope a) (node_types p c scope b) (with_own a scope h (parts_are_types a scope h)) (with_own b scope h (parts_are_types b scope h))
+      parts_are_types (trees.call at form t ts) scope h = both (node_types p c scope t) (types_of_all p c scope ts) (with_own t scope h (parts_are_types t scope h)) (all_are_types ts scope h)
       parts_are_types (trees.If at t y n) scope h =
           both (node_types p c scope t ++ node_types p c scope y) (node_types p c scope n)
           (both (node_types p c scope t) (node_types p c scope y) (with_own t scope h (parts_are_types t scope h)) (with_own y scope h (parts_are_types y scope h)))
           (with_own n scope h (parts_are_types n scope h))
-      parts_are_types (trees.While at t b) scope h = both (node_types p c scope t) (node_types p c scope b) (with_own t scope h (parts_are_types t scope h)) (with_own b scope h (parts_are_types b scope h))
       parts_are_types (trees.Block at ts) scope h = all_are_types ts scope h
       parts_are_types (trees.Let at name declared o t) scope h =
           let inner = with_own t (with_name name (type_meant p declared.name) scope) (meant_is_type declared.name, h) (parts_are_types t (with_name name (type_meant p declared.name) scope) (meant_is_type declared.name, h)) in
           both (types_of_maybe p c scope o) (node_types p c (with_name name (type_meant p declared.name) scope) t) (maybe_are_types o scope h) inner
       parts_are_types (trees.Case at t cs) scope h = both (node_types p c scope t) (types_of_cases p c scope cs) (with_own t scope h (parts_are_types t scope h)) (cases_are_types cs scope h)
-      parts_are_types (trees.New at class) scope h = tt
-      parts_are_types (trees.IsVoid at t) scope h = with_own t scope h (parts_are_types t scope h)
-      parts_are_types (trees.Arith at op a b) scope h = both (node_types p c scope a) (node_types p c scope b) (with_own a scope h (parts_are_types a scope h)) (with_own b scope h (parts_are_types b scope h))
-      parts_are_types (trees.Neg at t) scope h = with_own t scope h (parts_are_types t scope h)
-      parts_are_types (trees.Compare at op a b) scope h = both (node_types p c scope a) (node_types p c scope b) (with_own a scope h (parts_are_types a scope h)) (with_own b scope h (parts_are_types b scope h))
-      parts_are_types (trees.Not at t) scope h = with_own t scope h (parts_are_types t scope h)
-      parts_are_types (trees.Id at name) scope h = tt
-      parts_are_types (trees.Int at value) scope h = tt
-      parts_are_types (trees.Str at bytes) scope h = tt
-      parts_are_types (trees.Bool at value) scope h = tt
 
       all_are_types : (ts : Trees) (scope : List Binding) → AreTypes p scope → AllByRecursion (IsType p) (types_of_all p c scope ts)
       all_are_types Last scope h = tt
