@@ -4,7 +4,7 @@ use Rattle.std.proofs.Common.{◌≡◌, ℕ, zero, suc, ◌+◌, ◌<◌, ◌�
 use Rattle.std.specs.Prelude.{Option, Some, None, if◌then◌else◌, slice_get}
 use Rattle.cool_syntax.specs.Tree.{Tree}
 use Rattle.cool_classes.specs.Chains.{Class}
-use Rattle.cool_meaning.specs.Values.{Value, Void, Int, Bool as Truth, Str, Obj, State, Environment}
+use Rattle.cool_meaning.specs.Values.{Value, Void, Bool as Truth, State, Environment}
 use Rattle.cool_meaning.specs.Meters.{Outcome, Val, Stop, On, Stuck, Metered, Computation, join, seq_of, seq, ◌>>=◌, ◌>>◌, give, stop, stuck, spend, working, given, locate, load, store}
 use Rattle.cool_meaning.specs.BasicMethods.{as_truth, draw, print, take_line}
 use Rattle.cool_meaning.specs.Evaluation.{Call, turns, loop, eval, run_call, calls_within}
@@ -24,21 +24,15 @@ pub record Agree {A : Type 0} (b : ℕ) (d d' : Computation A) : Type 0 where
 
 pub fewer_on : {A : Type 0} (m n : ℕ) (o : Outcome A) → m ≤ n → Fewer m o → Fewer n o
 fewer_on m n (Val v s left) less h = omega arith
-fewer_on m n (Stop e s) less h = tt
-fewer_on m n (On s) less h = tt
-fewer_on m n Stuck less h = tt
+fewer_on m n _ less h = tt
 
 seq_same : {A B : Type 0} (b n : ℕ) (o : Outcome A) (w g p : ℕ) (f f' : A → Computation B) → n ≤ b → Fewer n o → ((v : A) → Agree b (f v) (f' v)) → seq_of o w g p f ≡ seq_of o w g p f'
 seq_same b n (Val v s left) w g p f f' less h same = ap (join w g p) ((same v).same s left (omega arith))
-seq_same b n (Stop e s) w g p f f' less h same = refl
-seq_same b n (On s) w g p f f' less h same = refl
-seq_same b n Stuck w g p f f' less h same = refl
+seq_same b n _ w g p f f' less h same = refl
 
 seq_fewer : {A B : Type 0} (b n : ℕ) (o : Outcome A) (w g p : ℕ) (f f' : A → Computation B) → n ≤ b → Fewer n o → ((v : A) → Agree b (f v) (f' v)) → Fewer n (seq_of o w g p f).outcome
 seq_fewer b n (Val v s left) w g p f f' less h same = fewer_on left n (f v s left).outcome (omega arith) ((same v).fewer s left (omega arith))
-seq_fewer b n (Stop e s) w g p f f' less h same = tt
-seq_fewer b n (On s) w g p f f' less h same = tt
-seq_fewer b n Stuck w g p f f' less h same = tt
+seq_fewer b n _ w g p f f' less h same = tt
 
 bind_agree : {A B : Type 0} {b : ℕ} {d d' : Computation A} {f f' : A → Computation B} → Agree b d d' → ((v : A) → Agree b (f v) (f' v)) → Agree b (d >>= f) (d' >>= f')
 bind_agree {b = b} {d = d} {d' = d'} {f = f} {f' = f'} h k = record {
@@ -61,10 +55,7 @@ truth_agree b v = itself (as_truth v) (by v)
   where
     by : (v : Value) (s : State) (n : ℕ) → Fewer n (as_truth v s n).outcome
     by (Truth c) s n = omega arith
-    by Void s n = tt
-    by (Int i) s n = tt
-    by (Str bytes) s n = tt
-    by (Obj c i ls) s n = tt
+    by _ s n = tt
 
 if_agree : {A : Type 0} {b : ℕ} (c : Bool) {d d' e e' : Computation A} → Agree b d d' → Agree b e e' → Agree b (if c then d else e) (if c then d' else e')
 if_agree true h k = h

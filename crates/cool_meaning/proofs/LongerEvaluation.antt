@@ -3,7 +3,7 @@ use Rattle.std.proofs.Common.{◌≡◌, ℕ, zero, suc, ◌+◌, List, arith}
 use Rattle.std.specs.Prelude.{if◌then◌else◌}
 use Rattle.cool_syntax.specs.Tree.{Tree}
 use Rattle.cool_classes.specs.Chains.{Class}
-use Rattle.cool_meaning.specs.Values.{Value, Void, Int, Bool, Str, Obj, Environment}
+use Rattle.cool_meaning.specs.Values.{Value, Void, Bool, Environment}
 use Rattle.cool_meaning.specs.Meters.{Computation, ◌>>=◌, ◌>>◌, give, spend, working}
 use Rattle.cool_meaning.specs.BasicMethods.{as_truth}
 use Rattle.cool_meaning.specs.Evaluation.{Call, turns, loop, eval, calls_within}
@@ -13,11 +13,8 @@ use Rattle.cool_meaning.proofs.RelatedEvaluation.{IsKept, IsSpent, eval_kept, ca
 -- Loops
 
 truth_alike : (v : Value) → Alike (as_truth v) (as_truth v)
-truth_alike (Int n) = no_rule_alike
-truth_alike Void = no_rule_alike
 truth_alike (Bool b) = give_alike b
-truth_alike (Str bytes) = no_rule_alike
-truth_alike (Obj c i ls) = no_rule_alike
+truth_alike _ = no_rule_alike
 
 turn_alike : {test test' body body' next next' : Computation Value} → Alike test test' → Alike body body' → Alike next next'
     → Alike (test >>= λ v. as_truth v >>= λ b. if b then spend (working 1 (body >> next)) else give Void) (test' >>= λ v. as_truth v >>= λ b. if b then spend (working 1 (body' >> next')) else give Void)

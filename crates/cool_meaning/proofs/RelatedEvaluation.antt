@@ -66,24 +66,15 @@ module _ (R : (A : Type 0) → Computation A → Computation A → Type 0) (k : 
 
   pub number_kept : (v : Value) → R _ (as_number v) (as_number v)
   number_kept (Int n) = k.give_kept n
-  number_kept Void = k.stuck_kept
-  number_kept (Truth b) = k.stuck_kept
-  number_kept (Str bytes) = k.stuck_kept
-  number_kept (Obj c i ls) = k.stuck_kept
+  number_kept _ = k.stuck_kept
 
   pub truth_kept : (v : Value) → R _ (as_truth v) (as_truth v)
   truth_kept (Truth b) = k.give_kept b
-  truth_kept Void = k.stuck_kept
-  truth_kept (Int n) = k.stuck_kept
-  truth_kept (Str bytes) = k.stuck_kept
-  truth_kept (Obj c i ls) = k.stuck_kept
+  truth_kept _ = k.stuck_kept
 
   string_kept : (v : Value) → R _ (as_string v) (as_string v)
   string_kept (Str bytes) = k.give_kept bytes
-  string_kept Void = k.stuck_kept
-  string_kept (Int n) = k.stuck_kept
-  string_kept (Truth b) = k.stuck_kept
-  string_kept (Obj c i ls) = k.stuck_kept
+  string_kept _ = k.stuck_kept
 
   one_kept : (vs : List Value) → R _ (one vs) (one vs)
   one_kept [] = k.stuck_kept

@@ -1,11 +1,11 @@
 -- The numbers of Cool: 32 bits with a sign, exact arithmetic with an error where a result has more, and numbers read from text (the Cool
 -- manual, section 8.3; that overflow is an error is this compiler's rule).
-use Rattle.std.specs.Prelude.{◌≡◌, refl, ℕ, ◌+◌, ◌-◌, ◌*◌, ◌%◌, ℤ, pos, negsuc, Bool, false, ◌&&◌, ◌||◌, ◌==◌, nat_le, nat_lt, if◌then◌else◌, List, [], ◌∷◌}
+use Rattle.std.specs.Prelude.{◌≡◌, refl, ℕ, ◌+◌, ◌-◌, ◌*◌, ◌%◌, ◌^◌, ℤ, pos, negsuc, Bool, false, ◌&&◌, ◌||◌, ◌==◌, nat_le, nat_lt, if◌then◌else◌, List, [], ◌∷◌}
 
--- from -2147483648 to 2147483647
+-- from -2 ^ 31 to 2 ^ 31 - 1
 abbrev pub fits : ℤ → Bool
-fits (pos n) = nat_lt n 2147483648
-fits (negsuc n) = nat_lt n 2147483648
+fits (pos n) = nat_lt n (2 ^ 31)
+fits (negsuc n) = nat_lt n (2 ^ 31)
 
 abbrev pub is_zero : ℤ → Bool
 is_zero (pos n) = n == 0
@@ -13,7 +13,7 @@ is_zero (negsuc n) = false
 
 -- the low 32 bits, read with their sign
 abbrev pub signed : ℕ → ℤ
-signed n = if nat_lt (n % 4294967296) 2147483648 then pos (n % 4294967296) else negsuc (4294967295 - n % 4294967296)
+signed n = if nat_lt (n % 2 ^ 32) (2 ^ 31) then pos (n % 2 ^ 32) else negsuc (2 ^ 32 - 1 - n % 2 ^ 32)
 
 -- a number at the front of a line: blanks and tabs, an optional minus sign, digits
 
@@ -31,9 +31,9 @@ abbrev pub digits_from : ℕ → List ℕ → ℕ
 digits_from n [] = n
 digits_from n (b ∷ rest) = if is_digit b then digits_from (10 * n + (b - 48)) rest else n
 
--- the number below 2^32 that has the low 32 bits of minus n
+-- a number up to 2 ^ 32 that has the low 32 bits of minus n
 abbrev pub negated : ℕ → ℕ
-negated n = 4294967296 - n % 4294967296
+negated n = 2 ^ 32 - n % 2 ^ 32
 
 abbrev pub number_after_blanks : List ℕ → ℤ
 number_after_blanks [] = pos 0
