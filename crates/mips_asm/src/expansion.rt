@@ -173,7 +173,7 @@ pub fn word_bits(value: i64) -> u32
     ensures { result ≡ bits_of value }
 {
     if value < 0 {
-        (value + 4294967296) as u32
+        (value + (1 << 32)) as u32
     } else {
         value as u32
     }

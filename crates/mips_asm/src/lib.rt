@@ -16,7 +16,7 @@ mod target;
 mod text_labels;
 mod text_words;
 
-ghost use Rattle.std.specs.Prelude.{◌<◌, length};
+ghost use Rattle.std.specs.Prelude.{◌-◌, ◌^◌, ◌<◌, length};
 ghost use Rattle.mips_isa.specs.Lines.{lines_of, AreInRange};
 ghost use Rattle.mips_isa.specs.Assembly.{Assembles};
 
@@ -36,7 +36,7 @@ pub use text_words::words_of_statement;
 ///
 /// Lines that are not at hand at once are assembled in parts by `FirstPass` and `SecondPass`.
 pub fn assemble(alloc: Global, lines: &[Line]) -> Result<Image, AsmError>
-    requires few { length lines.now < 4294967292 }
+    requires few { length lines.now < 2 ^ 32 - 4 }
     requires ranges { AreInRange (lines_of lines.now) }
     ensures { Assembles (lines_of lines.now) result }
 {

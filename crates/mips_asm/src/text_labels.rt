@@ -1,6 +1,6 @@
 //! The labels of words of the text.
 
-ghost use Rattle.std.specs.Prelude.{◌≡◌, ◌<◌, nat_lt, List, ℕ, Some, None, length, bytes_eq, if◌then◌else◌, IfOk};
+ghost use Rattle.std.specs.Prelude.{◌≡◌, ◌-◌, ◌^◌, ◌<◌, nat_lt, List, ℕ, Some, None, length, bytes_eq, if◌then◌else◌, IfOk};
 ghost use Rattle.mips_isa.specs.Lines.{lines_of, AreInRange};
 ghost use Rattle.mips_isa.specs.Assembly.{fault_of, place_of, start_name};
 ghost use Rattle.mips_asm.specs.TextLabels.{text_label, text_end, has_word, address_of, address_or_start};
@@ -93,7 +93,7 @@ impl Model for TextLabels {
 impl TextLabels {
     /// The labels of lines that have an image, to look up many names. `Err` comes only for want of memory.
     pub fn find(alloc: Global, lines: &[Line]) -> Result<Self, AllocError>
-        requires few { length lines.now < 4294967292 }
+        requires few { length lines.now < 2 ^ 32 - 4 }
         requires ranges { AreInRange (lines_of lines.now) }
         requires image { fault_of (lines_of lines.now) ≡ None }
         ensures labels { IfOk result (λ labels. (name : List ℕ) → address_of labels name ≡ text_label (lines_of lines.now) name) }
