@@ -1,6 +1,7 @@
 -- Pieces that take heap or stack: they come to an end, or to an exit by a limit.
 use Rattle.std.proofs.Common.{◌≡◌, ℕ, ◌+◌, ◌-◌, ◌<◌, ◌≤◌, inl, inr, List, refl, sym, ◌∙◌, subst, arith, true, false}
 use Rattle.std.specs.Prelude.{◌==◌, nat_lt}
+use Rattle.mips_isa.specs.declared.register.TheConstants.{ZERO, T2}
 use Rattle.mips_isa.specs.Bytes.{Bytes, word, set_word}
 use Rattle.mips_isa.specs.Machine.{wrap, flag}
 use Rattle.mips_isa.specs.Calls.{State}
@@ -30,14 +31,14 @@ module _ (w : World) where
   same_way : (output output' input input' : List ℕ) → output' ≡ output → input' ≡ input → OnTheWay w output input → OnTheWay w output' input'
   same_way output output' input input' e f way = subst (λ o. OnTheWay w o input') (sym e) (subst (λ i. OnTheWay w output i) (sym f) way)
 
-  pub heap_exit : (goal : Goal) (s : State) (c : Console) → Limits w → s.core.pc ≡ w.place heap_limit → s.core.registers 0 ≡ 0 → w.segments.heap_end < w.top
+  pub heap_exit : (goal : Goal) (s : State) (c : Console) → Limits w → s.core.pc ≡ w.place heap_limit → s.core.registers ZERO ≡ 0 → w.segments.heap_end < w.top
       → s.input ≡ c.input → s.output ≡ c.output → OnTheWay w c.output c.input → Reaches w s 0 3 goal
   unfolding routine_lines
   heap_exit goal s c limits at z why input output way =
       walk w heap_limit_lines 0 s.core.registers s.core.pc s.core.memory (beside s) (w.place heap_limit) 0 0 goal limits.heap (omega arith)
       (ExitWith, (omega arith, inr (record { why = inl (omega arith, why); console = same_way _ _ _ _ output input way })))
 
-  pub stack_exit : (goal : Goal) (s : State) (c : Console) → Limits w → s.core.pc ≡ w.place stack_limit → s.core.registers 0 ≡ 0 → w.low < w.segments.stack_low
+  pub stack_exit : (goal : Goal) (s : State) (c : Console) → Limits w → s.core.pc ≡ w.place stack_limit → s.core.registers ZERO ≡ 0 → w.low < w.segments.stack_low
       → s.input ≡ c.input → s.output ≡ c.output → OnTheWay w c.output c.input → Reaches w s 0 3 goal
   unfolding routine_lines
   stack_exit goal s c limits at z why input output way =
@@ -62,7 +63,7 @@ module _ (w : World) where
             stack_exit _ _ c limits refl at.numbers.zero_is (omega arith) at.input_is at.output_is way),
       )
 
-  pub new_int : (p : Pointers) (m : Bytes) (c : Console) (s : State) (v : ℕ) → Limits w → HasLines w p.pc new_int_lines → At w p m c s → s.core.registers 10 ≡ v
+  pub new_int : (p : Pointers) (m : Bytes) (c : Console) (s : State) (v : ℕ) → Limits w → HasLines w p.pc new_int_lines → At w p m c s → s.core.registers T2 ≡ v
       → IntAt w m p.gp (w.place int_prototype) 0 → p.gp + 20 ≤ w.top → OnTheWay w c.output c.input
       → Reaches w s 0 20 (stands (At w (record p { pc = p.pc + 68; gp = p.gp + 20; acc = p.gp + 4 }) (with_int m p.gp w.tags.int (w.place int_table) v) c))
   unfolding with_head

@@ -1,5 +1,6 @@
 -- The pieces of which the routines that make Strings consist.
 use Rattle.std.proofs.Common.{◌≡◌, ℕ, zero, suc, ◌+◌, ◌*◌, ◌%◌, ◌<◌, ◌≤◌, List, refl, ap, ◌∙◌, arith}
+use Rattle.mips_isa.specs.declared.register.TheConstants.{T2}
 use Rattle.mips_isa.specs.Bytes.{Bytes, word, set_word, set_byte}
 use Rattle.mips_isa.specs.Machine.{wrap}
 use Rattle.mips_isa.specs.Calls.{State}
@@ -160,8 +161,8 @@ module _ (w : World) where
       let at = hold.at in
       let begins : w.place begin ≡ p.pc = has.0.labels.0 in
       let u : Temporaries = record t { t2 = t.t2 + 1; t3 = n; t4 = t.t4 + 1 } in
-      let from_is : wrap (s.core.registers 10 + 0) ≡ t.t2 = omega arith in
-      let v : s.core.memory (wrap (s.core.registers 10 + 0)) ≡ m t.t2 = ap s.core.memory from_is ∙ ap (λ f. f t.t2) at.memory_is in
+      let from_is : wrap (s.core.registers T2 + 0) ≡ t.t2 = omega arith in
+      let v : s.core.memory (wrap (s.core.registers T2 + 0)) ≡ m t.t2 = ap s.core.memory from_is ∙ ap (λ f. f t.t2) at.memory_is in
       wider w s 0 0 (8 + (8 * n + 8)) (8 * suc n + 8) _ (omega arith) (omega arith)
       (walk w (bytes_lines begin end) 0 s.core.registers s.core.pc s.core.memory (beside s) p.pc 0 (8 * n + 8) _ has (omega arith) (
         (λ z. (

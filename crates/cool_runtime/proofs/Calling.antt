@@ -1,6 +1,7 @@
 -- Calls: a frame is made and left, and a dispatch goes to the method of the receiver's table.
 use Rattle.std.proofs.Common.{◌≡◌, ℕ, ◌+◌, ◌-◌, ◌*◌, ◌%◌, ◌<◌, ◌≤◌, List, [], ◌∷◌, refl, ◌∙◌, arith}
 use Rattle.std.specs.Prelude.{pos}
+use Rattle.mips_isa.specs.declared.register.TheConstants.{A0, T8, T9, FP}
 use Rattle.mips_isa.specs.Bytes.{Bytes, word, set_word}
 use Rattle.mips_isa.specs.Machine.{wrap}
 use Rattle.mips_isa.specs.Calls.{State}
@@ -63,9 +64,9 @@ module _ (w : World) where
   leaves arguments p m c s ra old self has at frame low even high =
       let laid = w.laid in
       let m0 = s.core.memory in
-      let v1 : word m0 (wrap (s.core.registers 30 + 8)) ≡ ra = load_eq _ _ _ _ at.memory_is (omega arith) ∙ frame.ra_is in
-      let v2 : word m0 (wrap (s.core.registers 30 + 4)) ≡ old = load_eq _ _ _ _ at.memory_is (omega arith) ∙ frame.fp_is in
-      let v3 : word m0 (wrap (s.core.registers 30 + 0)) ≡ self = load_eq _ _ _ _ at.memory_is (omega arith) ∙ frame.self_is in
+      let v1 : word m0 (wrap (s.core.registers FP + 8)) ≡ ra = load_eq _ _ _ _ at.memory_is (omega arith) ∙ frame.ra_is in
+      let v2 : word m0 (wrap (s.core.registers FP + 4)) ≡ old = load_eq _ _ _ _ at.memory_is (omega arith) ∙ frame.fp_is in
+      let v3 : word m0 (wrap (s.core.registers FP + 0)) ≡ self = load_eq _ _ _ _ at.memory_is (omega arith) ∙ frame.self_is in
       walk w (leave_lines arguments) 0 s.core.registers s.core.pc m0 (beside s) p.pc 0 0 _ has (omega arith) (
         omega arith,
         (
@@ -87,12 +88,12 @@ module _ (w : World) where
   -- a dispatch takes at least one instruction
   pub dispatches : (file : Name) (line slot : ℕ) (p : Pointers) (m : Bytes) (c : Console) (s : State) (table method : ℕ) → HasLines w p.pc (dispatch_lines file line slot) → At w p m c s
       → line < 4294967296 → Lies w p.gp p.acc 12 → word m (p.acc + 8) ≡ table → SlotAt m table slot method
-      → Reaches w s 1 9 (stands (λ t. At w (record p { pc = method; ra = p.pc + 36 }) m c t × (t.core.registers 24 ≡ w.place file) × (t.core.registers 25 ≡ line)))
+      → Reaches w s 1 9 (stands (λ t. At w (record p { pc = method; ra = p.pc + 36 }) m c t × (t.core.registers T8 ≡ w.place file) × (t.core.registers T9 ≡ line)))
   dispatches file line slot p m c s table method has at fits lies is entry =
       let laid = w.laid in
       let m0 = s.core.memory in
-      let v1 : word m0 (wrap (s.core.registers 4 + 8)) ≡ table = load_eq _ _ _ _ at.memory_is (omega arith) ∙ is in
-      let v2 : word m0 (wrap (word m0 (wrap (s.core.registers 4 + 8)) + 4 * slot)) ≡ method = load_eq _ _ _ _ at.memory_is (omega arith) ∙ entry.holds in
+      let v1 : word m0 (wrap (s.core.registers A0 + 8)) ≡ table = load_eq _ _ _ _ at.memory_is (omega arith) ∙ is in
+      let v2 : word m0 (wrap (word m0 (wrap (s.core.registers A0 + 8)) + 4 * slot)) ≡ method = load_eq _ _ _ _ at.memory_is (omega arith) ∙ entry.holds in
       walk_more w (la 24 file) (dispatch_rest line slot) s.core.registers s.core.pc m0 (beside s) p.pc 0 0 _ (omega arith) has (omega arith) (
         omega arith,
         (

@@ -2,6 +2,7 @@
 use Rattle.std.proofs.Common.{◌≡◌, ℕ, zero, suc, ◌+◌, ◌*◌, ◌<◌, ◌≤◌, ◌⊎◌, inl, inr, List, [], ◌∷◌, ◌++◌, length, get_or, refl, sym, ap, ◌∙◌, subst, arith, Bool, true, false}
 use Rattle.std.specs.Prelude.{◌==◌, if◌then◌else◌, ◌&&◌, bytes_eq}
 use Rattle.std.proofs.lemmas.Slice.Eq.{bytes_eq-Decides}
+use Rattle.mips_isa.specs.declared.register.TheConstants.{T1, T2, T3}
 use Rattle.mips_isa.specs.Bytes.{Bytes, word}
 use Rattle.mips_isa.specs.Machine.{wrap}
 use Rattle.mips_isa.specs.Calls.{State}
@@ -118,9 +119,9 @@ module _ (w : World) where
   values_compared p m c a b v u s has ops first second =
       let laid = w.laid in
       let at = ops.at in
-      let va : word s.core.memory (wrap (s.core.registers 9 + 12)) ≡ v = load_eq _ _ _ _ at.memory_is (let l = first.lies in omega arith) ∙ first.value in
-      let vb : word s.core.memory (wrap (s.core.registers 10 + 12)) ≡ u = load_eq _ _ _ _ at.memory_is (let l = second.lies in omega arith) ∙ second.value in
-      let tests : (word s.core.memory (wrap (s.core.registers 9 + 12)) == word s.core.memory (wrap (s.core.registers 10 + 12))) ≡ (v == u) = ap (λ x. x == word s.core.memory (wrap (s.core.registers 10 + 12))) va ∙ ap (λ x. v == x) vb in
+      let va : word s.core.memory (wrap (s.core.registers T1 + 12)) ≡ v = load_eq _ _ _ _ at.memory_is (let l = first.lies in omega arith) ∙ first.value in
+      let vb : word s.core.memory (wrap (s.core.registers T2 + 12)) ≡ u = load_eq _ _ _ _ at.memory_is (let l = second.lies in omega arith) ∙ second.value in
+      let tests : (word s.core.memory (wrap (s.core.registers T1 + 12)) == word s.core.memory (wrap (s.core.registers T2 + 12))) ≡ (v == u) = ap (λ x. x == word s.core.memory (wrap (s.core.registers T2 + 12))) va ∙ ap (λ x. v == x) vb in
       walk w equal_values_lines 0 s.core.registers s.core.pc s.core.memory (beside s) p.pc 0 0 _ has (omega arith) (
         (let l = first.lies in omega arith),
         (
@@ -147,7 +148,7 @@ module _ (w : World) where
     pub in_data : a < 536870912 → a + n ≤ w.segments.data_end
     pub to : a + n ≤ gp
 
-  bytes_compared : (n : ℕ) (p : Pointers) (m : Bytes) (c : Console) (a b : ℕ) (s : State) → HasLines w p.pc equal_bytes_lines → Operands w p m c a b s → s.core.registers 11 ≡ n
+  bytes_compared : (n : ℕ) (p : Pointers) (m : Bytes) (c : Console) (a b : ℕ) (s : State) → HasLines w p.pc equal_bytes_lines → Operands w p m c a b s → s.core.registers T3 ≡ n
       → MayRead p.gp a n → MayRead p.gp b n → n < 4294967296
       → Reaches w s 0 (10 * n + 10) (stands (At w (record p { pc = verdict_place (eq_bytes m a b n) }) m c))
   bytes_compared zero p m c a b s has ops count first second fits =
@@ -162,11 +163,11 @@ module _ (w : World) where
       let at = ops.at in
       let m0 = s.core.memory in
       let begins : w.place equal_bytes ≡ p.pc = has.0.labels.0 in
-      let pa : wrap (s.core.registers 9 + 0) ≡ a = omega arith in
-      let pb : wrap (s.core.registers 10 + 0) ≡ b = omega arith in
-      let va : m0 (wrap (s.core.registers 9 + 0)) ≡ m a = ap m0 pa ∙ ap (λ f. f a) at.memory_is in
-      let vb : m0 (wrap (s.core.registers 10 + 0)) ≡ m b = ap m0 pb ∙ ap (λ f. f b) at.memory_is in
-      let tests : (m0 (wrap (s.core.registers 9 + 0)) == m0 (wrap (s.core.registers 10 + 0))) ≡ (m a == m b) = ap (λ x. x == m0 (wrap (s.core.registers 10 + 0))) va ∙ ap (λ x. m a == x) vb in
+      let pa : wrap (s.core.registers T1 + 0) ≡ a = omega arith in
+      let pb : wrap (s.core.registers T2 + 0) ≡ b = omega arith in
+      let va : m0 (wrap (s.core.registers T1 + 0)) ≡ m a = ap m0 pa ∙ ap (λ f. f a) at.memory_is in
+      let vb : m0 (wrap (s.core.registers T2 + 0)) ≡ m b = ap m0 pb ∙ ap (λ f. f b) at.memory_is in
+      let tests : (m0 (wrap (s.core.registers T1 + 0)) == m0 (wrap (s.core.registers T2 + 0))) ≡ (m a == m b) = ap (λ x. x == m0 (wrap (s.core.registers T2 + 0))) va ∙ ap (λ x. m a == x) vb in
       wider w s 0 0 (10 + (10 * n + 10)) (10 * suc n + 10) _ (omega arith) (omega arith)
       (walk w equal_bytes_lines 0 s.core.registers s.core.pc m0 (beside s) p.pc 0 (10 * n + 10) _ has (omega arith) (
         (λ z. (
@@ -191,7 +192,7 @@ module _ (w : World) where
   -- the lengths of two Strings
   lengths_compared : (p : Pointers) (m : Bytes) (c : Console) (a b : ℕ) (xs ys : List ℕ) (s : State) → HasLines w p.pc equal_strings_lines → Operands w p m c a b s → StringAt w m p.gp a xs → StringAt w m p.gp b ys
       → Reaches w s 0 8 (stands (λ r. ((length xs ≡ length ys → ⊥) × At w (record p { pc = w.place equal_false }) m c r)
-      ⊎ ((length xs ≡ length ys) × Operands w (record p { pc = p.pc + 32 }) m c (a + 16) (b + 16) r × (r.core.registers 11 ≡ length xs))))
+      ⊎ ((length xs ≡ length ys) × Operands w (record p { pc = p.pc + 32 }) m c (a + 16) (b + 16) r × (r.core.registers T3 ≡ length xs))))
   lengths_compared p m c a b xs ys s has ops first second =
       let laid = w.laid in
       let at = ops.at in
@@ -328,7 +329,7 @@ module _ (w : World) where
               → HasLines w (w.place equal_strings + 32) equal_bytes_lines → HasLines w (w.place equal_true) equal_true_lines → HasLines w (w.place equal_false) equal_false_lines
               → StringAt w m p.gp a xs → StringAt w m p.gp b ys → p.gp ≤ w.segments.heap_end
               → ((length xs ≡ length ys → ⊥) × At w (record p { pc = w.place equal_false }) m c s)
-              ⊎ ((length xs ≡ length ys) × Operands w (record p { pc = w.place equal_strings + 32 }) m c (a + 16) (b + 16) s × (s.core.registers 11 ≡ length xs))
+              ⊎ ((length xs ≡ length ys) × Operands w (record p { pc = w.place equal_strings + 32 }) m c (a + 16) (b + 16) s × (s.core.registers T3 ≡ length xs))
               → Reaches w s 0 (10 * length xs + 13) (stands (λ r. (t : Bool) × (Verdict w a b ta tb v u xs ys t × At w (record p { pc = p.ra; acc = constant_place w t }) m c r)))
           by_length p m c a b ta tb v u xs ys s e k k4 k5 k6 first second below (inl other) =
               ending _ p m c a b ta tb v u xs ys s false (omega arith) k5 k6 (ByBytes e k (sym (lengths_differ xs ys other.0))) other.1

@@ -1,6 +1,7 @@
 -- The copy of an object: its words, one after another.
 use Rattle.std.proofs.Common.{◌≡◌, ℕ, zero, suc, ◌+◌, ◌*◌, ◌%◌, ◌<◌, ◌≤◌, List, [], ◌∷◌, ◌++◌, refl, ◌∙◌, arith, true, false}
 use Rattle.std.specs.Prelude.{◌==◌, not}
+use Rattle.mips_isa.specs.declared.register.TheConstants.{A0, T1, T2, T3}
 use Rattle.mips_isa.specs.Bytes.{Bytes, word, set_word}
 use Rattle.mips_isa.specs.Machine.{wrap}
 use Rattle.mips_isa.specs.Calls.{State}
@@ -30,9 +31,9 @@ same_numbers x y f = grind arith
 -- $t1, $t2 and $t3 in the loop
 pub record Counting (w : World) (p : Pointers) (m : Bytes) (c : Console) (end goal to : ℕ) (s : State) : Type 0 where
   pub at : At w p m c s
-  pub t1_is : s.core.registers 9 ≡ end
-  pub t2_is : s.core.registers 10 ≡ goal
-  pub t3_is : s.core.registers 11 ≡ to
+  pub t1_is : s.core.registers T1 ≡ end
+  pub t2_is : s.core.registers T2 ≡ goal
+  pub t3_is : s.core.registers T3 ≡ to
 
 -- so many words may be copied
 pub record MayCopy (w : World) (gp from to n : ℕ) : Type 0 where
@@ -65,7 +66,7 @@ module _ (w : World) where
   copy_loop (suc n) p m c s end goal to last has count ends lasts may =
       let laid = w.laid in
       let at = count.at in
-      let v : word s.core.memory (wrap (s.core.registers 4 + 0)) ≡ word m p.acc = load_eq _ _ _ _ at.memory_is (omega arith) in
+      let v : word s.core.memory (wrap (s.core.registers A0 + 0)) ≡ word m p.acc = load_eq _ _ _ _ at.memory_is (omega arith) in
       let q : Pointers = record p { acc = p.acc + 4 } in
       let begins : w.place copy_words ≡ p.pc = has.0.labels.0 in
       let here' = has_at w (bne 4 9 ∷ j copy_end ∷ copy_word_lines) (p.pc + 0) s.core.pc (omega arith) has.1 in
@@ -96,7 +97,7 @@ module _ (w : World) where
       × Counting w (record p { pc = p.pc + 44 }) (set_word m p.gp 4294967295) c (p.acc + 4 * size) (p.gp + 4 * size + 4) (p.gp + 4) t))
   copy_first p m c s size limits has at lies some sized room way =
       let laid = w.laid in
-      let v : word s.core.memory (wrap (s.core.registers 4 + 4)) ≡ size = load_eq _ _ _ _ at.memory_is (omega arith) ∙ sized in
+      let v : word s.core.memory (wrap (s.core.registers A0 + 4)) ≡ size = load_eq _ _ _ _ at.memory_is (omega arith) ∙ sized in
       walk w copy_first_lines 0 s.core.registers s.core.pc s.core.memory (beside s) p.pc 0 3 _ has (omega arith) (
         omega arith,
         (

@@ -2,6 +2,7 @@
 use Rattle.std.proofs.Common.{◌≡◌, ℕ, zero, suc, ◌+◌, ◌-◌, ◌*◌, ◌/◌, ◌%◌, ◌<◌, ◌≤◌, inl, inr, List, [], ◌∷◌, ◌++◌, length, drop, refl, sym, ap, ◌∙◌, subst, arith}
 use Rattle.std.specs.Prelude.{take}
 use Rattle.std.proofs.lemmas.List.{get_or-take, get_or-drop, length-take-le, length-drop}
+use Rattle.mips_isa.specs.declared.register.TheConstants.{T1, T4, T6, T7, T8, T9}
 use Rattle.mips_isa.specs.Bytes.{Bytes, word}
 use Rattle.mips_isa.specs.Machine.{wrap}
 use Rattle.mips_isa.specs.Calls.{State}
@@ -28,7 +29,7 @@ module _ (w : World) where
   substr_begin : (p : Pointers) (m : Bytes) (c : Console) (s : State) (xs : List ℕ) (i l : ℕ) → HasLines w p.pc substr_begin_lines → At w p m c s → p.sp + 8 ≤ 2147483648
       → StringAt w m p.gp p.acc xs → IntAt w m p.gp (word m (p.sp + 4)) i → IntAt w m p.gp (word m p.sp) l → i + l ≤ length xs
       → Reaches w s 0 13 (stands (Holding w (record p { pc = p.pc + 52 }) m c
-      (record { t1 = s.core.registers 9; t2 = i; t3 = length xs - i; t4 = s.core.registers 12; t5 = l; t6 = s.core.registers 14; t7 = s.core.registers 15 })))
+      (record { t1 = s.core.registers T1; t2 = i; t3 = length xs - i; t4 = s.core.registers T4; t5 = l; t6 = s.core.registers T6; t7 = s.core.registers T7 })))
   substr_begin p m c s xs i l has at arguments a first second within =
       let laid = w.laid in
       let m0 = s.core.memory in
@@ -107,7 +108,7 @@ module _ (w : World) where
   -- what does not lie within the String is refused
   refuses : (p : Pointers) (m : Bytes) (c : Console) (s : State) (xs : List ℕ) (i l : ℕ) → HasLines w p.pc substr_begin_lines → At w p m c s → p.sp + 8 ≤ 2147483648
       → StringAt w m p.gp p.acc xs → IntAt w m p.gp (word m (p.sp + 4)) i → IntAt w m p.gp (word m p.sp) l → length xs < i + l
-      → Reaches w s 0 13 (stands (λ t. At w (record p { pc = w.place substr_abort }) m c t × (t.core.registers 24 ≡ s.core.registers 24) × (t.core.registers 25 ≡ s.core.registers 25)))
+      → Reaches w s 0 13 (stands (λ t. At w (record p { pc = w.place substr_abort }) m c t × (t.core.registers T8 ≡ s.core.registers T8) × (t.core.registers T9 ≡ s.core.registers T9)))
   refuses p m c s xs i l has at arguments a first second beyond =
       let laid = w.laid in
       let m0 = s.core.memory in
@@ -146,7 +147,7 @@ module _ (w : World) where
 
   pub substr_refuses : (p : Pointers) (m : Bytes) (c : Console) (s : State) (xs : List ℕ) (i l : ℕ) → HasLines w (w.place string_substr) substr_lines → At w p m c s → p.pc ≡ w.place string_substr → p.sp + 8 ≤ 2147483648
       → StringAt w m p.gp p.acc xs → IntAt w m p.gp (word m (p.sp + 4)) i → IntAt w m p.gp (word m p.sp) l → length xs < i + l
-      → Reaches w s 0 13 (stands (λ t. At w (record p { pc = w.place substr_abort }) m c t × (t.core.registers 24 ≡ s.core.registers 24) × (t.core.registers 25 ≡ s.core.registers 25)))
+      → Reaches w s 0 13 (stands (λ t. At w (record p { pc = w.place substr_abort }) m c t × (t.core.registers T8 ≡ s.core.registers T8) × (t.core.registers T9 ≡ s.core.registers T9)))
   substr_refuses p m c s xs i l has at begins arguments a first second beyond =
       let behind : List Line = substr_size_lines ++ (int_head_lines ++ (string_head_lines ++ (string_zeros_lines ++ (bytes_lines substr_bytes substr_end ++ string_end_lines substr_end 8)))) in
       refuses p m c s xs i l (has_front w substr_begin_lines behind p.pc (has_at w substr_lines (w.place string_substr) p.pc (omega arith) has)) at arguments a first second beyond

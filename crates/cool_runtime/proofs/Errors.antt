@@ -2,6 +2,7 @@
 use Rattle.std.proofs.Common.{◌≡◌, ℕ, ◌+◌, ◌<◌, inl, List, ◌++◌, ap, ◌∙◌, arith, append_assoc}
 use Rattle.std.specs.Prelude.{Some}
 use Rattle.std.specs.Fmt.{signed_decimal}
+use Rattle.mips_isa.specs.declared.register.TheConstants.{T8, T9}
 use Rattle.mips_isa.specs.Bytes.{Bytes}
 use Rattle.mips_isa.specs.Machine.{wrap}
 use Rattle.mips_isa.specs.Calls.{State, signed, string_at}
@@ -18,7 +19,7 @@ use Rattle.cool_runtime.proofs.Strings.{printable, text_printable}
 
 module _ (w : World) where
   pub error_ends : (name text : Name) (p : Pointers) (m : Bytes) (c : Console) (s : State) (file colon words : List ℕ) (line : ℕ) → HasLines w (w.place name) (error_lines name text) → At w p m c s → p.pc ≡ w.place name
-      → StringAt w m p.gp (s.core.registers 24) file → s.core.registers 25 ≡ line → line < 4294967296 → TextAt w m (w.place colon_text) colon → TextAt w m (w.place text) words
+      → StringAt w m p.gp (s.core.registers T8) file → s.core.registers T9 ≡ line → line < 4294967296 → TextAt w m (w.place colon_text) colon → TextAt w m (w.place text) words
       → Reaches w s 0 16 (exits 3 (EndsWith c (file ++ (colon ++ (signed_decimal (signed line) ++ words)))))
   error_ends name text p m c s file colon words line has at begins string line_is fits first last =
       let laid = w.laid in

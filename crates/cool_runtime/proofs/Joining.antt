@@ -1,5 +1,6 @@
 -- The routine that joins two Strings.
 use Rattle.std.proofs.Common.{◌≡◌, ℕ, ◌+◌, ◌*◌, ◌/◌, ◌<◌, ◌≤◌, List, ◌++◌, length, refl, ◌∙◌, arith}
+use Rattle.mips_isa.specs.declared.register.TheConstants.{T4}
 use Rattle.mips_isa.specs.Bytes.{Bytes, word}
 use Rattle.mips_isa.specs.Machine.{wrap}
 use Rattle.mips_isa.specs.Calls.{State}
@@ -23,7 +24,7 @@ module _ (w : World) where
   concat_begin : (p : Pointers) (m : Bytes) (c : Console) (s : State) (xs ys : List ℕ) → Limits w → HasLines w p.pc concat_begin_lines → At w p m c s → p.sp + 4 ≤ 2147483648
       → StringAt w m p.gp p.acc xs → StringAt w m p.gp (word m p.sp) ys → let n = length xs + length ys in p.gp + 44 + 4 * (n / 4) ≤ w.top → OnTheWay w c.output c.input
       → Reaches w s 0 17 (stands (λ t. (p.gp + 44 + 4 * (n / 4) ≤ w.segments.heap_end) × Holding w (record p { pc = p.pc + 56 }) m c
-      (record { t1 = p.gp + 44 + 4 * (n / 4); t2 = p.acc + 16; t3 = length xs; t4 = s.core.registers 12; t5 = n; t6 = word m p.sp; t7 = length ys }) t))
+      (record { t1 = p.gp + 44 + 4 * (n / 4); t2 = p.acc + 16; t3 = length xs; t4 = s.core.registers T4; t5 = n; t6 = word m p.sp; t7 = length ys }) t))
   concat_begin p m c s xs ys limits has at argument a b room way =
       let laid = w.laid in
       let m0 = s.core.memory in

@@ -1,5 +1,6 @@
 -- The routine that gives a String's length.
 use Rattle.std.proofs.Common.{◌≡◌, ℕ, ◌+◌, List, arith}
+use Rattle.mips_isa.specs.declared.register.TheConstants.{A0}
 use Rattle.mips_isa.specs.Bytes.{Bytes, word}
 use Rattle.mips_isa.specs.Machine.{wrap}
 use Rattle.mips_isa.specs.Calls.{State}
@@ -20,6 +21,6 @@ module _ (w : World) where
       → Reaches w s 0 2 (stands (At w (record p { pc = p.ra; acc = word m (p.acc + 12) }) m c))
   length_gives p m c s bytes has at begins string =
       let laid = w.laid in
-      let v : word s.core.memory (wrap (s.core.registers 4 + 12)) ≡ word m (p.acc + 12) = load_eq _ _ _ _ at.memory_is (let l = string.lies in omega arith) in
+      let v : word s.core.memory (wrap (s.core.registers A0 + 12)) ≡ word m (p.acc + 12) = load_eq _ _ _ _ at.memory_is (let l = string.lies in omega arith) in
       walk w length_lines 0 s.core.registers s.core.pc s.core.memory (beside s) (w.place string_length) 0 0 _ has (omega arith)
       (omega arith, here w _ _ (record { numbers = omega arith; memory_is = at.memory_is; input_is = at.input_is; ended_is = at.ended_is; output_is = at.output_is }))

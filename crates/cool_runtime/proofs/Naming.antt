@@ -2,6 +2,7 @@
 use Rattle.std.proofs.Common.{◌≡◌, ℕ, ◌+◌, ◌*◌, ◌<◌, inl, List, [], ◌∷◌, ◌++◌, refl, ap, ◌∙◌, arith, append_assoc}
 use Rattle.std.specs.Prelude.{Some}
 use Rattle.std.specs.Fmt.{signed_decimal}
+use Rattle.mips_isa.specs.declared.register.TheConstants.{T0, T8, T9}
 use Rattle.mips_isa.specs.Bytes.{Bytes, word}
 use Rattle.mips_isa.specs.Machine.{wrap}
 use Rattle.mips_isa.specs.Calls.{State, signed, string_at}
@@ -23,13 +24,13 @@ use Rattle.cool_runtime.proofs.Pieces.{next, has_front, has_back, has_at}
 -- the machine stands so, with an address in $t0, and $t8 and $t9
 pub record WithName (w : World) (p : Pointers) (m : Bytes) (c : Console) (a file line : ℕ) (s : State) : Type 0 where
   pub at : At w p m c s
-  pub t0_is : s.core.registers 8 ≡ a
-  pub t8_is : s.core.registers 24 ≡ file
-  pub t9_is : s.core.registers 25 ≡ line
+  pub t0_is : s.core.registers T0 ≡ a
+  pub t8_is : s.core.registers T8 ≡ file
+  pub t9_is : s.core.registers T9 ≡ line
 
 module _ (w : World) where
   name_found : (p : Pointers) (m : Bytes) (c : Console) (s : State) (tag : ℕ) (name : List ℕ) → HasLines w p.pc name_lines → At w p m c s → Tagged w m p.gp p.acc tag → NameAt w m p.gp tag name
-      → Reaches w s 0 6 (stands (WithName w (record p { pc = p.pc + 24 }) m c (word m (w.place name_table + 4 * tag)) (s.core.registers 24) (s.core.registers 25)))
+      → Reaches w s 0 6 (stands (WithName w (record p { pc = p.pc + 24 }) m c (word m (w.place name_table + 4 * tag)) (s.core.registers T8) (s.core.registers T9)))
   name_found p m c s tag name has at object entry =
       let laid = w.laid in
       let m0 = s.core.memory in
@@ -167,7 +168,7 @@ module _ (w : World) where
       )
 
   pub no_branch_ends : (p : Pointers) (m : Bytes) (c : Console) (s : State) (tag line : ℕ) (name file colon first last : List ℕ) → HasLines w (w.place case_abort) no_branch_lines → At w p m c s → p.pc ≡ w.place case_abort
-      → Tagged w m p.gp p.acc tag → NameAt w m p.gp tag name → StringAt w m p.gp (s.core.registers 24) file → s.core.registers 25 ≡ line → line < 4294967296
+      → Tagged w m p.gp p.acc tag → NameAt w m p.gp tag name → StringAt w m p.gp (s.core.registers T8) file → s.core.registers T9 ≡ line → line < 4294967296
       → TextAt w m (w.place colon_text) colon → TextAt w m (w.place no_branch_text) first → TextAt w m (w.place stop_text) last
       → Reaches w s 0 27 (exits 3 (EndsWith c ((file ++ (colon ++ signed_decimal (signed line))) ++ (first ++ (name ++ last)))))
   no_branch_ends p m c s tag line name file colon first last has at begins object entry string line_is fits one two three =

@@ -1,6 +1,7 @@
 -- The routines that read.
 use Rattle.std.proofs.Common.{◌≡◌, ℕ, ◌+◌, ◌-◌, ◌*◌, ◌<◌, ◌≤◌, List, [], ◌∷◌, ◌++◌, sym, ap, ◌∙◌, subst, arith, Bool, true, false}
 use Rattle.std.specs.Prelude.{◌==◌, if◌then◌else◌}
+use Rattle.mips_isa.specs.declared.register.TheConstants.{T2}
 use Rattle.mips_isa.specs.Bytes.{Bytes}
 use Rattle.mips_isa.specs.Lines.{Line}
 use Rattle.mips_isa.specs.Machine.{wrap}
@@ -40,7 +41,7 @@ number_fits line = after (skip_blanks line)
 -- the machine stands so, and $t2 has this number
 pub record WithT2 (w : World) (p : Pointers) (m : Bytes) (c : Console) (v : ℕ) (s : State) : Type 0 where
   pub at : At w p m c s
-  pub t2_is : s.core.registers 10 ≡ v
+  pub t2_is : s.core.registers T2 ≡ v
 
 module _ (w : World) where
   read_number : (p : Pointers) (m : Bytes) (c : Console) (s : State) (t : Taken) → HasLines w p.pc read_number_lines → At w p m c s → asked_line c.ended c.input ≡ t

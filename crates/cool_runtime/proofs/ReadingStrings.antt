@@ -1,6 +1,7 @@
 -- The routine that reads a String.
 use Rattle.std.proofs.Common.{◌≡◌, ◌≢◌, ℕ, zero, suc, ◌+◌, ◌-◌, ◌*◌, ◌/◌, ◌%◌, ◌<◌, ◌≤◌, ◌⊎◌, inl, inr, List, [], ◌∷◌, ◌++◌, length, refl, sym, ap, ◌∙◌, subst, arith, Bool, true, false}
 use Rattle.std.specs.Prelude.{nat_le, not, ◌==◌}
+use Rattle.mips_isa.specs.declared.register.TheConstants.{T1, T2, T3, T4, T5, T6, T7, S7}
 use Rattle.mips_isa.specs.Bytes.{Bytes, set_byte, set_word}
 use Rattle.mips_isa.specs.Calls.{State, Taken, asked, char_of}
 use Rattle.cool_runtime.specs.Reaches.{World, Reaches, stands, OnTheWay}
@@ -56,9 +57,9 @@ module _ (w : World) where
       let at = hold.at in
       let same : asked s.ended 1 s.input ≡ u = taken_so c u s p m at asks in
       let value : char_of (asked s.ended 1 s.input).got ≡ v = ap (λ (x : Taken). char_of x.got) same ∙ is in
-      let newline : s.core.registers 11 ≡ 10 = hold.t3_is ∙ ten in
+      let newline : s.core.registers T3 ≡ 10 = hold.t3_is ∙ ten in
       let end : (n : ℕ) (r : State) → r.core.pc ≡ w.place in_string_end → r.core.memory ≡ m → r.input ≡ u.rest → r.ended ≡ u.ended → r.output ≡ c.output → Numbers w (record p { pc = w.place in_string_end }) r
-      → r.core.registers 9 ≡ t.t1 → r.core.registers 10 ≡ t.t2 → r.core.registers 11 ≡ t.t3 → r.core.registers 12 ≡ t.t4 → r.core.registers 13 ≡ t.t5 → r.core.registers 14 ≡ t.t6 → r.core.registers 15 ≡ t.t7
+      → r.core.registers T1 ≡ t.t1 → r.core.registers T2 ≡ t.t2 → r.core.registers T3 ≡ t.t3 → r.core.registers T4 ≡ t.t4 → r.core.registers T5 ≡ t.t5 → r.core.registers T6 ≡ t.t6 → r.core.registers T7 ≡ t.t7
       → Reaches w r 0 n (stands (Holding w (record p { pc = w.place in_string_end }) m (got c u) t)) =
       λ n r a b d e f g r1 r2 r3 r4 r5 r6 r7. done w n r _ (record { at = record { numbers = g; memory_is = b; input_is = d; ended_is = e; output_is = f }; t1_is = r1; t2_is = r2; t3_is = r3; t4_is = r4; t5_is = r5; t6_is = r6; t7_is = r7 }) in
       walk w in_string_byte_lines 0 s.core.registers s.core.pc s.core.memory (beside s) p.pc 0 0 _ has (omega arith) (
@@ -149,7 +150,7 @@ module _ (w : World) where
       let there = has_at w in_string_room_lines (s.core.pc + 4 + 4) (s.core.pc + 8) (omega arith) here'.1.1 in
       single w _ s.core.registers s.core.pc s.core.memory (beside s) 5 _ here'.0.words.0 (
         (λ z. single w _ s.core.registers (s.core.pc + 8) s.core.memory (beside s) 4 _ there.0.words.0 (
-          (λ y. let other : s.core.registers 9 ≡ s.core.registers 23 → ⊥ = differ _ _ y in
+          (λ y. let other : s.core.registers T1 ≡ s.core.registers S7 → ⊥ = differ _ _ y in
               let more : t.t1 + 4 ≤ w.segments.heap_end = grind (arith, other, hold.t1_is, at.numbers.end_is, even, held, laid.heap_even) in
               walk w in_string_zeros_lines 0 s.core.registers (s.core.pc + 8 + 8) s.core.memory (beside s) (s.core.pc + 8 + 8) 0 1 _
               (has_at w in_string_zeros_lines (s.core.pc + 8 + 4 + 4) (s.core.pc + 8 + 8) (omega arith) there.1.1) (omega arith) (
@@ -270,7 +271,7 @@ module _ (w : World) where
   -- the room for no bytes is asked for, and holds zeros
   in_begin : (p : Pointers) (m : Bytes) (c : Console) (s : State) → Limits w → HasLines w p.pc in_string_begin_lines → At w p m c s → p.gp + 44 ≤ w.top → OnTheWay w c.output c.input
       → Reaches w s 0 10 (stands (λ r. (p.gp + 44 ≤ w.segments.heap_end) × Holding w (record p { pc = p.pc + 28 }) (set_word m (p.gp + 40) 0) c
-      (record { t1 = p.gp + 44; t2 = s.core.registers 10; t3 = 10; t4 = p.gp + 40; t5 = s.core.registers 13; t6 = s.core.registers 14; t7 = s.core.registers 15 }) r))
+      (record { t1 = p.gp + 44; t2 = s.core.registers T2; t3 = 10; t4 = p.gp + 40; t5 = s.core.registers T5; t6 = s.core.registers T6; t7 = s.core.registers T7 }) r))
   in_begin p m c s limits has at room way =
       let laid = w.laid in
       walk w in_string_begin_lines 0 s.core.registers s.core.pc s.core.memory (beside s) p.pc 0 3 _ has (omega arith) (

@@ -3,6 +3,7 @@ use Rattle.std.proofs.Common.{◌≡◌, ℕ, zero, suc, ◌+◌, ◌-◌, ◌*�
 use Rattle.std.specs.Prelude.{ℤ, pos, negsuc, bit_or, nat_le, ◌==◌, ◌||◌, if◌then◌else◌}
 use Rattle.std.proofs.Math.Path.{fun_ext}
 use Rattle.std.proofs.lemmas.Nat.{or_shifted}
+use Rattle.mips_isa.specs.declared.register.TheConstants.{RA}
 use Rattle.mips_isa.specs.declared.instr.Instr.{Instr}
 use Rattle.mips_isa.specs.declared.instr.Instr.TheVariants.{Three, Shift, ShiftReg, Jr, Jalr, Syscall, MoveFrom, MoveTo, MulDiv, Imm, Lui, BranchTwo, BranchOne, Jump, Mem}
 use Rattle.mips_isa.specs.declared.instr.FromOp.{FromOp}
@@ -176,7 +177,7 @@ module _ (w : World) where
         let p : machine.jump_target pc (w.place l / 4) ≡ w.place l = omega (arith, at.low, target.low, target.even) in
         one w (st r pc m x) (st r (w.place l) m x) lo hi goal (cycled _ (st r pc m x) at ∙ ap (λ p. Running (st r p m x)) p) (wider w (st r (w.place l) m x) lo lo less hi goal (omega arith) le h)
     c_jump less le Jal l r pc m x at target h =
-        let t : ℕ → State = λ p. st (set_register r 31 (pc + 4)) p m x in
+        let t : ℕ → State = λ p. st (set_register r RA (pc + 4)) p m x in
         let p : machine.jump_target pc (w.place l / 4) ≡ w.place l = omega (arith, at.low, target.low, target.even) in
         one w (st r pc m x) (t (w.place l)) lo hi goal (cycled _ (st r pc m x) at ∙ ap (λ p. Running (t p)) p) (wider w (t (w.place l)) lo lo less hi goal (omega arith) le h)
 

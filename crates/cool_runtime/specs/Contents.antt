@@ -1,6 +1,6 @@
 -- What stands in memory: objects, by the run-time conventions. At -4 the word -1, at 0 the tag, at 4 the size in words, at 8 the
 -- address of the dispatch table, from 12 on the attributes.
-use Rattle.std.specs.Prelude.{ℕ, ◌+◌, ◌-◌, ◌*◌, ◌/◌, ◌%◌, ◌<◌, ◌≤◌, ◌≡◌, ◌≢◌, List, length, get_or}
+use Rattle.std.specs.Prelude.{ℕ, ◌+◌, ◌-◌, ◌*◌, ◌/◌, ◌%◌, ◌^◌, ◌<◌, ◌≤◌, ◌≡◌, ◌≢◌, List, length, get_or}
 use Rattle.std.specs.List.{AllByRecursion}
 use Rattle.mips_isa.specs.declared.address_map.TheConstants.{DATA_START, HEAP_START}
 use Rattle.mips_isa.specs.Bytes.{Bytes, word}
@@ -10,30 +10,30 @@ use Rattle.cool_runtime.specs.Labels.{int_table, bool_table, string_table, int_p
 -- so many bytes from a on, and a word before them, lie in the data, or in the heap below gp
 pub record Lies (w : World) (gp a size : ℕ) : Type 0 where
   pub even : a % 4 ≡ 0
-  pub from : 268435460 ≤ a
+  pub from : DATA_START + 4 ≤ a
   pub to : a + size ≤ gp
   pub in_data : a < HEAP_START → a + size ≤ w.segments.data_end
   pub in_heap : HEAP_START ≤ a → HEAP_START + 4 ≤ a
 
 -- the four words of an object's head
 pub record HeadAt (m : Bytes) (a tag size table : ℕ) : Type 0 where
-  pub mark : word m (a - 4) ≡ 4294967295
+  pub mark : word m (a - 4) ≡ 2 ^ 32 - 1
   pub tag_is : word m a ≡ tag
   pub size_is : word m (a + 4) ≡ size
   pub table_is : word m (a + 8) ≡ table
 
 -- the head of a class has numbers of 32 bits
 pub record HeadFits (tag size table : ℕ) : Type 0 where
-  pub tag_fits : tag < 4294967296
-  pub size_fits : size < 1073741824
-  pub table_fits : table < 4294967296
+  pub tag_fits : tag < 2 ^ 32
+  pub size_fits : size < 2 ^ 30
+  pub table_fits : table < 2 ^ 32
 
 pub record IntAt (w : World) (m : Bytes) (gp a v : ℕ) : Type 0 where
   pub lies : Lies w gp a 16
   pub head : HeadAt m a w.tags.int 4 (w.place int_table)
   pub head_fits : HeadFits w.tags.int 4 (w.place int_table)
   pub value : word m (a + 12) ≡ v
-  pub fits : v < 4294967296
+  pub fits : v < 2 ^ 32
 
 -- any object: the words of its attributes
 pub record ObjectAt (w : World) (m : Bytes) (gp a tag size table : ℕ) (words : List ℕ) : Type 0 where
@@ -42,7 +42,7 @@ pub record ObjectAt (w : World) (m : Bytes) (gp a tag size table : ℕ) (words :
   pub fits : HeadFits tag size table
   pub long : size ≡ 3 + length words
   pub attributes : (k : ℕ) → k < length words → word m (a + 12 + 4 * k) ≡ get_or words k 0
-  pub words_fit : (k : ℕ) → k < length words → get_or words k 0 < 4294967296
+  pub words_fit : (k : ℕ) → k < length words → get_or words k 0 < 2 ^ 32
 
 -- the words that a string's bytes, a zero, and zeros to a full word take
 abbrev pub words_of_bytes : ℕ → ℕ

@@ -1,5 +1,5 @@
 -- Where a machine stands between pieces of compiled code.
-use Rattle.std.specs.Prelude.{ℕ, zero, suc, ◌*◌, ◌/◌, ◌+◌, ◌%◌, ◌<◌, ◌≤◌, ◌≡◌, List, [], ◌∷◌, ◌++◌, Bool, true, false, ◌==◌, if◌then◌else◌}
+use Rattle.std.specs.Prelude.{ℕ, zero, suc, ◌*◌, ◌/◌, ◌+◌, ◌-◌, ◌%◌, ◌^◌, ◌<◌, ◌≤◌, ◌≡◌, List, [], ◌∷◌, ◌++◌, Bool, true, false, ◌==◌, if◌then◌else◌}
 use Rattle.mips_isa.specs.declared.address_map.TheConstants.{HEAP_START, STACK_END}
 use Rattle.mips_isa.specs.declared.register.TheConstants.{ZERO, A0, T1, T2, T3, T4, T5, T6, T7, S0, S6, S7, GP, SP, FP, RA}
 use Rattle.mips_isa.specs.Bytes.{Bytes, word, set_byte, set_word}
@@ -37,7 +37,7 @@ pub record Numbers (w : World) (p : Pointers) (s : State) : Type 0 where
   pub sp_is : s.core.registers SP ≡ p.sp
   pub fp_is : s.core.registers FP ≡ p.fp
   pub ra_is : s.core.registers RA ≡ p.ra
-  pub acc_fits : p.acc < 4294967296
+  pub acc_fits : p.acc < 2 ^ 32
   pub gp_from : HEAP_START ≤ p.gp
   pub gp_to : p.gp ≤ w.segments.heap_end
   pub gp_even : p.gp % 4 ≡ 0
@@ -84,7 +84,7 @@ got c t = record c { input = t.rest; ended = t.ended }
 
 -- the memory with the head of an object and its first attribute after an address
 unfoldable pub with_head : Bytes → ℕ → ℕ → ℕ → ℕ → ℕ → Bytes
-with_head m a tag size table v = set_word (set_word (set_word (set_word (set_word m a 4294967295) (a + 4) tag) (a + 8) size) (a + 12) table) (a + 16) v
+with_head m a tag size table v = set_word (set_word (set_word (set_word (set_word m a (2 ^ 32 - 1)) (a + 4) tag) (a + 8) size) (a + 12) table) (a + 16) v
 
 -- the memory with the object of an Int after an address
 abbrev pub with_int : Bytes → ℕ → ℕ → ℕ → ℕ → Bytes
@@ -110,7 +110,7 @@ copied m from to (suc n) = copied (set_word m to (word m from)) (from + 4) (to +
 
 -- the memory with a copy of the object of so many words at an address
 abbrev pub with_copy : Bytes → ℕ → ℕ → ℕ → Bytes
-with_copy m gp a size = copied (set_word m gp 4294967295) a (gp + 4) size
+with_copy m gp a size = copied (set_word m gp (2 ^ 32 - 1)) a (gp + 4) size
 
 -- A line of the input: the bytes other than 0 up to a newline, or up to the end.
 abbrev pub line_of : List ℕ → Taken

@@ -18,7 +18,7 @@ use Rattle.mips_isa.specs.Bytes.{Bytes, word}
 use Rattle.mips_isa.specs.Calls.{State, Taken, signed, asked_line, number_of}
 use Rattle.mips_isa.specs.Lines.{Name}
 use Rattle.std.specs.Fmt.{signed_decimal}
-use Rattle.std.specs.Prelude.{◌≡◌, ℕ, ◌+◌, ◌*◌, ◌/◌, ◌<◌, ◌≤◌, ◌⊎◌, List, ◌++◌, length, Bool}
+use Rattle.std.specs.Prelude.{◌≡◌, ℕ, ◌+◌, ◌*◌, ◌/◌, ◌^◌, ◌<◌, ◌≤◌, ◌⊎◌, List, ◌++◌, length, Bool}
 use Rattle.lists.specs.Bytes.{AreBytes}
 
 -- the Int at the top of the stack is written
@@ -101,13 +101,13 @@ EndsByAbort w = (p : Pointers) (m : Bytes) (c : Console) (s : State) (tag : ℕ)
 -- the end by an error at a place, of a routine with the name and the text of its labels
 abbrev pub EndsByError : World → Routine → Name → Name → Type 0
 EndsByError w routine name text = (p : Pointers) (m : Bytes) (c : Console) (s : State) (file colon words : List ℕ) (line : ℕ) → HasLines w (w.place name) (routine_lines routine) → At w p m c s → p.pc ≡ w.place name
-    → StringAt w m p.gp (s.core.registers T8) file → s.core.registers T9 ≡ line → line < 4294967296 → TextAt w m (w.place colon_text) colon → TextAt w m (w.place text) words
+    → StringAt w m p.gp (s.core.registers T8) file → s.core.registers T9 ≡ line → line < 2 ^ 32 → TextAt w m (w.place colon_text) colon → TextAt w m (w.place text) words
     → Reaches w s 0 16 (exits 3 (EndsWith c (file ++ (colon ++ (signed_decimal (signed line) ++ words)))))
 
 -- the end of a case without a branch
 abbrev pub EndsByNoBranch : World → Type 0
 EndsByNoBranch w = (p : Pointers) (m : Bytes) (c : Console) (s : State) (tag line : ℕ) (name file colon first last : List ℕ) → HasLines w (w.place case_abort) (routine_lines routines.NoBranch) → At w p m c s → p.pc ≡ w.place case_abort
-    → Tagged w m p.gp p.acc tag → NameAt w m p.gp tag name → StringAt w m p.gp (s.core.registers T8) file → s.core.registers T9 ≡ line → line < 4294967296
+    → Tagged w m p.gp p.acc tag → NameAt w m p.gp tag name → StringAt w m p.gp (s.core.registers T8) file → s.core.registers T9 ≡ line → line < 2 ^ 32
     → TextAt w m (w.place colon_text) colon → TextAt w m (w.place no_branch_text) first → TextAt w m (w.place stop_text) last
     → Reaches w s 0 27 (exits 3 (EndsWith c ((file ++ (colon ++ signed_decimal (signed line))) ++ (first ++ (name ++ last)))))
 

@@ -1,6 +1,6 @@
 -- A run from one state of the machine to another, with the number of its instructions, how far heap and stack may reach, and
 -- what the console holds at an early end.
-use Rattle.std.specs.Prelude.{ℕ, ◌+◌, ◌%◌, ◌<◌, ◌≤◌, ◌≡◌, ◌⊎◌, List, ◌++◌}
+use Rattle.std.specs.Prelude.{ℕ, ◌+◌, ◌-◌, ◌%◌, ◌^◌, ◌<◌, ◌≤◌, ◌≡◌, ◌⊎◌, List, ◌++◌}
 use Rattle.mips_isa.specs.declared.address_map.TheConstants.{DATA_START, HEAP_START, STACK_END}
 use Rattle.mips_isa.specs.Bytes.{Segments}
 use Rattle.mips_isa.specs.Calls.{State, Outcome, Running, Exited, Trapped}
@@ -13,8 +13,8 @@ pub record AreLaid (b : Segments) : Type 0 where
   pub text : b.text_end ≤ DATA_START
   pub data_to : b.data_end ≤ HEAP_START
   pub heap_from : HEAP_START ≤ b.heap_end
-  pub heap_to : b.heap_end ≤ 805306368
-  pub stack_from : 2080374784 ≤ b.stack_low
+  pub heap_to : b.heap_end ≤ HEAP_START + 2 ^ 28
+  pub stack_from : STACK_END - 2 ^ 26 ≤ b.stack_low
   pub stack_to : b.stack_low + 4096 ≤ STACK_END
   pub heap_even : b.heap_end % 4 ≡ 0
   pub stack_even : b.stack_low % 4 ≡ 0

@@ -1,5 +1,5 @@
 -- That lines of assembly stand in the text of a machine.
-use Rattle.std.specs.Prelude.{ℕ, ◌+◌, ◌*◌, ◌%◌, ◌<◌, ◌≤◌, ◌≡◌, List, [], ◌∷◌, Some}
+use Rattle.std.specs.Prelude.{ℕ, ◌+◌, ◌*◌, ◌%◌, ◌^◌, ◌<◌, ◌≤◌, ◌≡◌, List, [], ◌∷◌, Some}
 use Rattle.mips_isa.specs.declared.address_map.TheConstants.{TEXT_START, DATA_START}
 use Rattle.mips_isa.specs.declared.instr.Instr.{Instr}
 use Rattle.mips_isa.specs.Decoding.{decoded}
@@ -32,7 +32,7 @@ InstructionHolds w (Plain i) = Unit {0}
 InstructionHolds w (ToTwo op rs rt target) = IsTarget w target
 InstructionHolds w (ToOne op rs target) = IsTarget w target
 InstructionHolds w (ToJump op target) = IsTarget w target
-InstructionHolds w (La rd label) = w.place label < 4294967296
+InstructionHolds w (La rd label) = w.place label < 2 ^ 32
 InstructionHolds w (Li rd value) = Unit {0}
 InstructionHolds w (Move rd rs) = Unit {0}
 InstructionHolds w (Neg rd rs) = Unit {0}

@@ -1,6 +1,6 @@
 -- For proofs alone: what is to be shown of a list of lines, so that a run from the first one comes to its goal. It is computed from the
 -- lines.
-use Rattle.std.specs.Prelude.{ℕ, zero, suc, ◌+◌, ◌*◌, ◌/◌, ◌%◌, ◌<◌, ◌≤◌, ◌≡◌, ◌==◌, ℤ, pos, negsuc, Bool, true, false, List, [], ◌∷◌, ◌++◌, Option, Some, None}
+use Rattle.std.specs.Prelude.{ℕ, zero, suc, ◌+◌, ◌*◌, ◌/◌, ◌%◌, ◌^◌, ◌<◌, ◌≤◌, ◌≡◌, ◌==◌, ℤ, pos, negsuc, Bool, true, false, List, [], ◌∷◌, ◌++◌, Option, Some, None}
 use Rattle.std.specs.Fmt.{signed_decimal}
 use Rattle.mips_isa.specs.declared.address_map.TheConstants.{DATA_START, HEAP_START, STACK_END}
 use Rattle.mips_isa.specs.declared.instr.Instr.{Instr}
@@ -13,6 +13,8 @@ use Rattle.mips_isa.specs.declared.instr.MemOp.{MemOp}
 use Rattle.mips_isa.specs.declared.instr.MemOp.TheVariants.{Lb, Lh, Lw, Lbu, Lhu, Sb, Sh, Sw}
 use Rattle.mips_isa.specs.declared.instr.JumpOp.{JumpOp}
 use Rattle.mips_isa.specs.declared.instr.JumpOp.TheVariants.{J, Jal}
+use Rattle.mips_isa.specs.declared.register.TheConstants.{ZERO, V0, A0, RA}
+use Rattle.mips_isa.specs.declared.system_call.TheConstants.{PRINT_INT, PRINT_STRING, READ_INT, READ_CHAR, EXIT, EXIT2}
 use Rattle.mips_isa.specs.Words.{bits_of}
 use Rattle.mips_isa.specs.Bytes.{Bytes, Segments, word, set_byte, set_word}
 use Rattle.mips_isa.specs.Machine.{Registers, set_register, wrap, long, three_result, imm_result, shift_result, shift_of, two_result, one_result, signed_quotient, signed_remainder}
@@ -86,14 +88,14 @@ pub data Service : Type 0 where
   ExitWith : Service
 
 abbrev pub w_service : Segments → Service → Registers → ℕ → Bytes → Beside → Next → Ending → Type 0
-w_service b PrintInt r pc m x go end = (r 2 ≡ 1) × go 0 r (pc + 4) m (printed x (signed_decimal (signed (r 4))))
-w_service b (PrintString bytes) r pc m x go end = (r 2 ≡ 4) × (string_at b m (r 4) ≡ Some bytes) × go 0 r (pc + 4) m (printed x bytes)
+w_service b PrintInt r pc m x go end = (r V0 ≡ PRINT_INT) × go 0 r (pc + 4) m (printed x (signed_decimal (signed (r A0))))
+w_service b (PrintString bytes) r pc m x go end = (r V0 ≡ PRINT_STRING) × (string_at b m (r A0) ≡ Some bytes) × go 0 r (pc + 4) m (printed x bytes)
 w_service b ReadInt r pc m x go end =
-    (r 2 ≡ 5) × go 0 (set_register r 2 (number_of (asked_line x.ended x.input).got)) (pc + 4) m (took x (asked_line x.ended x.input))
+    (r V0 ≡ READ_INT) × go 0 (set_register r V0 (number_of (asked_line x.ended x.input).got)) (pc + 4) m (took x (asked_line x.ended x.input))
 w_service b ReadChar r pc m x go end =
-    (r 2 ≡ 12) × go 0 (set_register r 2 (char_of (asked x.ended 1 x.input).got)) (pc + 4) m (took x (asked x.ended 1 x.input))
-w_service b Exit r pc m x go end = (r 2 ≡ 10) × end 0 (st r (pc + 4) m x)
-w_service b ExitWith r pc m x go end = (r 2 ≡ 17) × end (r 4) (st r (pc + 4) m x)
+    (r V0 ≡ READ_CHAR) × go 0 (set_register r V0 (char_of (asked x.ended 1 x.input).got)) (pc + 4) m (took x (asked x.ended 1 x.input))
+w_service b Exit r pc m x go end = (r V0 ≡ EXIT) × end 0 (st r (pc + 4) m x)
+w_service b ExitWith r pc m x go end = (r V0 ≡ EXIT2) × end (r A0) (st r (pc + 4) m x)
 
 abbrev pub w_value : Option ℕ → (ℕ → Type 0) → Type 0
 w_value None go = ⊥
@@ -117,8 +119,8 @@ w_branch t (pos (suc (suc n))) pc go = ⊥
 w_branch t (negsuc n) pc go = ⊥
 
 abbrev pub w_hi_lo : MulDivOp → ℕ → ℕ → Beside → (Beside → Type 0) → Type 0
-w_hi_lo Mult a b x go = go (record x { hi = long a * long b % 18446744073709551616 / 4294967296; lo = wrap (long a * long b) })
-w_hi_lo Multu a b x go = go (record x { hi = a * b / 4294967296; lo = wrap (a * b) })
+w_hi_lo Mult a b x go = go (record x { hi = long a * long b % 2 ^ 64 / 2 ^ 32; lo = wrap (long a * long b) })
+w_hi_lo Multu a b x go = go (record x { hi = a * b / 2 ^ 32; lo = wrap (a * b) })
 w_hi_lo Div a b x go = ((b == 0) ≡ false) × go (record x { hi = signed_remainder a b; lo = signed_quotient a b })
 w_hi_lo Divu a b x go = ((b == 0) ≡ false) × go (record x { hi = a % b; lo = a / b })
 
@@ -145,7 +147,7 @@ w_plain b (Mem op rt rs i) r pc m x go jump end = w_mem b op r m rt (wrap (r rs 
 
 abbrev pub w_jump : JumpOp → ℕ → Registers → ℕ → Bytes → Beside → Parts → Type 0
 w_jump J a r pc m x jump = jump r a m x
-w_jump Jal a r pc m x jump = jump (set_register r 31 (pc + 4)) a m x
+w_jump Jal a r pc m x jump = jump (set_register r RA (pc + 4)) a m x
 
 -- a branch to a label
 abbrev pub w_to : Bool → ℕ → Registers → ℕ → Bytes → Beside → Next → Parts → Type 0
@@ -158,12 +160,12 @@ w_instruction w (ToTwo op rs rt l) r pc m x go jump end = w_to (two_result op (r
 w_instruction w (ToOne op rs l) r pc m x go jump end = w_to (one_result op (r rs)) (w.place l) r pc m x go jump
 w_instruction w (ToJump op l) r pc m x go jump end = w_jump op (w.place l) r pc m x jump
 w_instruction w (La rd l) r pc m x go jump end = (0 < rd) × go 0 (set_register r rd (w.place l)) (pc + 8) m x
-w_instruction w (Li rd n) r pc m x go jump end = (0 < rd) × (bits_of n < 4294967296) × go 0 (set_register r rd (bits_of n)) (pc + 8) m x
-w_instruction w (Move rd rs) r pc m x go jump end = go 0 (set_register r rd (wrap (r rs + r 0))) (pc + 4) m x
+w_instruction w (Li rd n) r pc m x go jump end = (0 < rd) × (bits_of n < 2 ^ 32) × go 0 (set_register r rd (bits_of n)) (pc + 8) m x
+w_instruction w (Move rd rs) r pc m x go jump end = go 0 (set_register r rd (wrap (r rs + r ZERO))) (pc + 4) m x
 w_instruction w (Neg rd rs) r pc m x go jump end = ⊥
 w_instruction w Nop r pc m x go jump end = ⊥
 w_instruction w (B l) r pc m x go jump end = jump r (w.place l) m x
-w_instruction w (BranchZero op rs l) r pc m x go jump end = w_to (two_result (zero_branch op) (r rs) (r 0)) (w.place l) r pc m x go jump
+w_instruction w (BranchZero op rs l) r pc m x go jump end = w_to (two_result (zero_branch op) (r rs) (r ZERO)) (w.place l) r pc m x go jump
 w_instruction w (BranchOrder op rs rt l) r pc m x go jump end = ⊥
 w_instruction w (Mul rd rs rt) r pc m x go jump end = ⊥
 
