@@ -1,6 +1,6 @@
 -- What a contract sees of a memory: the words of the text, and the bytes of the other segments. From these come the bytes
 -- by their addresses, and where the segments begin and end.
-use Rattle.std.specs.Prelude.{◌≡◌, ℕ, ◌+◌, ◌-◌, ◌*◌, ◌/◌, ◌%◌, ◌≤◌, ◌==◌, nat_lt, not, Bool, if◌then◌else◌, List, length, get_or, Result, Ok, Err}
+use Rattle.std.specs.Prelude.{◌≡◌, ℕ, ◌+◌, ◌-◌, ◌*◌, ◌/◌, ◌%◌, ◌^◌, ◌≤◌, ◌==◌, nat_lt, not, Bool, if◌then◌else◌, List, length, get_or, Result, Ok, Err}
 use Rattle.mips_isa.specs.declared.address_map.TheConstants.{TEXT_START, DATA_START, HEAP_START, STACK_END, MOST_TEXT_WORDS, MOST_DATA_BYTES}
 use Rattle.mips_isa.specs.Bytes.{Bytes, Segments, byte_of_word}
 use Rattle.spim_memory.specs.declared.fault.MemFault.{MemFault}
@@ -24,8 +24,8 @@ segments m = record {
 pub record IsMemory (m : MemoryParts) : Type 0 where
   pub text : length m.text ≤ MOST_TEXT_WORDS
   pub static_bytes : length m.static_bytes ≤ MOST_DATA_BYTES
-  pub heap : length m.heap ≤ 268435456
-  pub stack : length m.stack ≤ 67108864
+  pub heap : length m.heap ≤ 2 ^ 28
+  pub stack : length m.stack ≤ 2 ^ 26
   pub static_words : length m.static_bytes % 4 ≡ 0
   pub heap_words : length m.heap % 4 ≡ 0
   pub stack_words : length m.stack % 4 ≡ 0
@@ -48,7 +48,7 @@ accessed size may a v =
 pub record IsLimits (heap stack : ℕ) : Type 0 where
   pub heap_unit : heap % 1024 ≡ 0
   pub heap_least : 4096 ≤ heap
-  pub heap_most : heap ≤ 268435456
+  pub heap_most : heap ≤ 2 ^ 28
   pub stack_unit : stack % 1024 ≡ 0
   pub stack_least : 4096 ≤ stack
-  pub stack_most : stack ≤ 67108864
+  pub stack_most : stack ≤ 2 ^ 26

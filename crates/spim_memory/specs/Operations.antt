@@ -13,6 +13,7 @@ use Rattle.mips_isa.specs.declared.instr.TwoOp.TheVariants as two
 use Rattle.mips_isa.specs.declared.instr.OneOp.TheVariants as one
 use Rattle.mips_isa.specs.declared.instr.JumpOp.TheVariants as jump
 use Rattle.mips_isa.specs.declared.instr.MemOp.TheVariants as mem
+use Rattle.mips_isa.specs.declared.register.TheConstants.{ZERO, T0, T1}
 use Rattle.mips_isa.specs.Decoding.{decoded}
 use Rattle.spim_memory.specs.declared.operation.Operation.{Operation}
 use Rattle.spim_memory.specs.declared.operation.Operation.TheVariants as row
@@ -78,6 +79,6 @@ AreOf operations words =
     (i : ℕ) (d : Operation) → i < length operations → (i < length words) × (instr_of (get_or operations i d) ≡ decoded (get_or words i 0))
 
 -- Worked example: or $t0, $t1, $zero.
-or : instr_of (row.Or 8 9 0) ≡ decoded 0x01204025
+or : instr_of (row.Or T0 T1 ZERO) ≡ decoded 0x01204025
 unfolding decoded
 or = refl

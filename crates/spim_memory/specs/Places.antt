@@ -19,12 +19,12 @@ IsPlace m a (Some (Stack offset)) = (a ≡ STACK_END - length m.stack + offset) 
 -- the word of the text that has the byte at an address, if there is one
 abbrev pub IsTextWord : MemoryParts → ℕ → Option ℕ → Type 0
 IsTextWord m a None = lies TEXT_START (segments m).text_end a 1 ≡ false
-IsTextWord m a (Some word) = (lies TEXT_START (segments m).text_end a 1 ≡ true) × (word ≡ word_of_text m.text a) × (word < 4294967296)
+IsTextWord m a (Some word) = (lies TEXT_START (segments m).text_end a 1 ≡ true) × (word ≡ word_of_text m.text a) × (word < 2 ^ 32)
 
 -- this word without the bytes before the address, or why it may not be
 abbrev pub IsTextFrom : MemoryParts → ℕ → Result ℕ MemFault → Type 0
 IsTextFrom m a (Ok rest) =
-    (lies TEXT_START (segments m).text_end a 1 ≡ true) × (rest ≡ word_of_text m.text a / 2 ^ (8 * (a % 4))) × (word_of_text m.text a < 4294967296)
+    (lies TEXT_START (segments m).text_end a 1 ≡ true) × (rest ≡ word_of_text m.text a / 2 ^ (8 * (a % 4))) × (word_of_text m.text a < 2 ^ 32)
 IsTextFrom m a (Err fault) = (lies TEXT_START (segments m).text_end a 1 ≡ false) × (fault ≡ BadAddress a)
 
 -- a list with the bytes of a half from an index on
