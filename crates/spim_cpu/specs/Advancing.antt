@@ -1,5 +1,5 @@
 -- Operations one after another: what one leads to, and where so many lead.
-use Rattle.std.specs.Prelude.{◌≡◌, refl, ℕ, zero, suc, ◌+◌, ◌-◌, ◌*◌, ◌/◌, ◌%◌, nat_lt, not, ◌||◌, Bool, true, false, List, [], ◌∷◌, get_or, Option, Some, None, Result, Ok, Err}
+use Rattle.std.specs.Prelude.{◌≡◌, refl, ℕ, zero, suc, ◌+◌, ◌-◌, ◌*◌, ◌/◌, ◌%◌, ◌^◌, nat_lt, not, ◌||◌, Bool, true, false, List, [], ◌∷◌, get_or, Option, Some, None, Result, Ok, Err}
 use Rattle.mips_isa.specs.declared.address_map.TheConstants.{TEXT_START}
 use Rattle.mips_isa.specs.Bytes.{Segments}
 use Rattle.mips_isa.specs.Machine.{Core, Next, On, Call, Stop, step}
@@ -26,7 +26,7 @@ Goes breaks text b (suc n) s t = (before : Core) × Goes breaks text b n s befor
 
 -- The index of the word at an address of the text: the offset from the text's start, in 32 bits, turned to the right by two.
 abbrev pub word_index : ℕ → ℕ
-word_index a = (a + 4294967296 - TEXT_START) % 4294967296 / 4 + (a + 4294967296 - TEXT_START) % 4294967296 % 4 * 1073741824
+word_index a = (a + 2 ^ 32 - TEXT_START) % 2 ^ 32 / 4 + (a + 2 ^ 32 - TEXT_START) % 2 ^ 32 % 4 * 2 ^ 30
 
 second_word : word_index 0x00400004 ≡ 1
 second_word = refl
@@ -51,7 +51,7 @@ has_mark (Some marks) a = is_marked marks a
 
 -- a number that is no address of 32 bits
 abbrev pub is_past : ℕ → Bool
-is_past a = not (nat_lt a 4294967296)
+is_past a = not (nat_lt a (2 ^ 32))
 
 -- such a number, or an address whose word has a mark that is set
 abbrev pub is_stop : List Bool → ℕ → Bool

@@ -1,5 +1,6 @@
 -- What a contract sees of a processor, and what it has to do with the state of the machine's definition.
 use Rattle.std.specs.Prelude.{◌≡◌, ℕ, ◌+◌, List, length, get_or, Result, Ok, Err}
+use Rattle.mips_isa.specs.declared.register.TheConstants.{ZERO}
 use Rattle.mips_isa.specs.declared.trap.Trap.{Trap}
 use Rattle.mips_isa.specs.declared.trap.TrapKind.TheVariants as kind
 use Rattle.mips_isa.specs.declared.instr.ToOp.{ToOp}
@@ -21,7 +22,7 @@ pub record CpuParts : Type 0 where
 -- there are 32 registers, and $zero holds 0
 pub record IsCpu (registers : List ℕ) : Type 0 where
   pub count : length registers ≡ 32
-  pub zero_is : get_or registers 0 0 ≡ 0
+  pub zero_is : get_or registers ZERO 0 ≡ 0
 
 -- the state of the machine
 abbrev pub core_of : CpuParts → Core

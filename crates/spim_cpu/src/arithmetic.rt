@@ -1,6 +1,6 @@
 //! What the operations compute, on numbers of 32 bits.
 
-ghost use Rattle.std.specs.Prelude.{◌≡◌, ◌<◌, ◌+◌, ◌*◌, ◌/◌, ◌%◌};
+ghost use Rattle.std.specs.Prelude.{◌≡◌, ◌<◌, ◌+◌, ◌*◌, ◌/◌, ◌%◌, ◌^◌};
 ghost use Rattle.mips_isa.specs.Words.{bits_of};
 ghost use Rattle.mips_isa.specs.Machine as machine;
 
@@ -120,7 +120,7 @@ fn long(a: u32) -> u64
 
 /// The two words of a product.
 fn halves(product: u64) -> HiLo
-    ensures hi { result.hi ≡ product / 4294967296 }
+    ensures hi { result.hi ≡ product / 2 ^ 32 }
     ensures lo { result.lo ≡ machine.wrap product }
 {
     HiLo {
@@ -131,7 +131,7 @@ fn halves(product: u64) -> HiLo
 
 /// The product of two signed numbers.
 pub fn signed_product(a: u32, b: u32) -> HiLo
-    ensures hi { result.hi ≡ machine.long a * machine.long b % 18446744073709551616 / 4294967296 }
+    ensures hi { result.hi ≡ machine.long a * machine.long b % 2 ^ 64 / 2 ^ 32 }
     ensures lo { result.lo ≡ machine.wrap (machine.long a * machine.long b) }
 {
     halves(long(a).wrapping_mul(long(b)))
@@ -139,7 +139,7 @@ pub fn signed_product(a: u32, b: u32) -> HiLo
 
 /// The product of two unsigned numbers.
 pub fn product(a: u32, b: u32) -> HiLo
-    ensures hi { result.hi ≡ a * b / 4294967296 }
+    ensures hi { result.hi ≡ a * b / 2 ^ 32 }
     ensures lo { result.lo ≡ machine.wrap (a * b) }
 {
     halves(u64::from(a) * u64::from(b))
@@ -180,7 +180,7 @@ pub fn branch_target(pc: u32, imm: i32) -> u32
 
 /// The address to which a jump at `pc` goes: it keeps the upper four bits of the next instruction's address.
 pub fn jump_target(pc: u32, index: u32) -> u32
-    requires index { index < 67108864 }
+    requires index { index < 2 ^ 26 }
     requires pc { pc < DATA_START }
     ensures { result ≡ machine.jump_target pc index }
 {

@@ -1,6 +1,6 @@
 //! Where a run stops.
 
-ghost use Rattle.std.specs.Prelude.{◌≡◌, ◌<◌, ℕ, Bool};
+ghost use Rattle.std.specs.Prelude.{◌≡◌, ◌<◌, ℕ, ◌^◌, Bool};
 ghost use Rattle.std.specs.Option.{option_copied};
 ghost use Rattle.spim_cpu.specs.Advancing.{is_marked, has_mark};
 
@@ -14,7 +14,7 @@ pub trait Breaks {
     /// A mark for each word of the text, from the first one on: whether its address is in the set. What has no mark is not in it, and
     /// `None` is that no address is.
     fn marks(&self) -> Option<&[bool]>
-        ensures { (a : ℕ) → a < 4294967296 → holds self.now a ≡ has_mark (option_copied result) a };
+        ensures { (a : ℕ) → a < 2 ^ 32 → holds self.now a ≡ has_mark (option_copied result) a };
 }
 
 /// No address.
@@ -44,7 +44,7 @@ pub fn contains<B: Breaks>(breaks: &B, address: u32) -> bool
 /// Whether the word at an address has a mark that is set.
 fn is_marked(marks: &[bool], address: u32) -> bool
     ensures marked { result ≡ is_marked marks.now address }
-    ensures fits { address < 4294967296 }
+    ensures fits { address < 2 ^ 32 }
 {
     marks.get(word_index(address)).is_some_and(|mark| *mark)
 }

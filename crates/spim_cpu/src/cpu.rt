@@ -1,6 +1,6 @@
 //! The processor.
 
-ghost use Rattle.std.specs.Prelude.{◌≡◌, ◌<◌, ◌≤◌};
+ghost use Rattle.std.specs.Prelude.{◌≡◌, ◌<◌, ◌≤◌, ◌^◌};
 ghost use Rattle.mips_isa.specs.Bytes.{segments_of, bytes_of_image};
 ghost use Rattle.mips_isa.specs.Machine as machine;
 ghost use Rattle.mips_isa.specs.Run.{start_core};
@@ -48,7 +48,7 @@ struct ToMark;
 #[inline(always)]
 pub fn word_index(a: u32) -> usize
     ensures index { result ≡ word_index a }
-    ensures fits { a < 4294967296 }
+    ensures fits { a < 2 ^ 32 }
 {
     let offset = a.wrapping_sub(TEXT_START);
     (offset / 4 + offset % 4 * 0x4000_0000) as usize
