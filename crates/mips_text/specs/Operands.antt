@@ -1,5 +1,5 @@
 -- The operands of statements, and the fault of the first word that is none: `docs/assembly.md`, Statements and Faults.
-use Rattle.std.specs.Prelude.{ℕ, ◌+◌, ℤ, pos, negsuc, nat_lt, nat_le, Bool, false, if◌then◌else◌, bytes_eq, List, [], ◌∷◌, codes, Option, Some, None, is_some}
+use Rattle.std.specs.Prelude.{ℕ, ◌+◌, ◌^◌, ℤ, pos, negsuc, nat_lt, nat_le, Bool, false, if◌then◌else◌, bytes_eq, List, [], ◌∷◌, codes, Option, Some, None, is_some}
 use Rattle.std.specs.Option.{option_or}
 use Rattle.mips_isa.specs.declared.address_map.TheConstants.{MOST_DATA_BYTES}
 use Rattle.mips_isa.specs.declared.asm_fault.AsmKind.{AsmKind}
@@ -37,10 +37,10 @@ is_within range.Unsigned (pos n) = nat_lt n 65536
 is_within range.Unsigned (negsuc n) = false
 is_within range.Shift (pos n) = nat_lt n 32
 is_within range.Shift (negsuc n) = false
-is_within range.Index (pos n) = nat_lt n 67108864
+is_within range.Index (pos n) = nat_lt n (2 ^ 26)
 is_within range.Index (negsuc n) = false
-is_within range.Word (pos n) = nat_lt n 4294967296
-is_within range.Word (negsuc n) = nat_lt n 2147483648
+is_within range.Word (pos n) = nat_lt n (2 ^ 32)
+is_within range.Word (negsuc n) = nat_lt n (2 ^ 31)
 is_within range.Byte (pos n) = nat_lt n 256
 is_within range.Byte (negsuc n) = nat_lt n 128
 is_within range.Space (pos n) = nat_le n MOST_DATA_BYTES

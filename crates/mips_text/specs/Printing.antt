@@ -5,6 +5,7 @@ use Rattle.mips_isa.specs.declared.instr.Instr.{Instr}
 use Rattle.mips_isa.specs.declared.instr.Instr.TheVariants as instructions
 use Rattle.mips_isa.specs.declared.instr.ThreeOp.TheVariants.{Addu}
 use Rattle.mips_isa.specs.declared.instr.MemOp.TheVariants.{Lw}
+use Rattle.mips_isa.specs.declared.register.TheConstants.{ZERO, V0, A0, T0, SP}
 use Rattle.mips_isa.specs.Lines.{Name, WordItem, Number, Address, AsmInstr, Plain, ToTwo, ToOne, ToJump, La, Li, Move, Neg, Nop, B, BranchZero, BranchOrder, Mul, DataItem, Word, Byte, Ascii, Asciiz, Space, AsmDirective, ToText, ToData, Globl, Align, Statement, Empty, Instruction, Data, Directive, Line}
 use Rattle.mips_text.specs.declared.directives.Directive as declared
 use Rattle.mips_text.specs.declared.directives.Directive.TheVariants as directives
@@ -114,11 +115,11 @@ abbrev pub printed : List Line → List ℕ
 printed = flat_map line_text
 
 -- worked examples: a label and registers, memory after a negative offset, words, a string with an escape, and two lines
-text_of_addu : line_text (record { labels = codes "main" ∷ []; statement = Instruction (Plain (instructions.Three Addu 2 4 0)) })
+text_of_addu : line_text (record { labels = codes "main" ∷ []; statement = Instruction (Plain (instructions.Three Addu V0 A0 ZERO)) })
     ≡ codes "main:\taddu $v0, $a0, $zero\n"
 text_of_addu = refl
 
-text_of_lw : instruction_text (Plain (instructions.Mem Lw 8 29 (negsuc 3))) ≡ codes "lw $t0, -4($sp)"
+text_of_lw : instruction_text (Plain (instructions.Mem Lw T0 SP (negsuc 3))) ≡ codes "lw $t0, -4($sp)"
 unfolding digits
 text_of_lw = refl
 

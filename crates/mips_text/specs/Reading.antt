@@ -7,6 +7,7 @@ use Rattle.mips_isa.specs.declared.asm_fault.AsmFault.{AsmFault}
 use Rattle.mips_isa.specs.declared.instr.Instr.{Instr}
 use Rattle.mips_isa.specs.declared.instr.Instr.TheVariants as instr
 use Rattle.mips_isa.specs.declared.instr.MemOp.TheVariants.{Lw, Sw}
+use Rattle.mips_isa.specs.declared.register.TheConstants.{A0, T0, T9, SP, RA}
 use Rattle.mips_isa.specs.Lines as statements
 use Rattle.mips_isa.specs.Lines.{Line, Statement, Empty, Instruction}
 use Rattle.mips_text.specs.declared.directives.Directive.{Directive}
@@ -99,15 +100,15 @@ reading line = line_read (words_of line)
 abbrev plain : List (List ℕ) → Instr → Result Line AsmKind
 plain labels i = Ok (record { labels = labels; statement = Instruction (statements.Plain i) })
 
-joined : reading (codes "main:lw$a0,-4($sp)# x") ≡ plain (codes "main" ∷ []) (instr.Mem Lw 4 29 (negsuc 3))
+joined : reading (codes "main:lw$a0,-4($sp)# x") ≡ plain (codes "main" ∷ []) (instr.Mem Lw A0 SP (negsuc 3))
 unfolding mnemonic_named register_named
 joined = refl
 
-no_offset : reading (codes "a : b: sw $8 ( $29 )") ≡ plain (codes "a" ∷ codes "b" ∷ []) (instr.Mem Sw 8 29 (pos 0))
+no_offset : reading (codes "a : b: sw $8 ( $29 )") ≡ plain (codes "a" ∷ codes "b" ∷ []) (instr.Mem Sw T0 SP (pos 0))
 unfolding mnemonic_named register_named
 no_offset = refl
 
-one_register : reading (codes "jalr $t9") ≡ plain [] (instr.Jalr 31 25)
+one_register : reading (codes "jalr $t9") ≡ plain [] (instr.Jalr RA T9)
 unfolding mnemonic_named register_named
 one_register = refl
 

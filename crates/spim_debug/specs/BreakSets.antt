@@ -1,7 +1,7 @@
 -- The marks of the words of a text that stand at break addresses.
-use Rattle.std.specs.Prelude.{ℕ, Bool, ◌&&◌, nat_lt, List}
+use Rattle.std.specs.Prelude.{ℕ, ◌^◌, Bool, ◌&&◌, nat_lt, List}
 use Rattle.spim_cpu.specs.Advancing.{is_marked}
 
 -- an address, which has 32 bits, of a word with a mark
 abbrev pub in_set : List Bool → ℕ → Bool
-in_set marks a = nat_lt a 4294967296 && is_marked marks a
+in_set marks a = nat_lt a (2 ^ 32) && is_marked marks a

@@ -7,6 +7,7 @@ use Rattle.mips_isa.specs.declared.instr.ImmOp.TheVariants.{Addi}
 use Rattle.mips_isa.specs.declared.instr.MemOp.TheVariants.{Lw}
 use Rattle.mips_isa.specs.declared.instr.OneOp.TheVariants.{Bgez}
 use Rattle.mips_isa.specs.declared.instr.ShiftOp.TheVariants.{Sll}
+use Rattle.mips_isa.specs.declared.register.TheConstants.{ZERO, A0, T0, FP}
 use Rattle.mips_isa.specs.Lines.{Line, Plain, Empty, line_of}
 use Rattle.mips_isa.specs.Assembly.{instruction_line, start_name}
 use Rattle.mips_isa.specs.Decoding.{decoded}
@@ -29,23 +30,23 @@ start_line = record { labels = start_name ∷ []; statement = Empty }
 
 -- Worked examples: `lui $a0, 4096`; `addi $t0, $zero, -1`; `sll $t0, $t0, 2`; `lw $a0, -4($fp)`; `bgez $t0, 3`; an addu with a shift, which is no
 -- instruction, and a word whose operation is none.
-line_of_lui : disassembled 0x3c041000 ≡ Some (instruction_line (Plain (Lui 4 (pos 4096))))
+line_of_lui : disassembled 0x3c041000 ≡ Some (instruction_line (Plain (Lui A0 (pos 4096))))
 unfolding decoded
 line_of_lui = refl
 
-line_of_addi : disassembled 0x2008ffff ≡ Some (instruction_line (Plain (Imm Addi 8 0 (negsuc 0))))
+line_of_addi : disassembled 0x2008ffff ≡ Some (instruction_line (Plain (Imm Addi T0 ZERO (negsuc 0))))
 unfolding decoded
 line_of_addi = refl
 
-line_of_sll : disassembled 0x00084080 ≡ Some (instruction_line (Plain (Shift Sll 8 8 2)))
+line_of_sll : disassembled 0x00084080 ≡ Some (instruction_line (Plain (Shift Sll T0 T0 2)))
 unfolding decoded
 line_of_sll = refl
 
-line_of_lw : disassembled 0x8fc4fffc ≡ Some (instruction_line (Plain (Mem Lw 4 30 (negsuc 3))))
+line_of_lw : disassembled 0x8fc4fffc ≡ Some (instruction_line (Plain (Mem Lw A0 FP (negsuc 3))))
 unfolding decoded
 line_of_lw = refl
 
-line_of_bgez : disassembled 0x05010003 ≡ Some (instruction_line (Plain (BranchOne Bgez 8 (pos 3))))
+line_of_bgez : disassembled 0x05010003 ≡ Some (instruction_line (Plain (BranchOne Bgez T0 (pos 3))))
 unfolding decoded
 line_of_bgez = refl
 

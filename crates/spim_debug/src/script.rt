@@ -1,6 +1,6 @@
 //! Scripts: what a debugger is asked to do, line by line.
 
-ghost use Rattle.std.specs.Prelude.{◌≡◌, ◌<◌, ◌≤◌, length, IfOk, None};
+ghost use Rattle.std.specs.Prelude.{◌≡◌, ◌-◌, ◌^◌, ◌<◌, ◌≤◌, length, IfOk, None};
 ghost use Rattle.mips_isa.specs.Lines.{lines_of, AreInRange};
 ghost use Rattle.mips_isa.specs.Assembly.{fault_of, image_of};
 ghost use Rattle.spim_debug.specs.Scripts.{IsReadAs, commands_in, place_of};
@@ -80,7 +80,7 @@ pub fn read_script(
     lines: &[Line],
 ) -> Result<Vec<DebugCommand>, ScriptError>
     requires small { length bytes.now ≤ MOST_SCRIPT_BYTES }
-    requires few { length lines.now < 4294967292 }
+    requires few { length lines.now < 2 ^ 32 - 4 }
     requires ranges { AreInRange (lines_of lines.now) }
     requires image { fault_of (lines_of lines.now) ≡ None }
     ensures exact { IsReadAs (commands_in (place_of (lines_of lines.now)) bytes.now) result }

@@ -26,7 +26,7 @@ call_puts b c =
 
 -- Worked example: 321 is printed as its low byte
 printed_alone : (b : Segments) (memory : Bytes)
-    → call_puts b (record { registers = λ k. if k == 2 then 11 else 321; hi = 0; lo = 0; pc = 0x00400004; memory = memory }) ≡ (65 ∷ []) ∷ []
+    → call_puts b (record { registers = λ k. if k == V0 then PRINT_CHAR else 321; hi = 0; lo = 0; pc = 0x00400004; memory = memory }) ≡ (65 ∷ []) ∷ []
 printed_alone b memory = refl
 
 -- of an instruction, which may be a system call
