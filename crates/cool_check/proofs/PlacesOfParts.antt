@@ -32,21 +32,8 @@ ids_below k m (id ∷ ids) p h = (omega (arith, h.0), ids_below k m ids p h.1)
 
 -- where an expression stands in the files, so does its own mark
 pub place_within : (n : ℕ) (t : Tree) → IsTreeWithin n t → IsPlaced n (place_of t)
-place_within n (trees.Assign at name t) h = h.0
-place_within n (trees.Dispatch at t name ts) h = h.0
-place_within n (trees.StaticDispatch at t class name ts) h = h.0
-place_within n (trees.If at t y e) h = h.0
-place_within n (trees.While at t b) h = h.0
-place_within n (trees.Block at ts) h = h.0
-place_within n (trees.Let at name declared o t) h = h.0
-place_within n (trees.Case at t cs) h = h.0
-place_within n (trees.New at class) h = h.0
-place_within n (trees.IsVoid at t) h = h.0
-place_within n (trees.Arith at op a b) h = h.0
-place_within n (trees.Neg at t) h = h.0
-place_within n (trees.Compare at op a b) h = h.0
-place_within n (trees.Not at t) h = h.0
-place_within n (trees.Id at name) h = h.0
-place_within n (trees.Int at value) h = h.0
-place_within n (trees.Str at bytes) h = h.0
 place_within n (trees.Bool at value) h = h
+place_within n (trees.Not at t) h = h.0
+place_within n (trees.While at t b) h = h.0
+place_within n (trees.Dispatch at t name ts) h = h.0
+place_within n _ h = h.0

@@ -1,6 +1,6 @@
 -- A join is the function's.
 use Rattle.cool_rules.proofs.RulesOfTables.{join_in_is}
-use Rattle.cool_check.proofs.setting.TypingSetting.join.Goals as goal
+use Rattle.cool_check.proofs.typing_setting.TypingSetting.join.Goals as goal
 
 pub returns-clause-join : goal.returns-clause-join
 returns-clause-join c =

@@ -1,6 +1,6 @@
 -- The nearest method on the chain is that of the chain by the table.
 use Rattle.cool_rules.proofs.RulesOfTables.{method_of_is}
-use Rattle.cool_check.proofs.setting.TypingSetting.method.Goals as goal
+use Rattle.cool_check.proofs.typing_setting.TypingSetting.method.Goals as goal
 
 pub returns-clause-method : goal.returns-clause-method
 returns-clause-method c =
