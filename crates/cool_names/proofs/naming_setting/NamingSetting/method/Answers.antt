@@ -3,7 +3,7 @@ use Rattle.std.proofs.Common.{◌≡◌, ◌<◌, length, sym, subst}
 use Rattle.cool_classes.specs.declared.class_id.ClassId.{ClassId}
 use Rattle.cool_rules.specs.Rules.{method_of}
 use Rattle.cool_rules.proofs.RulesOfTables.{method_of_is}
-use Rattle.cool_names.proofs.setting.NamingSetting.method.Goals as goal
+use Rattle.cool_names.proofs.naming_setting.NamingSetting.method.Goals as goal
 use Rattle.cool_names.proofs.SeenTypes.{class_within}
 
 pub returns-clause-method : goal.returns-clause-method

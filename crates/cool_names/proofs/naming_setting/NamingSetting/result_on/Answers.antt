@@ -2,7 +2,7 @@
 use Rattle.std.proofs.Common.{ap, sym, ◌∙◌}
 use Rattle.cool_rules.specs.Typing.{result_on}
 use Rattle.cool_rules.proofs.RulesOfTables.{type_meant_is}
-use Rattle.cool_names.proofs.setting.NamingSetting.result_on.Goals as goal
+use Rattle.cool_names.proofs.naming_setting.NamingSetting.result_on.Goals as goal
 
 pub returns-in-SelfType-clause-seen : goal.returns-in-SelfType-clause-seen
 returns-in-SelfType-clause-seen c = ap (result_on c.args.receiver) (sym c.in-SelfType.is ∙ type_meant_is c.args.self.now.program.table.now _ _ c.requires.sound.0.table c.result.ensures)

@@ -5,7 +5,7 @@ use Rattle.std.specs.Option.{option_or}
 use Rattle.cool_rules.specs.Scopes.{found}
 use Rattle.cool_names.specs.Scopes.{Variable, variable_of, variables}
 use Rattle.cool_names.proofs.FoundVariables.{found_variable}
-use Rattle.cool_names.proofs.setting.NamingSetting.variable.Goals as goal
+use Rattle.cool_names.proofs.naming_setting.NamingSetting.variable.Goals as goal
 
 pub returns-in-Some : goal.returns-in-Some
 returns-in-Some c =
