@@ -29,34 +29,20 @@ none_rose n rose = let more : 0 < 0 = rose.more (omega arith) in omega (arith, m
 
 -- no count rose
 pub counted_inner : (r : Result Value Ending) (source sink : ℕ) → IfErr r IsInner → Counted r source source sink sink
-counted_inner (Ok v) source sink inner = (refl, refl)
-counted_inner (Err (ending.Error e)) source sink inner = (refl, refl)
-counted_inner (Err ending.StepLimit) source sink inner = (refl, refl)
-counted_inner (Err ending.Memory) source sink inner = (refl, refl)
-counted_inner (Err ending.Stuck) source sink inner = (refl, refl)
 counted_inner (Err ending.ReadFault) source sink inner = absurd inner
 counted_inner (Err ending.WriteFault) source sink inner = absurd inner
+counted_inner _ source sink inner = (refl, refl)
 
 -- only the count of the sink, or of the source, rose
 pub counted_sink : (r : Result Value Ending) (source sink sink' : ℕ) → Counted r 0 0 sink sink'
     → Counted r source source sink sink'
-counted_sink (Ok v) source sink sink' c = (refl, c.1)
-counted_sink (Err (ending.Error e)) source sink sink' c = (refl, c.1)
-counted_sink (Err ending.StepLimit) source sink sink' c = (refl, c.1)
-counted_sink (Err ending.Memory) source sink sink' c = (refl, c.1)
-counted_sink (Err ending.Stuck) source sink sink' c = (refl, c.1)
 counted_sink (Err ending.ReadFault) source sink sink' c = absurd (none_rose 0 c.0)
-counted_sink (Err ending.WriteFault) source sink sink' c = (refl, c.1)
+counted_sink _ source sink sink' c = (refl, c.1)
 
 pub counted_source : (r : Result Value Ending) (source source' sink : ℕ) → Counted r source source' 0 0
     → Counted r source source' sink sink
-counted_source (Ok v) source source' sink c = (c.0, refl)
-counted_source (Err (ending.Error e)) source source' sink c = (c.0, refl)
-counted_source (Err ending.StepLimit) source source' sink c = (c.0, refl)
-counted_source (Err ending.Memory) source source' sink c = (c.0, refl)
-counted_source (Err ending.Stuck) source source' sink c = (c.0, refl)
-counted_source (Err ending.ReadFault) source source' sink c = (c.0, refl)
 counted_source (Err ending.WriteFault) source source' sink c = absurd (none_rose 0 c.1)
+counted_source _ source source' sink c = (c.0, refl)
 
 -- what leaves the input acts on the source and the sink alike
 acts_made : (r : Result Value Ending) (store : Store) (first : SinkSeen) (output input : List ℕ)
@@ -66,9 +52,7 @@ acts_made (Ok v) store first output input sink n o is made = (output, is ∙ sin
 acts_made (Err (ending.Error e)) store first output input sink n o is made = (output, is ∙ sink_still first output, made)
 acts_made (Err ending.Stuck) store first output input sink n o is made = made
 acts_made (Err ending.Memory) store first output input sink n o is made = (is, inl refl)
-acts_made (Err ending.StepLimit) store first output input sink n o is made = absurd made
-acts_made (Err ending.ReadFault) store first output input sink n o is made = absurd made
-acts_made (Err ending.WriteFault) store first output input sink n o is made = absurd made
+acts_made _ store first output input sink n o is made = absurd made
 
 pub acts_by_making : (r : Result Value Ending) (old new : Store) (ended : Bool) (past : Past) (sink : SinkSeen)
     (d : Computation values.Value)
@@ -80,13 +64,8 @@ acts_by_making r old new ended past sink d makes = λ first output input rest is
 -- what leaves the store too makes a value
 makes_given : (r : Result Value Ending) (store : Store) (d : Computation values.Value) (input output : List ℕ) (n : ℕ)
     → IsResultOf r d → Makes r store input output n (d (state_at store input output) n).outcome
-makes_given (Ok v) store d input output n gives = gives (state_at store input output) n
-makes_given (Err (ending.Error e)) store d input output n gives = gives (state_at store input output) n
-makes_given (Err ending.Stuck) store d input output n gives = gives (state_at store input output) n
 makes_given (Err ending.Memory) store d input output n gives = tt
-makes_given (Err ending.StepLimit) store d input output n gives = gives (state_at store input output) n
-makes_given (Err ending.ReadFault) store d input output n gives = gives (state_at store input output) n
-makes_given (Err ending.WriteFault) store d input output n gives = gives (state_at store input output) n
+makes_given _ store d input output n gives = gives (state_at store input output) n
 
 pub acts_by_giving : (r : Result Value Ending) (store : Store) (ended : Bool) (past : Past) (sink : SinkSeen)
     (d : Computation values.Value) → IsResultOf r d

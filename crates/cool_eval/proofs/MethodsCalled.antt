@@ -13,7 +13,7 @@ use Rattle.cool_classes.specs.Features.{basic_methods, method_among, first_metho
 use Rattle.cool_classes.specs.Tables.{IsTable, IsNamed}
 use Rattle.cool_classes.proofs.ChainsOfTables.{chain_is}
 use Rattle.cool_rules.specs.Rules.{class_named}
-use Rattle.cool_meaning.specs.Values.{Value, Void, Int, Bool as Truth, Str, Obj, State, class_of}
+use Rattle.cool_meaning.specs.Values.{Value, Void, State, class_of}
 use Rattle.cool_meaning.specs.Meters.{Outcome, Val, Stop, On, Stuck, DispatchVoid, given}
 use Rattle.cool_meaning.specs.Lookups.{method_at}
 use Rattle.cool_eval.specs.StackMachine.{Frame, Halt, begin_call, begin_method, call_class, class_called}
@@ -29,26 +29,17 @@ pub void_called : (p : List Class) (at : Place) (class : Option (List ℕ)) (nam
 unfolding call_class
 void_called p at None name Void vs fs s n none = refl
 void_called p at (Some class) name Void vs fs s n none = refl
-void_called p at class name (Int i) vs fs s n none = absurd cc
-void_called p at class name (Truth b) vs fs s n none = absurd cc
-void_called p at class name (Str bytes) vs fs s n none = absurd cc
-void_called p at class name (Obj c i ls) vs fs s n none = absurd cc
+void_called p at class name _ vs fs s n none = absurd cc
 
 -- the receiver's
 pub own_called : (p : List Class) (at : Place) (v : Value) (s : State) (n : ℕ) (own : ClassId) → class_of v ≡ Some own → (class_called p at None v s n).outcome ≡ (given (Some own) s n).outcome
 own_called p at Void s n own is = absurd cc
-own_called p at (Int i) s n own is = ap (λ (o : Option ClassId). (given o s n).outcome) is
-own_called p at (Truth b) s n own is = ap (λ (o : Option ClassId). (given o s n).outcome) is
-own_called p at (Str bytes) s n own is = ap (λ (o : Option ClassId). (given o s n).outcome) is
-own_called p at (Obj c i ls) s n own is = ap (λ (o : Option ClassId). (given o s n).outcome) is
+own_called p at _ s n own is = ap (λ (o : Option ClassId). (given o s n).outcome) is
 
 -- the one that the source names
 named_by : (p : List Class) (at : Place) (name : List ℕ) (v : Value) (s : State) (n : ℕ) (own : ClassId) → class_of v ≡ Some own → (class_called p at (Some name) v s n).outcome ≡ (given (class_named p name) s n).outcome
 named_by p at name Void s n own is = absurd cc
-named_by p at name (Int i) s n own is = refl
-named_by p at name (Truth b) s n own is = refl
-named_by p at name (Str bytes) s n own is = refl
-named_by p at name (Obj c i ls) s n own is = refl
+named_by p at name _ s n own is = refl
 
 pub named_called : (p : List Class) → IsTable p → (at : Place) (name : List ℕ) (v : Value) (s : State) (n : ℕ) (own : ClassId) (r : Option ClassId) → IsNamed p name r → class_of v ≡ Some own
     → (class_called p at (Some name) v s n).outcome ≡ (given r s n).outcome

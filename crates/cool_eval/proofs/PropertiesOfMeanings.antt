@@ -85,17 +85,11 @@ module _ (P : (A : Type 0) → Computation A → Type 0) (w : IsOfWords P) where
 
   pub of_number : (v : Value) → P _ (as_number v)
   of_number (Int i) = w.of_give i
-  of_number Void = w.of_stuck
-  of_number (Truth b) = w.of_stuck
-  of_number (Str bytes) = w.of_stuck
-  of_number (Obj c i ls) = w.of_stuck
+  of_number _ = w.of_stuck
 
   pub of_truth : (v : Value) → P _ (as_truth v)
   of_truth (Truth b) = w.of_give b
-  of_truth Void = w.of_stuck
-  of_truth (Int i) = w.of_stuck
-  of_truth (Str bytes) = w.of_stuck
-  of_truth (Obj c i ls) = w.of_stuck
+  of_truth _ = w.of_stuck
 
   pub of_class : (e : Error) (v : Value) → P _ (class_or e v)
   of_class e Void = w.of_stop e

@@ -48,34 +48,22 @@ quiet_reaches p r m ended past sink next inner comes first output input rest put
 
 -- no count rose
 pub quiet_counts : {A : Type 0} (r : Result A Ending) (source sink : ℕ) → IfErr r IsInner → Counted r source source sink sink
-quiet_counts (Ok x) source sink inner = (refl, refl)
-quiet_counts (Err (ending.Error e)) source sink inner = (refl, refl)
-quiet_counts (Err ending.StepLimit) source sink inner = (refl, refl)
-quiet_counts (Err ending.Stuck) source sink inner = (refl, refl)
-quiet_counts (Err ending.Memory) source sink inner = (refl, refl)
 quiet_counts (Err ending.ReadFault) source sink inner = absurd inner
 quiet_counts (Err ending.WriteFault) source sink inner = absurd inner
+quiet_counts _ source sink inner = (refl, refl)
 
 -- no fault comes
 pub quiet_faults : {A : Type 0} (r : Result A Ending) (left left' : ℕ) → IfErr r IsInner → FaultsInCalls r left left'
-quiet_faults (Ok x) left left' inner = tt
-quiet_faults (Err (ending.Error e)) left left' inner = tt
-quiet_faults (Err ending.StepLimit) left left' inner = tt
-quiet_faults (Err ending.Stuck) left left' inner = tt
-quiet_faults (Err ending.Memory) left left' inner = tt
 quiet_faults (Err ending.ReadFault) left left' inner = absurd inner
 quiet_faults (Err ending.WriteFault) left left' inner = absurd inner
+quiet_faults _ left left' inner = tt
 
 -- what comes after a step was spent
 pub spent_faults : {A : Type 0} (r : Result A Ending) (left mid left' : ℕ) → left ≡ mid + 1 → left' ≡ mid
     → FaultsInCalls r left left'
-spent_faults (Ok x) left mid left' spent same = tt
-spent_faults (Err (ending.Error e)) left mid left' spent same = tt
-spent_faults (Err ending.StepLimit) left mid left' spent same = tt
-spent_faults (Err ending.Stuck) left mid left' spent same = tt
-spent_faults (Err ending.Memory) left mid left' spent same = tt
 spent_faults (Err ending.ReadFault) left mid left' spent same = omega (arith, spent, same)
 spent_faults (Err ending.WriteFault) left mid left' spent same = omega (arith, spent, same)
+spent_faults _ left mid left' spent same = tt
 
 -- what is done next, seen otherwise
 pub reaches_same : (p : List Class) (r : Result Focus Ending) (m : Machine) (ended : Bool) (past past' : Past)

@@ -2,7 +2,7 @@
 use Rattle.std.proofs.Common.{◌≡◌, ℕ, List, [], ap, sym, ◌∙◌, refl}
 use Rattle.cool_classes.specs.Chains.{Class}
 use Rattle.cool_meaning.specs.Values.{Value, Void, start}
-use Rattle.cool_meaning.specs.Meters.{Outcome, Val, Stop, On, Stuck, seq_of, give}
+use Rattle.cool_meaning.specs.Meters.{Outcome, Val, seq_of, give}
 use Rattle.cool_meaning.specs.Evaluation.{eval, calls_within}
 use Rattle.cool_meaning.specs.SourceRun.{Run, main_call, run_of, run}
 use Rattle.cool_eval.specs.StackMachine.{Begin, Continue, Halt}
@@ -16,15 +16,11 @@ pub record SameEnd (r r' : Run) : Type 0 where
 
 unmetered_run : (p : List Class) (names : List (List ℕ)) (o : Outcome Value) (w g q w' g' q' : ℕ) → SameEnd (run_of p names o w g q) (run_of p names o w' g' q')
 unmetered_run p names (Val v s n) w g q w' g' q' = record { end = refl; output = refl; left = refl }
-unmetered_run p names (Stop e s) w g q w' g' q' = record { end = refl; output = refl; left = refl }
-unmetered_run p names (On s) w g q w' g' q' = record { end = refl; output = refl; left = refl }
-unmetered_run p names Stuck w g q w' g' q' = record { end = refl; output = refl; left = refl }
+unmetered_run p names _ w g q w' g' q' = record { end = refl; output = refl; left = refl }
 
 given_back : (o : Outcome Value) (w g q : ℕ) → (seq_of o w g q give).outcome ≡ o
 given_back (Val v s n) w g q = refl
-given_back (Stop e s) w g q = refl
-given_back (On s) w g q = refl
-given_back Stuck w g q = refl
+given_back _ w g q = refl
 
 -- the start means the whole evaluation
 pub start_means : (p : List Class) (input : List ℕ) (n : ℕ) → means p n (Continue (Begin Void [] main_call) [] (start input) n) ≡ (eval p (calls_within p n) Void [] main_call (start input) n).outcome

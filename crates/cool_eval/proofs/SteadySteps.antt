@@ -21,7 +21,7 @@ use Rattle.cool_meaning.specs.BasicMethods.{basic, locate_all}
 use Rattle.cool_meaning.specs.Evaluation.{class_or, value_named, assign, compare}
 use Rattle.cool_meaning.proofs.RelatedEvaluation.{IsKept, locate_all_kept, basic_kept}
 use Rattle.cool_eval.proofs.PropertiesOfMeanings.{IsOfWords, words_kept, of_class, of_named, of_assign, of_operated, of_compare, of_inverted, of_negated}
-use Rattle.cool_eval.specs.StackMachine.{Frame, AssignTo, Choose, Turn, Again, Items, Bind, Pick, Fill, Argument, Receiver, TestVoid, Invert, Negate, Operand, Operate, Compared, CompareTo, Focus, Begin, Return, Start, Next, Continue, Halt, after, begin_args, begin_body, begin_method, begin_call, class_called, call_class, begin_object, begin_new, start_value, start_values, choose, turn, next_item, bind, begin_let, Taken, nearest_branch, take_named, pick, inverted, negated, operated, returned, begun, step}
+use Rattle.cool_eval.specs.StackMachine.{Frame, AssignTo, Choose, Turn, Items, Bind, Pick, Argument, Receiver, Invert, Negate, Operate, CompareTo, Focus, Begin, Return, Start, Next, Continue, Halt, after, begin_args, begin_body, begin_method, begin_call, class_called, call_class, begin_object, begin_new, start_value, start_values, choose, turn, next_item, bind, begin_let, Taken, nearest_branch, take_named, pick, inverted, negated, operated, returned, begun, step}
 
 -- an outcome with so many steps left
 abbrev pub left_as : {A : Type 0} → Outcome A → ℕ → Outcome A
@@ -44,9 +44,7 @@ record Steady {A : Type 0} (d : Computation A) : Type 0 where
 seq_steady : {A B : Type 0} (o : Outcome A) (w g q w' g' q' k : ℕ) (f : A → Computation B) → ((v : A) → Steady (f v))
     → (seq_of (left_as o k) w' g' q' f).outcome ≡ left_as (seq_of o w g q f).outcome k
 seq_steady (Val v s n) w g q w' g' q' k f h = (h v).same s n k
-seq_steady (Stop e s) w g q w' g' q' k f h = refl
-seq_steady (On s) w g q w' g' q' k f h = refl
-seq_steady Stuck w g q w' g' q' k f h = refl
+seq_steady _ w g q w' g' q' k f h = refl
 
 bind_steady : {A B : Type 0} {d : Computation A} {f : A → Computation B} → Steady d → ((v : A) → Steady (f v))
     → Steady (d >>= f)
@@ -119,9 +117,7 @@ Kind s next = IsSteady next ⊎ Spends s next
 after_with : (o : Outcome Value) (fs : List Frame) (k : ℕ) → after (left_as o k) fs ≡ next_with (after o fs) k
 unfolding after
 after_with (Val v s n) fs k = refl
-after_with (Stop e s) fs k = refl
-after_with (On s) fs k = refl
-after_with Stuck fs k = refl
+after_with _ fs k = refl
 
 after_steady : (d : Computation Value) (fs : List Frame) (s : State) → Steady d → IsSteady (λ n. after (d s n).outcome fs)
 after_steady d fs s h n k = ap (λ (o : Outcome Value). after o fs) (h.same s n k) ∙ after_with (d s n).outcome fs k
@@ -140,9 +136,7 @@ module _ (p : List Class) where
       → begin_body p self m (left_as o k) fs ≡ next_with (begin_body p self m o fs) k
   unfolding begin_body
   body_with self m (Val ls s n) fs k = refl
-  body_with self m (Stop e s) fs k = refl
-  body_with self m (On s) fs k = refl
-  body_with self m Stuck fs k = refl
+  body_with self m _ fs k = refl
 
   method_steady : (self : Value) (vs : List Value) (o : Option MethodDef) (fs : List Frame) (s : State)
       → IsSteady (λ n. begin_method p self vs o fs s n)
@@ -198,9 +192,7 @@ module _ (p : List Class) where
       → begin_object p c (left_as o k) fs ≡ next_with (begin_object p c o fs) k
   unfolding begin_object
   object_with c (Val ls s n) fs k = refl
-  object_with c (Stop e s) fs k = refl
-  object_with c (On s) fs k = refl
-  object_with c Stuck fs k = refl
+  object_with c _ fs k = refl
 
   -- what comes after the step, by three tests of the class
   abbrev made : Bool → Bool → Bool → ClassId → List Frame → State → ℕ → Next
@@ -244,21 +236,13 @@ module _ (p : List Class) where
       → IsSteady (λ n. choose self env first second v fs s n)
   unfolding choose
   choice_steady self env first second (Truth true) fs s n k = refl
-  choice_steady self env first second (Truth false) fs s n k = refl
-  choice_steady self env first second Void fs s n k = refl
-  choice_steady self env first second (Int i) fs s n k = refl
-  choice_steady self env first second (Str bytes) fs s n k = refl
-  choice_steady self env first second (Obj c i ls) fs s n k = refl
+  choice_steady self env first second _ fs s n k = refl
 
   turn_kind : (self : Value) (env : Environment) (test body : Tree) (v : Value) (fs : List Frame) (s : State)
       → Kind s (λ n. turn self env test body v fs s n)
   unfolding turn
   turn_kind self env test body (Truth true) fs s = inr (record { none = refl; more = λ n k. refl })
-  turn_kind self env test body (Truth false) fs s = inl (λ n k. refl)
-  turn_kind self env test body Void fs s = inl (λ n k. refl)
-  turn_kind self env test body (Int i) fs s = inl (λ n k. refl)
-  turn_kind self env test body (Str bytes) fs s = inl (λ n k. refl)
-  turn_kind self env test body (Obj c i ls) fs s = inl (λ n k. refl)
+  turn_kind self env test body _ fs s = inl (λ n k. refl)
 
   item_steady : (self : Value) (env : Environment) (v : Value) (es : Trees) (fs : List Frame) (s : State)
       → IsSteady (λ n. next_item self env v es fs s n)
@@ -287,9 +271,7 @@ module _ (p : List Class) where
       (fs : List Frame) (k : ℕ) → pick p self env at cs v (left_as o k) fs ≡ next_with (pick p self env at cs v o fs) k
   unfolding pick
   pick_with self env at cs v (Val c s n) fs k = taken_steady self env at c v (nearest_branch p cs (chain p c)) fs s n k
-  pick_with self env at cs v (Stop e s) fs k = refl
-  pick_with self env at cs v (On s) fs k = refl
-  pick_with self env at cs v Stuck fs k = refl
+  pick_with self env at cs v _ fs k = refl
 
   pick_steady : (self : Value) (env : Environment) (at : Place) (cs : Cases) (v : Value) (fs : List Frame) (s : State)
       → IsSteady (λ n. pick p self env at cs v (class_or (CaseVoid at) v s n).outcome fs)
@@ -304,45 +286,32 @@ module _ (p : List Class) where
   unfolding begun
   begun_kind self env (trees.Id at name) fs s =
       inl (after_steady (value_named self env name) fs s (of_named (λ A d. Steady d) steady_words self env name))
-  begun_kind self env (trees.Int at i) fs s = inl (λ n k. refl)
-  begun_kind self env (trees.Str at bytes) fs s = inl (λ n k. refl)
-  begun_kind self env (trees.Bool at b) fs s = inl (λ n k. refl)
-  begun_kind self env (trees.Assign at name e) fs s = inl (λ n k. refl)
+  begun_kind self env (trees.Assign at name t) fs s = inl (λ n k. refl)
+  begun_kind self env (trees.While at t b) fs s = inl (λ n k. refl)
   begun_kind self env (trees.Dispatch at t name es) fs s = inl (args_steady self env [] es at t None name fs s)
   begun_kind self env (trees.StaticDispatch at t class name es) fs s =
       inl (args_steady self env [] es at t (Some class.name) name fs s)
-  begun_kind self env (trees.If at test first second) fs s = inl (λ n k. refl)
-  begun_kind self env (trees.While at test body) fs s = inl (λ n k. refl)
   begun_kind self env (trees.Block at es) fs s = inl (item_steady self env Void es fs s)
   begun_kind self env (trees.Let at name declared init e) fs s = inl (let_steady self env name declared.name init e fs s)
-  begun_kind self env (trees.Case at e cs) fs s = inl (λ n k. refl)
   begun_kind self env (trees.New at class) fs s = new_kind (class_made p self class.name) fs s
-  begun_kind self env (trees.IsVoid at e) fs s = inl (λ n k. refl)
-  begun_kind self env (trees.Not at e) fs s = inl (λ n k. refl)
-  begun_kind self env (trees.Neg at e) fs s = inl (λ n k. refl)
-  begun_kind self env (trees.Arith at op e f) fs s = inl (λ n k. refl)
-  begun_kind self env (trees.Compare at op e f) fs s = inl (λ n k. refl)
+  begun_kind self env _ fs s = inl (λ n k. refl)
 
   returned_kind : (f : Frame) (v : Value) (fs : List Frame) (s : State) → Kind s (λ n. returned p f v fs s n)
   unfolding returned
   returned_kind (AssignTo env name) v fs s = inl (after_steady (assign env name v) fs s (of_assign (λ A d. Steady d) steady_words env name v))
   returned_kind (Choose self env first second) v fs s = inl (choice_steady self env first second v fs s)
   returned_kind (Turn self env test body) v fs s = turn_kind self env test body v fs s
-  returned_kind (Again self env test body) v fs s = inl (λ n k. refl)
   returned_kind (Items self env es) v fs s = inl (item_steady self env v es fs s)
   returned_kind (Bind self env name e) v fs s = inl (variable_steady self env name e v fs s)
   returned_kind (Pick self env at cs) v fs s = inl (pick_steady self env at cs v fs s)
-  returned_kind (Fill self l rs ls) v fs s = inl (λ n k. refl)
   returned_kind (Argument self env vs es at t class name) v fs s =
       inl (args_steady self env (vs ++ v ∷ []) es at t class name fs s)
   returned_kind (Receiver at class name vs) v fs s = call_kind at class name v vs fs s
-  returned_kind TestVoid v fs s = inl (λ n k. refl)
   returned_kind Invert v fs s = inl (after_steady (inverted v) fs s (of_inverted (λ A d. Steady d) steady_words v))
   returned_kind (Negate at) v fs s = inl (after_steady (negated at v) fs s (of_negated (λ A d. Steady d) steady_words at v))
-  returned_kind (Operand self env at op e) v fs s = inl (λ n k. refl)
   returned_kind (Operate at op v) w fs s = inl (after_steady (operated op at v w) fs s (of_operated (λ A d. Steady d) steady_words op at v w))
-  returned_kind (Compared self env op e) v fs s = inl (λ n k. refl)
   returned_kind (CompareTo op v) w fs s = inl (after_steady (compare op v w) fs s (of_compare (λ A d. Steady d) steady_words op v w))
+  returned_kind _ v fs s = inl (λ n k. refl)
 
   -- each step spends none or one
   pub step_kind : (focus : Focus) (fs : List Frame) (s : State) → Kind s (λ n. step p focus fs s n)

@@ -14,7 +14,7 @@ use Rattle.cool_classes.specs.Features.{implementation}
 use Rattle.cool_classes.specs.ClimbedChains.{chain}
 use Rattle.cool_rules.specs.Rules.{class_named}
 use Rattle.cool_meaning.specs.Values.{Value, Void, Int, Bool as Truth, Str, Obj, State, Environment, default_of}
-use Rattle.cool_meaning.specs.Meters.{Outcome, Val, Stop, On, Stuck, Error, DispatchVoid, CaseVoid, Metered, Computation, join, seq_of, seq, ◌>>=◌, ◌>>◌, give, given, spend, rule, working, holding, locate, store}
+use Rattle.cool_meaning.specs.Meters.{Outcome, Val, On, Error, DispatchVoid, CaseVoid, Metered, Computation, join, seq_of, seq, ◌>>=◌, ◌>>◌, give, given, spend, rule, working, holding, locate, store}
 use Rattle.cool_meaning.specs.Lookups.{class_made, method_at, attributes, default_values, init_of, located, formal_names, environment_of}
 use Rattle.cool_meaning.specs.BasicMethods.{as_truth, basic, locate_all, draw, new_number, new_truth, new_string}
 use Rattle.cool_meaning.specs.Evaluation.{Body, Initials, Calls, Branch, class_or, value_named, assign, compare, is_void, loop, or_else, nearest, take_branch, branch_of, branch_count, make, new_object, invoke, dispatch, run_method, run_initial, run_initials, eval, eval_all, eval_items, eval_init, calls_within}
@@ -79,9 +79,7 @@ module _ (p : List Class) (a : ℕ) where
 
   no_meters : {A B : Type 0} (o : Outcome A) (w g q w' g' q' : ℕ) (f : A → Computation B) → (seq_of o w g q f).outcome ≡ (seq_of o w' g' q' f).outcome
   no_meters (Val v s n) w g q w' g' q' f = refl
-  no_meters (Stop e s) w g q w' g' q' f = refl
-  no_meters (On s) w g q w' g' q' f = refl
-  no_meters Stuck w g q w' g' q' f = refl
+  no_meters _ w g q w' g' q' f = refl
 
   -- the same, of what comes to one outcome
   unmetered : {A B : Type 0} (m m' : Metered A) (f : A → Computation B) → m.outcome ≡ m'.outcome → (seq m f).outcome ≡ (seq m' f).outcome
@@ -89,9 +87,7 @@ module _ (p : List Class) (a : ℕ) where
 
   assoc_by : {A B C : Type 0} (o : Outcome A) (w g q : ℕ) (f : A → Computation B) (h : B → Computation C) → (seq (seq_of o w g q f) h).outcome ≡ (seq_of o w g q (λ v. f v >>= h)).outcome
   assoc_by (Val v s n) w g q f h = no_meters (f v s n).outcome (w + (f v s n).work) (g + (f v s n).words) (max q (f v s n).peak) (f v s n).work (f v s n).words (f v s n).peak h
-  assoc_by (Stop e s) w g q f h = refl
-  assoc_by (On s) w g q f h = refl
-  assoc_by Stuck w g q f h = refl
+  assoc_by _ w g q f h = refl
 
   -- one after another after a third
   assoc : {A B C : Type 0} (d : Computation A) (f : A → Computation B) (h : B → Computation C) (s : State) (n : ℕ) → (((d >>= f) >>= h) s n).outcome ≡ ((d >>= λ v. f v >>= h) s n).outcome
@@ -104,15 +100,11 @@ module _ (p : List Class) (a : ℕ) where
   after_means : (o : Outcome Value) (fs : List Frame) (w g q : ℕ) → means (after o fs) ≡ (seq_of o w g q (resume fs)).outcome
   unfolding after
   after_means (Val v s n) fs w g q = refl
-  after_means (Stop e s) fs w g q = refl
-  after_means (On s) fs w g q = refl
-  after_means Stuck fs w g q = refl
+  after_means _ fs w g q = refl
 
   followed_by : {A B : Type 0} (o : Outcome A) (w g q : ℕ) (f f' : A → Computation B) → ((v : A) (s : State) (n : ℕ) → (f v s n).outcome ≡ (f' v s n).outcome) → (seq_of o w g q f).outcome ≡ (seq_of o w g q f').outcome
   followed_by (Val v s n) w g q f f' h = h v s n
-  followed_by (Stop e s) w g q f f' h = refl
-  followed_by (On s) w g q f f' h = refl
-  followed_by Stuck w g q f f' h = refl
+  followed_by _ w g q f f' h = refl
 
   -- the same after a computation
   followed : {A B : Type 0} (d : Computation A) (f f' : A → Computation B) → ((v : A) (s : State) (n : ℕ) → (f v s n).outcome ≡ (f' v s n).outcome) → (s : State) (n : ℕ) → ((d >>= f) s n).outcome ≡ ((d >>= f') s n).outcome
@@ -178,26 +170,18 @@ module _ (p : List Class) (a : ℕ) where
   turn_means : (self : Value) (env : Environment) (test body : Tree) (v : Value) (fs : List Frame) (s : State) (n : ℕ)
       → means (turn self env test body v fs s n) ≡ ((turn_of self env test body v >>= resume fs) s n).outcome
   unfolding turn
-  turn_means self env test body (Truth true) fs s zero = refl
   turn_means self env test body (Truth true) fs s (suc n) =
       let again : Computation Value = loop (does self env test) (does self env body) in
       let m = (does self env body >> again) s n in
       sym (assoc (does self env body) (λ _. again) (resume fs) s n)
       ∙ unmetered m (join 0 0 0 (record { outcome = m.outcome; work = 1 + m.work; words = m.words; peak = m.peak })) (resume fs) refl
-  turn_means self env test body (Truth false) fs s n = refl
-  turn_means self env test body Void fs s n = refl
-  turn_means self env test body (Int i) fs s n = refl
-  turn_means self env test body (Str bytes) fs s n = refl
-  turn_means self env test body (Obj c i ls) fs s n = refl
+  turn_means self env test body _ fs s _ = refl
 
   choice_means : (self : Value) (env : Environment) (first second : Tree) (v : Value) (fs : List Frame) (s : State) (n : ℕ) → means (choose self env first second v fs s n) ≡ ((after_frame (Choose self env first second) v >>= resume fs) s n).outcome
   unfolding choose
   choice_means self env first second (Truth true) fs s n = let d = does self env first s n in unmetered d (join 0 0 0 d) (resume fs) refl
   choice_means self env first second (Truth false) fs s n = let d = does self env second s n in unmetered d (join 0 0 0 d) (resume fs) refl
-  choice_means self env first second Void fs s n = refl
-  choice_means self env first second (Int i) fs s n = refl
-  choice_means self env first second (Str bytes) fs s n = refl
-  choice_means self env first second (Obj c i ls) fs s n = refl
+  choice_means self env first second _ fs s n = refl
 
   -- Calls
 
@@ -205,9 +189,7 @@ module _ (p : List Class) (a : ℕ) where
       → means (begin_body p self m o fs) ≡ (seq_of o w g q (λ ls. does self (located (formal_names m.formals) ls ++ environment_of p self) m.body >>= resume fs)).outcome
   unfolding begin_body
   body_means self m (Val ls s n) w g q fs = refl
-  body_means self m (Stop e s) w g q fs = refl
-  body_means self m (On s) w g q fs = refl
-  body_means self m Stuck w g q fs = refl
+  body_means self m _ w g q fs = refl
 
   method_means : (self : Value) (vs : List Value) (o : Option MethodDef) (fs : List Frame) (s : State) (n : ℕ) → means (begin_method p self vs o fs s n) ≡ ((run_method p calls self vs o >>= resume fs) s n).outcome
   unfolding begin_method
@@ -226,14 +208,11 @@ module _ (p : List Class) (a : ℕ) where
   class_means : (at : Place) (name : List ℕ) (v : Value) (vs : List Value) (o : Outcome ClassId) (w g q : ℕ) (fs : List Frame) → Fewer a o
       → means (call_class p at name v vs o fs) ≡ (seq (seq_of o w g q (λ c. dispatch p calls at c name v vs)) (resume fs)).outcome
   unfolding call_class
-  class_means at name v vs (Val c s zero) w g q fs few = refl
   class_means at name v vs (Val c s (suc n)) w g q fs few =
       let i = invoke p calls at v vs (implementation p (chain p c) name) s n in
       call_means at v vs (implementation p (chain p c) name) fs s n (omega arith)
       ∙ no_meters i.outcome i.work i.words i.peak (w + (length vs + i.work)) (g + i.words) (max q i.peak) (resume fs)
-  class_means at name v vs (Stop e s) w g q fs few = refl
-  class_means at name v vs (On s) w g q fs few = refl
-  class_means at name v vs Stuck w g q fs few = refl
+  class_means at name v vs _ w g q fs few = refl
 
   given_few : (o : Option ClassId) (s : State) (n : ℕ) → n ≤ a → Fewer a (given o s n).outcome
   given_few None s n less = tt
@@ -241,10 +220,7 @@ module _ (p : List Class) (a : ℕ) where
 
   class_or_few : (e : Error) (v : Value) (s : State) (n : ℕ) → n ≤ a → Fewer a (class_or e v s n).outcome
   class_or_few e Void s n less = tt
-  class_or_few e (Int i) s n less = less
-  class_or_few e (Truth b) s n less = less
-  class_or_few e (Str bytes) s n less = less
-  class_or_few e (Obj c i ls) s n less = less
+  class_or_few e _ s n less = less
 
   class_few : (at : Place) (class : Option (List ℕ)) (v : Value) (s : State) (n : ℕ) → n ≤ a → Fewer a (class_called p at class v s n).outcome
   class_few at None v s n less = class_or_few (DispatchVoid at) v s n less
@@ -312,9 +288,7 @@ module _ (p : List Class) (a : ℕ) where
       unmetered (d t n) ((d >> give self) t n) (resume fs) (sym (gives_self self (attributes p c) ls t n))
       ∙ (ap (λ (m : Metered Value). (seq (seq m (λ _. give self)) (resume fs)).outcome) (sym (call_is p a (Initials c self) t n (few ls s n refl)))
       ∙ unmetered whole (join w g q (join 0 0 0 whole)) (resume fs) refl)
-  object_means c (Stop e s) w g q fs few = refl
-  object_means c (On s) w g q fs few = refl
-  object_means c Stuck w g q fs few = refl
+  object_means c _ w g q fs few = refl
 
   -- locations are found with no step
   located_left : (vs : List Value) (s : State) (n : ℕ) (ls : List ℕ) (t : State) (m : ℕ) → (locate_all vs s n).outcome ≡ Val ls t m → m ≡ n
@@ -324,9 +298,7 @@ module _ (p : List Class) (a : ℕ) where
       by : (o : Outcome (List ℕ)) → (seq_of o (locate_all vs (record s { store = s.store ++ v ∷ [] }) n).work (locate_all vs (record s { store = s.store ++ v ∷ [] }) n).words (locate_all vs (record s { store = s.store ++ v ∷ [] }) n).peak (λ ks. give (length s.store ∷ ks))).outcome ≡ Val ls t m
           → ((ks : List ℕ) (u : State) (k : ℕ) → o ≡ Val ks u k → k ≡ n) → m ≡ n
       by (Val ks u k) is h = let same : m ≡ k = sym cc in same ∙ h ks u k refl
-      by (Stop e u) is h = absurd cc
-      by (On u) is h = absurd cc
-      by Stuck is h = absurd cc
+      by _ is h = absurd cc
 
   new_by : (two three four : Bool) (c : ClassId) (fs : List Frame) (s : State) (n : ℕ) → suc n ≤ a
       → means (if two then Continue (Return (Int (pos 0))) fs s n
@@ -405,9 +377,7 @@ module _ (p : List Class) (a : ℕ) where
       take_means self env at c v x fs s n
       ∙ (ap (λ (b : Option Branch). ((take_branch at c v b >>= resume fs) s n).outcome) (sym (nearest_same self env cs (chain p c)))
       ∙ unmetered (take_branch at c v taken s n) (join w g q (working (branch_count cs * length (chain p c)) (take_branch at c v taken) s n)) (resume fs) refl)
-  pick_means self env at cs v (Stop e s) w g q fs = refl
-  pick_means self env at cs v (On s) w g q fs = refl
-  pick_means self env at cs v Stuck w g q fs = refl
+  pick_means self env at cs v _ w g q fs = refl
 
   -- Steps
 
@@ -415,9 +385,6 @@ module _ (p : List Class) (a : ℕ) where
   unfolding begun
   begun_means self env (trees.Id at name) fs s n less =
       let m = value_named self env name s n in after_means m.outcome fs (1 + m.work) m.words (1 + m.peak)
-  begun_means self env (trees.Int at k) fs s n less = refl
-  begun_means self env (trees.Str at bytes) fs s n less = refl
-  begun_means self env (trees.Bool at x) fs s n less = refl
   begun_means self env (trees.Assign at name e) fs s n less = ruled_part (does self env e) (assign env name) fs s n
   begun_means self env (trees.Dispatch at t name es) fs s n less = args_mean self env [] es at t None name fs s n ∙ sym (ruled (rest_of_call self env [] es at t None name) (resume fs) s n)
   begun_means self env (trees.StaticDispatch at t class name es) fs s n less =
@@ -437,6 +404,7 @@ module _ (p : List Class) (a : ℕ) where
   begun_means self env (trees.Neg at e) fs s n less = ruled_part (does self env e) (negated at) fs s n
   begun_means self env (trees.Arith at op e f) fs s n less = ruled_part (does self env e) (λ v. does self env f >>= λ w. operated op at v w) fs s n
   begun_means self env (trees.Compare at op e f) fs s n less = ruled_part (does self env e) (λ v. does self env f >>= λ w. compare op v w) fs s n
+  begun_means self env _ fs s n less = refl
 
   returned_means : (f : Frame) (v : Value) (fs : List Frame) (s : State) (n : ℕ) → n ≤ a → means (returned p f v fs s n) ≡ ((after_frame f v >>= resume fs) s n).outcome
   unfolding returned

@@ -73,8 +73,8 @@ frame_of p (held.Items scene rest) = machine.Items (value_of scene.value.me) (en
 frame_of p (held.Bind scene name body) = machine.Bind (value_of scene.value.me) (env_of p scene.value) name.now body
 frame_of p (held.Pick scene at branches) = machine.Pick (value_of scene.value.me) (env_of p scene.value) at (of_twigs branches)
 frame_of p (held.Fill o l rest) = machine.Fill (values.Obj o.class o.identity (locations_from o.first o.count)) l rest.now (locations_from (l + 1) (length rest.now))
-frame_of p (held.Argument scene given rest call) =
-    machine.Argument (value_of scene.value.me) (env_of p scene.value) (map value_of given.items) (of_list rest) (place_of_call call) (receiver_of_call call) (class_of_call call) (name_of_call call)
+frame_of p (held.Argument scene given rest whole) =
+    machine.Argument (value_of scene.value.me) (env_of p scene.value) (map value_of given.items) (of_list rest) (place_of_call whole) (receiver_of_call whole) (class_of_call whole) (name_of_call whole)
 frame_of p (held.Receiver at class name given) = machine.Receiver at (class_name class) name.now (map value_of given.items)
 frame_of p held.TestVoid = machine.TestVoid
 frame_of p held.Invert = machine.Invert

@@ -1,6 +1,6 @@
 //! Numbers written in text.
 
-ghost use Rattle.std.specs.Prelude.{◌≡◌, ◌%◌};
+ghost use Rattle.std.specs.Prelude.{◌≡◌, ◌%◌, ◌^◌};
 ghost use Rattle.cool_meaning.specs.Numbers as numbers;
 
 /// The number at the front of a line, of which the low 32 bits count: after blanks and tabs an optional minus sign and digits. It is 0
@@ -34,7 +34,7 @@ fn after_blanks(text: &[u8]) -> i32
 
 /// The low 32 bits of the number that the digits at the front make.
 fn digits_of(text: &[u8]) -> u32
-    ensures { result ≡ numbers.digits_from 0 text.now % 4294967296 }
+    ensures { result ≡ numbers.digits_from 0 text.now % 2 ^ 32 }
 {
     let mut number: u32 = 0;
     for byte in text {
