@@ -85,8 +85,11 @@ module _ (s : Context) (g g' : Constants) where
 
   mutual
     pub as_many_lines : (vs : List Named) (d k : ℕ) (t : Tree) → length (code s g vs d k t) ≡ length (code s g' vs d k t)
-    as_many_lines vs d k (trees.Id at name) = refl
-    as_many_lines vs d k (trees.Assign at name t) = before _ _ _ (as_many_lines vs d k t)
+    as_many_lines vs d k (trees.Int at value) = same_take _ _
+    as_many_lines vs d k (trees.Str at bytes) = same_take _ _
+    as_many_lines vs d k (trees.leaf at form) = refl
+    as_many_lines vs d k (trees.Neg at t) = joined (code s g vs d k t) _ (code s g' vs d k t) _ (as_many_lines vs d k t) (behind _ _ _ (same_int at _))
+    as_many_lines vs d k (trees.unary at form t) = before _ _ _ (as_many_lines vs d k t)
     as_many_lines vs d k (trees.Dispatch at t name ts) =
         joined (arguments_code s g vs d (k + tree_size t) ts) _ (arguments_code s g' vs d (k + tree_size t) ts) _ (many_arguments vs d (k + tree_size t) ts)
         (joined (code s g vs (d + trees_count ts) k t) _ (code s g' vs (d + trees_count ts) k t) _ (as_many_lines vs (d + trees_count ts) k t) (same_slot at _ name))
@@ -107,20 +110,13 @@ module _ (s : Context) (g g' : Constants) where
         joined (code s g vs d k t) _ (code s g' vs d k t) _ (as_many_lines vs d k t)
         (joined (case_begin_lines (file_label s g at) at.line) _ (case_begin_lines (file_label s g' at) at.line) _ (same_begin at)
         (behind push_lines _ _ (before _ _ _ (same_lines _ _ (many_arms vs d (k + tree_size t) (label_at s (codes "end") (root k (trees.Case at t cs))) [] [] cs tt)))))
-    as_many_lines vs d k (trees.New at class) = refl
-    as_many_lines vs d k (trees.IsVoid at t) = before _ _ _ (as_many_lines vs d k t)
     as_many_lines vs d k (trees.Arith at op a b) =
         joined (code s g vs d k a) _ (code s g' vs d k a) _ (as_many_lines vs d k a)
         (behind push_lines _ _ (joined (code s g vs (d + 1) (k + tree_size a) b) _ (code s g' vs (d + 1) (k + tree_size a) b) _ (as_many_lines vs (d + 1) (k + tree_size a) b)
         (behind values_lines _ _ (joined (operation_code s g op at _) _ (operation_code s g' op at _) _ (same_operation op at _) (same_int at _)))))
-    as_many_lines vs d k (trees.Neg at t) = joined (code s g vs d k t) _ (code s g' vs d k t) _ (as_many_lines vs d k t) (behind _ _ _ (same_int at _))
     as_many_lines vs d k (trees.Compare at op a b) =
         joined (code s g vs d k a) _ (code s g' vs d k a) _ (as_many_lines vs d k a)
         (behind push_lines _ _ (before _ _ _ (as_many_lines vs (d + 1) (k + tree_size a) b)))
-    as_many_lines vs d k (trees.Not at t) = before _ _ _ (as_many_lines vs d k t)
-    as_many_lines vs d k (trees.Int at value) = same_take _ _
-    as_many_lines vs d k (trees.Str at bytes) = same_take _ _
-    as_many_lines vs d k (trees.Bool at value) = refl
 
     pub many_arguments : (vs : List Named) (d k : ℕ) (ts : Trees) → length (arguments_code s g vs d k ts) ≡ length (arguments_code s g' vs d k ts)
     many_arguments vs d k Last = refl

@@ -37,16 +37,20 @@ module _ (n : ℕ) where
     mutual
       pub moved_spans : (vs : List Named) (d k pc q : ℕ) (t : Tree) → n + pc ≡ q → map (moved n) (spans size s g vs d k pc t) ≡ spans size s g vs d k q t
       moved_spans vs d k pc q (trees.Id at name) e = own vs d k pc q _ [] [] e refl
-      moved_spans vs d k pc q (trees.Assign at name t) e = own vs d k pc q _ _ _ e (moved_spans vs d k _ _ t e)
+      moved_spans vs d k pc q (trees.leaf at form) e = own vs d k pc q _ [] [] e refl
+      moved_spans vs d k pc q (trees.Not at t) e = own vs d k pc q _ _ _ e (moved_spans vs d k _ _ t e)
+      moved_spans vs d k pc q (trees.unary at form t) e = own vs d k pc q _ _ _ e (moved_spans vs d k _ _ t e)
       moved_spans vs d k pc q (trees.Dispatch at t name ts) e =
           own vs d k pc q _ _ _ e (both (arguments_spans size s g vs d (k + tree_size t) pc ts) _ _ _ (moved_arguments vs d (k + tree_size t) pc q ts e) (moved_spans vs (d + trees_count ts) k _ _ t (omega arith)))
-      moved_spans vs d k pc q (trees.StaticDispatch at t class name ts) e =
+      moved_spans vs d k pc q (trees.call at form t ts) e =
           own vs d k pc q _ _ _ e (both (arguments_spans size s g vs d (k + tree_size t) pc ts) _ _ _ (moved_arguments vs d (k + tree_size t) pc q ts e) (moved_spans vs (d + trees_count ts) k _ _ t (omega arith)))
       moved_spans vs d k pc q (trees.If at t y o) e =
           own vs d k pc q _ _ _ e (both (spans size s g vs d k pc t) _ _ _ (moved_spans vs d k pc q t e)
           (both (spans size s g vs d (k + tree_size t) _ y) _ _ _ (moved_spans vs d (k + tree_size t) _ _ y (omega arith)) (moved_spans vs d (k + tree_size t + tree_size y) _ _ o (omega arith))))
       moved_spans vs d k pc q (trees.While at t b) e =
           own vs d k pc q _ _ _ e (both (spans size s g vs d k _ t) _ _ _ (moved_spans vs d k _ _ t (omega arith)) (moved_spans vs d (k + tree_size t) _ _ b (omega arith)))
+      moved_spans vs d k pc q (trees.binary at form a b) e =
+          own vs d k pc q _ _ _ e (both (spans size s g vs d k pc a) _ _ _ (moved_spans vs d k pc q a e) (moved_spans vs (d + 1) (k + tree_size a) _ _ b (omega arith)))
       moved_spans vs d k pc q (trees.Block at ts) e = own vs d k pc q _ _ _ e (moved_items vs d k pc q ts e)
       moved_spans vs d k pc q (trees.Let at name declared o t) e =
           own vs d k pc q _ _ _ e (both (initial_spans size s g vs d k pc o) _ _ _ (moved_initial vs d k pc q o e)
@@ -55,17 +59,6 @@ module _ (n : ℕ) where
           own vs d k pc q _ _ _ e (both (spans size s g vs d k pc t) _ _ _ (moved_spans vs d k pc q t e)
           (along_moves (branches size s g vs d (k + tree_size t) (label_at s (codes "end") (root k (trees.Case at t cs))) [] cs) _ _
           (branches_move vs d (k + tree_size t) (label_at s (codes "end") (root k (trees.Case at t cs))) [] cs tt) (omega arith)))
-      moved_spans vs d k pc q (trees.New at class) e = own vs d k pc q _ [] [] e refl
-      moved_spans vs d k pc q (trees.IsVoid at t) e = own vs d k pc q _ _ _ e (moved_spans vs d k _ _ t e)
-      moved_spans vs d k pc q (trees.Arith at op a b) e =
-          own vs d k pc q _ _ _ e (both (spans size s g vs d k pc a) _ _ _ (moved_spans vs d k pc q a e) (moved_spans vs (d + 1) (k + tree_size a) _ _ b (omega arith)))
-      moved_spans vs d k pc q (trees.Neg at t) e = own vs d k pc q _ _ _ e (moved_spans vs d k _ _ t e)
-      moved_spans vs d k pc q (trees.Compare at op a b) e =
-          own vs d k pc q _ _ _ e (both (spans size s g vs d k pc a) _ _ _ (moved_spans vs d k pc q a e) (moved_spans vs (d + 1) (k + tree_size a) _ _ b (omega arith)))
-      moved_spans vs d k pc q (trees.Not at t) e = own vs d k pc q _ _ _ e (moved_spans vs d k _ _ t e)
-      moved_spans vs d k pc q (trees.Int at value) e = own vs d k pc q _ [] [] e refl
-      moved_spans vs d k pc q (trees.Str at bytes) e = own vs d k pc q _ [] [] e refl
-      moved_spans vs d k pc q (trees.Bool at value) e = own vs d k pc q _ [] [] e refl
 
       moved_arguments : (vs : List Named) (d k pc q : ℕ) (ts : Trees) → n + pc ≡ q → map (moved n) (arguments_spans size s g vs d k pc ts) ≡ arguments_spans size s g vs d k q ts
       moved_arguments vs d k pc q Last e = refl

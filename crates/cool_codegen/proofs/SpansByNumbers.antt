@@ -185,25 +185,32 @@ module _ (s : Context) (b : Tree) where
         ≡ whole vs d (length before) (length (before ++ node_lines s b t vs d (root k e) (top k e))) e ∷ ys
     own e there xs ys h = λ i. whole vs d (length before) (ends e there i) e ∷ h i
 
+    -- those of the arguments of a call, and of its receiver
+    call_spanned : (e : Tree) (ts : Trees) → Stands (nodes 0 b) k e → Lies (nodes 0 b) (k + tree_size e) (nodes_of_all (k + tree_size e) ts)
+        → map (shown s no_constants) (of_trees.arguments_spans length s no_constants vs d (k + tree_size e) (length before) ts ++ spans length s no_constants vs (d + trees_count ts) k (length before + length (arguments_code s no_constants vs d (k + tree_size e) ts)) e)
+        ≡ arguments_spans Spans s b t vs d before (roots (k + tree_size e) ts)
+        ++ spans_at Spans s b vs (d + length (roots (k + tree_size e) ts)) (length (before ++ arguments_lines s b t vs d (roots (k + tree_size e) ts))) (root k e)
+    call_spanned e ts here others =
+        let args = arguments_lines s b t vs d (roots (k + tree_size e) ts) in
+        let many = many_arguments t vs d (k + tree_size e) ts others in
+        both s (of_trees.arguments_spans length s no_constants vs d (k + tree_size e) (length before) ts) _ _ _ (arguments_are t vs d (k + tree_size e) (length before) before ts others refl)
+        (spans_are vs (d + trees_count ts) k (length (before ++ args)) (length before + length (arguments_code s no_constants vs d (k + tree_size e) ts)) e here (omega (arith, length-append before args)) ∙ ap (λ (n : ℕ). spans_at Spans s b vs (d + n) (length (before ++ args)) (root k e)) (count_is (k + tree_size e) ts))
+
     pub node_spanned : (e : Tree) → Stands (nodes 0 b) k e
         → map (shown s no_constants) (spans length s no_constants vs d k (length before) e)
         ≡ whole vs d (length before) (length (before ++ node_lines s b t vs d (root k e) (top k e))) e ∷ node_spans Spans s b t vs d before (root k e) (top k e)
-    node_spanned (trees.Assign at name e) there =
-        own (trees.Assign at name e) there (spans length s no_constants vs d k (length before) e) _ (spans_are vs d k _ _ e (one_stands e _ there) refl)
+    node_spanned (trees.Id at name) there = own (trees.Id at name) there [] [] refl
+    node_spanned (trees.leaf at form) there = own (trees.leaf at form) there [] [] refl
+    node_spanned (trees.Not at e) there =
+        own (trees.Not at e) there (spans length s no_constants vs d k (length before) e) _ (spans_are vs d k _ _ e (one_stands e _ there) refl)
+    node_spanned (trees.unary at form e) there =
+        own (trees.unary at form e) there (spans length s no_constants vs d k (length before) e) _ (spans_are vs d k _ _ e (one_stands e _ there) refl)
     node_spanned (trees.Dispatch at e name ts) there =
         let parts = two_stand e (nodes_of_all (k + tree_size e) ts) _ there in
-        let args = arguments_lines s b t vs d (roots (k + tree_size e) ts) in
-        let many = many_arguments t vs d (k + tree_size e) ts parts.1 in
-        own (trees.Dispatch at e name ts) there (of_trees.arguments_spans length s no_constants vs d (k + tree_size e) (length before) ts ++ spans length s no_constants vs (d + trees_count ts) k (length before + length (arguments_code s no_constants vs d (k + tree_size e) ts)) e) _
-        (both s (of_trees.arguments_spans length s no_constants vs d (k + tree_size e) (length before) ts) _ _ _ (arguments_are t vs d (k + tree_size e) (length before) before ts parts.1 refl)
-        (spans_are vs (d + trees_count ts) k (length (before ++ args)) (length before + length (arguments_code s no_constants vs d (k + tree_size e) ts)) e parts.0 (omega (arith, length-append before args)) ∙ ap (λ (n : ℕ). spans_at Spans s b vs (d + n) (length (before ++ args)) (root k e)) (count_is (k + tree_size e) ts)))
-    node_spanned (trees.StaticDispatch at e class name ts) there =
+        own (trees.Dispatch at e name ts) there _ _ (call_spanned e ts parts.0 parts.1)
+    node_spanned (trees.call at form e ts) there =
         let parts = two_stand e (nodes_of_all (k + tree_size e) ts) _ there in
-        let args = arguments_lines s b t vs d (roots (k + tree_size e) ts) in
-        let many = many_arguments t vs d (k + tree_size e) ts parts.1 in
-        own (trees.StaticDispatch at e class name ts) there (of_trees.arguments_spans length s no_constants vs d (k + tree_size e) (length before) ts ++ spans length s no_constants vs (d + trees_count ts) k (length before + length (arguments_code s no_constants vs d (k + tree_size e) ts)) e) _
-        (both s (of_trees.arguments_spans length s no_constants vs d (k + tree_size e) (length before) ts) _ _ _ (arguments_are t vs d (k + tree_size e) (length before) before ts parts.1 refl)
-        (spans_are vs (d + trees_count ts) k (length (before ++ args)) (length before + length (arguments_code s no_constants vs d (k + tree_size e) ts)) e parts.0 (omega (arith, length-append before args)) ∙ ap (λ (n : ℕ). spans_at Spans s b vs (d + n) (length (before ++ args)) (root k e)) (count_is (k + tree_size e) ts)))
+        own (trees.call at form e ts) there _ _ (call_spanned e ts parts.0 parts.1)
     node_spanned (trees.If at c y n) there =
         let parts = three_stand c y n _ there in
         let lines_c = lines_at s b t vs d (root k c) in
@@ -238,6 +245,15 @@ module _ (s : Context) (b : Tree) where
         own (trees.While at c a) there _ _
         (both s (spans length s no_constants vs d k at_c c) _ _ _ (spans_are vs d k (length predicate) at_c c parts.0 (omega arith))
         (spans_are vs d (k + tree_size c) (length ((predicate ++ lines_c) ++ test_lines end)) at_a a parts.1 (omega arith)))
+    node_spanned (trees.binary at form l r) there =
+        let parts = two_stand l (nodes (k + tree_size l) r) _ there in
+        let lines_l = lines_at s b t vs d (root k l) in
+        let many_l = many_at t no_constants vs d k l parts.0 in
+        let l1 = length-append before lines_l in
+        let l2 = length-append (before ++ lines_l) push_lines in
+        own (trees.binary at form l r) there _ _
+        (both s (spans length s no_constants vs d k (length before) l) _ _ _ (spans_are vs d k _ _ l parts.0 refl)
+        (spans_are vs (d + 1) (k + tree_size l) (length ((before ++ lines_l) ++ push_lines)) (length before + length (code s no_constants vs d k l) + length push_lines) r parts.1 (omega arith)))
     node_spanned (trees.Block at ts) there = own (trees.Block at ts) there _ _ (items_are t vs d k (length before) before ts (all_stand ts _ there) refl)
     node_spanned (trees.Let at name declared o a) there =
         let parts = maybe_stands o a _ there in
@@ -265,35 +281,6 @@ module _ (s : Context) (b : Tree) where
         (along_is (branches length s no_constants vs d (k + tree_size a) end [] cs) (branches_made Spans s b asked vs d end [] (branch_roots (k + tree_size a) cs))
         (length before + length (code s no_constants vs d k a) + length (case_begin_lines (file_label s no_constants at) at.line) + length push_lines) (((before ++ lines_a) ++ begin) ++ push_lines)
         (branches_are asked vs d (k + tree_size a) end [] [] cs parts.1 tt) (omega arith)))
-    node_spanned (trees.New at class) there = own (trees.New at class) there [] [] refl
-    node_spanned (trees.IsVoid at e) there =
-        own (trees.IsVoid at e) there (spans length s no_constants vs d k (length before) e) _ (spans_are vs d k _ _ e (one_stands e _ there) refl)
-    node_spanned (trees.Arith at op l r) there =
-        let parts = two_stand l (nodes (k + tree_size l) r) _ there in
-        let lines_l = lines_at s b t vs d (root k l) in
-        let many_l = many_at t no_constants vs d k l parts.0 in
-        let l1 = length-append before lines_l in
-        let l2 = length-append (before ++ lines_l) push_lines in
-        own (trees.Arith at op l r) there _ _
-        (both s (spans length s no_constants vs d k (length before) l) _ _ _ (spans_are vs d k _ _ l parts.0 refl)
-        (spans_are vs (d + 1) (k + tree_size l) (length ((before ++ lines_l) ++ push_lines)) (length before + length (code s no_constants vs d k l) + length push_lines) r parts.1 (omega arith)))
-    node_spanned (trees.Neg at e) there =
-        own (trees.Neg at e) there (spans length s no_constants vs d k (length before) e) _ (spans_are vs d k _ _ e (one_stands e _ there) refl)
-    node_spanned (trees.Compare at op l r) there =
-        let parts = two_stand l (nodes (k + tree_size l) r) _ there in
-        let lines_l = lines_at s b t vs d (root k l) in
-        let many_l = many_at t no_constants vs d k l parts.0 in
-        let l1 = length-append before lines_l in
-        let l2 = length-append (before ++ lines_l) push_lines in
-        own (trees.Compare at op l r) there _ _
-        (both s (spans length s no_constants vs d k (length before) l) _ _ _ (spans_are vs d k _ _ l parts.0 refl)
-        (spans_are vs (d + 1) (k + tree_size l) (length ((before ++ lines_l) ++ push_lines)) (length before + length (code s no_constants vs d k l) + length push_lines) r parts.1 (omega arith)))
-    node_spanned (trees.Not at e) there =
-        own (trees.Not at e) there (spans length s no_constants vs d k (length before) e) _ (spans_are vs d k _ _ e (one_stands e _ there) refl)
-    node_spanned (trees.Id at name) there = own (trees.Id at name) there [] [] refl
-    node_spanned (trees.Int at value) there = own (trees.Int at value) there [] [] refl
-    node_spanned (trees.Str at bytes) there = own (trees.Str at bytes) there [] [] refl
-    node_spanned (trees.Bool at value) there = own (trees.Bool at value) there [] [] refl
 
 -- at the number of a part, where spans are wanted: what they show
 pub spans_of_node : (s : Context) (b : TypedBody) (scope : List Binding) (t : Constants) (vs : List Named) (d : ℕ) (id : NodeId) (n : Node) (before : List Line)

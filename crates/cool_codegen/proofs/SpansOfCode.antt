@@ -62,7 +62,9 @@ module _ (size : List Line → ℕ) (P : ℕ → List Line → Type 0)
     mutual
       pub law_spans : (vs : List Named) (d k pc : ℕ) (t : Tree) → P pc (code s g vs d k t) → AllByRecursion Stands (spans size s g vs d k pc t)
       law_spans vs d k pc (trees.Id at name) has = (has, tt)
-      law_spans vs d k pc (trees.Assign at name t) has = (has, law_spans vs d k pc t (front (code s g vs d k t) _ pc has))
+      law_spans vs d k pc (trees.leaf at form) has = (has, tt)
+      law_spans vs d k pc (trees.Not at t) has = (has, law_spans vs d k pc t (front (code s g vs d k t) _ pc has))
+      law_spans vs d k pc (trees.unary at form t) has = (has, law_spans vs d k pc t (front (code s g vs d k t) _ pc has))
       law_spans vs d k pc (trees.Dispatch at t name ts) has =
           let args = arguments_code s g vs d (k + tree_size t) ts in
           let object = code s g vs (d + trees_count ts) k t in (
@@ -100,6 +102,13 @@ module _ (size : List Line → ℕ) (P : ℕ → List Line → Type 0)
           let h1 = back mark _ pc has in
           let h2 = back test _ _ (back one _ _ h1) in
           (has, all_append Stands (spans size s g vs d k (pc + size mark) t) _ (law_spans vs d k _ t (front one _ _ h1)) (law_spans vs d (k + tree_size t) _ b (front two _ _ h2)))
+      law_spans vs d k pc (trees.binary at form a b) has =
+          let one = code s g vs d k a in
+          let two = code s g vs (d + 1) (k + tree_size a) b in (
+            has,
+            all_append Stands (spans size s g vs d k pc a) _ (law_spans vs d k pc a (front one _ pc has))
+                (law_spans vs (d + 1) (k + tree_size a) _ b (front two _ _ (back push_lines _ _ (back one _ pc has)))),
+          )
       law_spans vs d k pc (trees.Block at ts) has = (has, law_items vs d k pc ts has)
       law_spans vs d k pc (trees.Let at name declared o t) has =
           let type = type_meant s.table declared.name in
@@ -121,27 +130,6 @@ module _ (size : List Line → ℕ) (P : ℕ → List Line → Type 0)
                 (law_branches vs d (k + tree_size t) end [] cs tt)
                 (subst (λ (xs : List Arm). P (pc + size one + size begin + size push_lines) (arms_lines xs)) (arms_are vs d (k + tree_size t) end [] cs) h)),
           )
-      law_spans vs d k pc (trees.New at class) has = (has, tt)
-      law_spans vs d k pc (trees.IsVoid at t) has = (has, law_spans vs d k pc t (front (code s g vs d k t) _ pc has))
-      law_spans vs d k pc (trees.Arith at op a b) has =
-          let one = code s g vs d k a in
-          let two = code s g vs (d + 1) (k + tree_size a) b in (
-            has,
-            all_append Stands (spans size s g vs d k pc a) _ (law_spans vs d k pc a (front one _ pc has))
-                (law_spans vs (d + 1) (k + tree_size a) _ b (front two _ _ (back push_lines _ _ (back one _ pc has)))),
-          )
-      law_spans vs d k pc (trees.Neg at t) has = (has, law_spans vs d k pc t (front (code s g vs d k t) _ pc has))
-      law_spans vs d k pc (trees.Compare at op a b) has =
-          let one = code s g vs d k a in
-          let two = code s g vs (d + 1) (k + tree_size a) b in (
-            has,
-            all_append Stands (spans size s g vs d k pc a) _ (law_spans vs d k pc a (front one _ pc has))
-                (law_spans vs (d + 1) (k + tree_size a) _ b (front two _ _ (back push_lines _ _ (back one _ pc has)))),
-          )
-      law_spans vs d k pc (trees.Not at t) has = (has, law_spans vs d k pc t (front (code s g vs d k t) _ pc has))
-      law_spans vs d k pc (trees.Int at value) has = (has, tt)
-      law_spans vs d k pc (trees.Str at bytes) has = (has, tt)
-      law_spans vs d k pc (trees.Bool at value) has = (has, tt)
 
       law_arguments : (vs : List Named) (d k pc : ℕ) (ts : Trees) → P pc (arguments_code s g vs d k ts) → AllByRecursion Stands (arguments_spans size s g vs d k pc ts)
       law_arguments vs d k pc Last has = tt

@@ -50,11 +50,13 @@ module _ (s : Context) (g g' : Constants) where
   mutual
     pub same_spans : (vs : List Named) (d k pc q : ℕ) (t : Tree) → pc ≡ q → spans length s g vs d k pc t ≡ spans length s g' vs d k q t
     same_spans vs d k pc q (trees.Id at name) e = own vs d k pc q _ [] [] e refl
-    same_spans vs d k pc q (trees.Assign at name t) e = own vs d k pc q _ _ _ e (same_spans vs d k _ _ t e)
+    same_spans vs d k pc q (trees.leaf at form) e = own vs d k pc q _ [] [] e refl
+    same_spans vs d k pc q (trees.Not at t) e = own vs d k pc q _ _ _ e (same_spans vs d k _ _ t e)
+    same_spans vs d k pc q (trees.unary at form t) e = own vs d k pc q _ _ _ e (same_spans vs d k _ _ t e)
     same_spans vs d k pc q (trees.Dispatch at t name ts) e =
         let m = many_arguments s g g' vs d (k + tree_size t) ts in
         own vs d k pc q _ _ _ e (both _ _ _ _ (same_arguments vs d (k + tree_size t) pc q ts e) (same_spans vs (d + trees_count ts) k _ _ t (omega arith)))
-    same_spans vs d k pc q (trees.StaticDispatch at t class name ts) e =
+    same_spans vs d k pc q (trees.call at form t ts) e =
         let m = many_arguments s g g' vs d (k + tree_size t) ts in
         own vs d k pc q _ _ _ e (both _ _ _ _ (same_arguments vs d (k + tree_size t) pc q ts e) (same_spans vs (d + trees_count ts) k _ _ t (omega arith)))
     same_spans vs d k pc q (trees.If at t y o) e =
@@ -65,6 +67,9 @@ module _ (s : Context) (g g' : Constants) where
     same_spans vs d k pc q (trees.While at t b) e =
         let m = as_many_lines s g g' vs d k t in
         own vs d k pc q _ _ _ e (both _ _ _ _ (same_spans vs d k _ _ t (omega arith)) (same_spans vs d (k + tree_size t) _ _ b (omega arith)))
+    same_spans vs d k pc q (trees.binary at form a b) e =
+        let m = as_many_lines s g g' vs d k a in
+        own vs d k pc q _ _ _ e (both _ _ _ _ (same_spans vs d k pc q a e) (same_spans vs (d + 1) (k + tree_size a) _ _ b (omega arith)))
     same_spans vs d k pc q (trees.Block at ts) e = own vs d k pc q _ _ _ e (same_items vs d k pc q ts e)
     same_spans vs d k pc q (trees.Let at name declared o t) e =
         let m = many_initial s g g' vs d k (type_meant s.table declared.name) o in
@@ -75,19 +80,6 @@ module _ (s : Context) (g g' : Constants) where
         let n = same_begin s g g' at in
         own vs d k pc q _ _ _ e (both _ _ _ _ (same_spans vs d k pc q t e)
         (same_along _ _ _ _ (same_branches vs d (k + tree_size t) (label_at s (codes "end") (root k (trees.Case at t cs))) [] [] cs tt) (omega arith)))
-    same_spans vs d k pc q (trees.New at class) e = own vs d k pc q _ [] [] e refl
-    same_spans vs d k pc q (trees.IsVoid at t) e = own vs d k pc q _ _ _ e (same_spans vs d k _ _ t e)
-    same_spans vs d k pc q (trees.Arith at op a b) e =
-        let m = as_many_lines s g g' vs d k a in
-        own vs d k pc q _ _ _ e (both _ _ _ _ (same_spans vs d k pc q a e) (same_spans vs (d + 1) (k + tree_size a) _ _ b (omega arith)))
-    same_spans vs d k pc q (trees.Neg at t) e = own vs d k pc q _ _ _ e (same_spans vs d k _ _ t e)
-    same_spans vs d k pc q (trees.Compare at op a b) e =
-        let m = as_many_lines s g g' vs d k a in
-        own vs d k pc q _ _ _ e (both _ _ _ _ (same_spans vs d k pc q a e) (same_spans vs (d + 1) (k + tree_size a) _ _ b (omega arith)))
-    same_spans vs d k pc q (trees.Not at t) e = own vs d k pc q _ _ _ e (same_spans vs d k _ _ t e)
-    same_spans vs d k pc q (trees.Int at value) e = own vs d k pc q _ [] [] e refl
-    same_spans vs d k pc q (trees.Str at bytes) e = own vs d k pc q _ [] [] e refl
-    same_spans vs d k pc q (trees.Bool at value) e = own vs d k pc q _ [] [] e refl
 
     same_arguments : (vs : List Named) (d k pc q : ℕ) (ts : Trees) → pc ≡ q → arguments_spans length s g vs d k pc ts ≡ arguments_spans length s g' vs d k q ts
     same_arguments vs d k pc q Last e = refl

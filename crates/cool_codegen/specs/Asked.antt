@@ -4,7 +4,7 @@ use Rattle.std.specs.Prelude.{ℕ, ◌<◌, ◌≤◌, List, [], ◌∷◌, ◌+
 use Rattle.cool_syntax.specs.declared.place.Place.{Place}
 use Rattle.cool_syntax.specs.declared.operator.ArithOp.{ArithOp}
 use Rattle.cool_syntax.specs.declared.operator.ArithOp.TheVariants as arith
-use Rattle.cool_syntax.specs.Tree.{Tree, Trees, MaybeTree, Cases, Last, More, Without, With, NoCase, CaseOf}
+use Rattle.cool_syntax.specs.Tree.{Leaf, Tree, Trees, MaybeTree, Cases, Last, More, Without, With, NoCase, CaseOf}
 use Rattle.cool_syntax.specs.Tree as trees
 use Rattle.cool_consts.specs.Constants.{Constants, with_integer, with_string}
 
@@ -29,26 +29,31 @@ pub record Keeps (table more : Constants) : Type 0 where
   pub integers : (k : ℕ) → k < length table.integers → slice_get more.integers k ≡ slice_get table.integers k
   pub strings : (k : ℕ) → k < length table.strings → slice_get more.strings k ≡ slice_get table.strings k
 
+-- the integers and the strings of a form without parts
+abbrev leaf_integers : Leaf → List ℕ
+leaf_integers (trees.new class) = []
+leaf_integers (trees.id name) = []
+leaf_integers (trees.int value) = value ∷ []
+leaf_integers (trees.str bytes) = []
+leaf_integers (trees.truth value) = []
+
+abbrev leaf_strings : Leaf → List (List ℕ)
+leaf_strings (trees.new class) = []
+leaf_strings (trees.id name) = []
+leaf_strings (trees.int value) = []
+leaf_strings (trees.str bytes) = bytes ∷ []
+leaf_strings (trees.truth value) = []
+
 abbrev mutual
   pub integers_in : Tree → List ℕ
-  integers_in (trees.Assign at name t) = integers_in t
-  integers_in (trees.Dispatch at t name ts) = integers_in_all ts ++ integers_in t
-  integers_in (trees.StaticDispatch at t class name ts) = integers_in_all ts ++ integers_in t
+  integers_in (trees.leaf at form) = leaf_integers form
+  integers_in (trees.unary at form t) = integers_in t
+  integers_in (trees.binary at form a b) = integers_in a ++ integers_in b
+  integers_in (trees.call at form t ts) = integers_in_all ts ++ integers_in t
   integers_in (trees.If at t y n) = integers_in t ++ (integers_in y ++ integers_in n)
-  integers_in (trees.While at t b) = integers_in t ++ integers_in b
   integers_in (trees.Block at ts) = integers_in_all ts
   integers_in (trees.Let at name declared o t) = integers_in_maybe o ++ integers_in t
   integers_in (trees.Case at t cs) = integers_in t ++ integers_in_cases cs
-  integers_in (trees.New at class) = []
-  integers_in (trees.IsVoid at t) = integers_in t
-  integers_in (trees.Arith at op a b) = integers_in a ++ integers_in b
-  integers_in (trees.Neg at t) = integers_in t
-  integers_in (trees.Compare at op a b) = integers_in a ++ integers_in b
-  integers_in (trees.Not at t) = integers_in t
-  integers_in (trees.Id at name) = []
-  integers_in (trees.Int at value) = value ∷ []
-  integers_in (trees.Str at bytes) = []
-  integers_in (trees.Bool at value) = []
 
   pub integers_in_all : Trees → List ℕ
   integers_in_all Last = []
@@ -75,24 +80,19 @@ files_of files arith.Div at = file_of files at ++ file_of files at
 
 abbrev mutual
   pub strings_in : List (List ℕ) → Tree → List (List ℕ)
+  strings_in files (trees.leaf at form) = leaf_strings form
   strings_in files (trees.Assign at name t) = strings_in files t
-  strings_in files (trees.Dispatch at t name ts) = strings_in_all files ts ++ (strings_in files t ++ file_of files at)
-  strings_in files (trees.StaticDispatch at t class name ts) = strings_in_all files ts ++ (strings_in files t ++ file_of files at)
-  strings_in files (trees.If at t y n) = strings_in files t ++ (strings_in files y ++ strings_in files n)
+  strings_in files (trees.IsVoid at t) = strings_in files t
+  strings_in files (trees.Neg at t) = strings_in files t ++ file_of files at
+  strings_in files (trees.Not at t) = strings_in files t
+  strings_in files (trees.Arith at op a b) = strings_in files a ++ (strings_in files b ++ files_of files op at)
+  strings_in files (trees.Compare at op a b) = strings_in files a ++ strings_in files b
   strings_in files (trees.While at t b) = strings_in files t ++ strings_in files b
+  strings_in files (trees.call at form t ts) = strings_in_all files ts ++ (strings_in files t ++ file_of files at)
+  strings_in files (trees.If at t y n) = strings_in files t ++ (strings_in files y ++ strings_in files n)
   strings_in files (trees.Block at ts) = strings_in_all files ts
   strings_in files (trees.Let at name declared o t) = strings_in_maybe files o ++ strings_in files t
   strings_in files (trees.Case at t cs) = strings_in files t ++ (file_of files at ++ strings_in_cases files cs)
-  strings_in files (trees.New at class) = []
-  strings_in files (trees.IsVoid at t) = strings_in files t
-  strings_in files (trees.Arith at op a b) = strings_in files a ++ (strings_in files b ++ files_of files op at)
-  strings_in files (trees.Neg at t) = strings_in files t ++ file_of files at
-  strings_in files (trees.Compare at op a b) = strings_in files a ++ strings_in files b
-  strings_in files (trees.Not at t) = strings_in files t
-  strings_in files (trees.Id at name) = []
-  strings_in files (trees.Int at value) = []
-  strings_in files (trees.Str at bytes) = bytes ∷ []
-  strings_in files (trees.Bool at value) = []
 
   pub strings_in_all : List (List ℕ) → Trees → List (List ℕ)
   strings_in_all files Last = []

@@ -2,7 +2,7 @@
 use Rattle.std.proofs.Common.{◌≡◌, ◌+◌, length, arith}
 use Rattle.cool_classes.specs.ClimbedChains.{chain}
 use Rattle.cool_classes.proofs.ChainsOfTables.{chain_is}
-use Rattle.cool_codegen.proofs.setting.CodeSetting.depth.Goals as goal
+use Rattle.cool_codegen.proofs.code_setting.CodeSetting.depth.Goals as goal
 
 pub returns : goal.returns
 unfolding chain

@@ -1,7 +1,7 @@
 -- A tag is below the number of classes.
 use Rattle.std.proofs.Common.{arith}
 use Rattle.cool_layout.proofs.TagRanges.{at_tag}
-use Rattle.cool_codegen.proofs.setting.CodeSetting.minus_tag.Goals as goal
+use Rattle.cool_codegen.proofs.code_setting.CodeSetting.minus_tag.Goals as goal
 
 pub negative-requires : goal.negative-requires
 negative-requires c =

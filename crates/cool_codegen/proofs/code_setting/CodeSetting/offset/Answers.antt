@@ -4,7 +4,7 @@ use Rattle.cool_classes.specs.ClimbedChains.{chain}
 use Rattle.cool_layout.specs.Members.{attributes, is_attribute}
 use Rattle.cool_layout.proofs.ShortChains.{chain_is}
 use Rattle.cool_codegen.proofs.AttributesOfClasses.{place_low}
-use Rattle.cool_codegen.proofs.setting.CodeSetting.offset.Goals as goal
+use Rattle.cool_codegen.proofs.code_setting.CodeSetting.offset.Goals as goal
 
 pub signed-requires : goal.signed-requires
 signed-requires c =

@@ -1,7 +1,7 @@
 -- A class has at most 2,000 slots.
 use Rattle.std.proofs.Common.{sym, arith}
 use Rattle.cool_layout.proofs.KeptSlots.{slot_low}
-use Rattle.cool_codegen.proofs.setting.CodeSetting.slot_offset.Goals as goal
+use Rattle.cool_codegen.proofs.code_setting.CodeSetting.slot_offset.Goals as goal
 
 pub overflow_mul-slot : goal.overflow_mul-slot
 overflow_mul-slot c =

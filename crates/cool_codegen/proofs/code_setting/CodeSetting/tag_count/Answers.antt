@@ -2,7 +2,7 @@
 use Rattle.std.proofs.Common.{◌≡◌, ◌++◌, length, ap, length-append, arith}
 use Rattle.cool_layout.specs.Preorder.{family, preorder}
 use Rattle.cool_layout.proofs.TagRanges.{preorder_long, tag_cut}
-use Rattle.cool_codegen.proofs.setting.CodeSetting.tag_count.Goals as goal
+use Rattle.cool_codegen.proofs.code_setting.CodeSetting.tag_count.Goals as goal
 
 pub overflow_add-last_tag : goal.overflow_add-last_tag
 overflow_add-last_tag c =
