@@ -432,10 +432,7 @@ top_shown a top = record { nodes = (lay top.operand (laid top.stack)).list; stac
 -- an operator has one level in both machines
 pub level_shown : (op : Operator) → levels.infix_level (between_of op) ≡ level op
 level_shown (Arith arith_op.Add) = refl
-level_shown (Arith arith_op.Sub) = refl
-level_shown (Arith arith_op.Mul) = refl
-level_shown (Arith arith_op.Div) = refl
-level_shown (Compare op) = refl
+level_shown _ = refl
 
 -- an operator ends in both machines, or in none
 one_shown : (b c : Bool) (a : Around) (k : ℕ) (n : Node) (ns : List Node) (st : List Item) (id : NodeId) (z : Reduced) (u v : Top) → b ≡ c

@@ -22,11 +22,8 @@ node_if_some false n e = absurd (cc)
 
 -- an operator ends at the lowest level
 infix_ends : (op : Infix) → nat_le 0 (infix_level op) ≡ true
-infix_ends (Compare op) = refl
 infix_ends (Arith Add) = refl
-infix_ends (Arith Sub) = refl
-infix_ends (Arith Mul) = refl
-infix_ends (Arith Div) = refl
+infix_ends _ = refl
 
 prefix_ends : (op : Prefix) → nat_le 0 (prefix_level op) ≡ true
 prefix_ends Not = refl

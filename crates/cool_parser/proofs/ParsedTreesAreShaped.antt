@@ -281,17 +281,10 @@ reduce_good k a (Open form ∷ st) t g s f h = record { good = g; shaped = s; fi
 -- a receiver fits everywhere: it has no binary node on its left spine, and nothing on its right spine
 mutual
   receiver_begins : (k : ℕ) (t : Concrete) → IsReceiver t → IsShaped t → BeginsAbove k t
-  receiver_begins k (Name name at) r s = tt
-  receiver_begins k (Literal value at) r s = tt
-  receiver_begins k (New at class) r s = tt
-  receiver_begins k (Paren lparen e rparen) r s = tt
   receiver_begins k (Dispatch callee lparen args rparen) r s = callee_begins k callee s.0
-  receiver_begins k (If at test then_at met else_at unmet fi) r s = tt
-  receiver_begins k (While at test loop body pool) r s = tt
-  receiver_begins k (Block lbrace firsts last semi rbrace) r s = tt
-  receiver_begins k (Case at value of firsts last esac) r s = tt
   receiver_begins k (Binary l op at e) r s = absurd r
   receiver_begins k (Before p e) r s = absurd r
+  receiver_begins k _ r s = tt
 
   callee_begins : (k : ℕ) (callee : Callee) → IsShapedCallee callee → CalleeBeginsAbove k callee
   callee_begins k (OfSelf name at) s = tt

@@ -32,15 +32,8 @@ ended None end = Unexpected end
 
 -- both machines end between classes alone
 finish_shown : (s : State) (end : Place) → machine.finish (shown s).context (shown s).mode end ≡ ended (finish s) end
-finish_shown (Inside a st Need) end = refl
-finish_shown (Inside a st (Identifier name at)) end = refl
-finish_shown (Inside a st (Have t)) end = refl
-finish_shown (Inside a st (StaticClass t mark)) end = refl
-finish_shown (Inside a st (StaticEnd t mark class)) end = refl
 finish_shown (Inside a st (MethodName (Dot t dot))) end = refl
-finish_shown (Inside a st (MethodName (StaticDot t mark class dot))) end = refl
-finish_shown (Inside a st m) end = refl
-finish_shown s end = refl
+finish_shown _ end = refl
 
 -- a state that is a whole file is between two classes
 finished : (s : State) (cs : Classes) → finish s ≡ Some cs → s ≡ File cs

@@ -230,16 +230,12 @@ node_below (node.Block at ids) k h = h
 node_below (node.Let at name declared None a) k h = (tt, h.0)
 node_below (node.Let at name declared (Some i) a) k h = (h.0, h.1.0)
 node_below (node.Case at a bs) k h = (h.0, bodies_below bs k h.1)
-node_below (node.New at class) k h = tt
 node_below (node.IsVoid at a) k h = h.0
 node_below (node.Arith at op a b) k h = (h.0, h.1.0)
 node_below (node.Neg at a) k h = h.0
 node_below (node.Compare at op a b) k h = (h.0, h.1.0)
 node_below (node.Not at a) k h = h.0
-node_below (node.Id at name) k h = tt
-node_below (node.Int at value) k h = tt
-node_below (node.Str at bytes) k h = tt
-node_below (node.Bool at value) k h = tt
+node_below _ k h = tt
 
 -- the parts of such a node stand before it
 pub parts_below : (ns : List Node) (ids : List NodeId) (n : Node) → Holds ns (ids ++ node_parts n) → HasPartsBelow (length ns) n

@@ -43,23 +43,15 @@ reduce_front k st p t h = ap (λ b. cond b (reduce k st (Before p t)) (record { 
 -- after an operand an operator ends those of its own left level and above
 have_operator : (op : Operator) (at : Place) (a : Around) (st : List Item) (t : Concrete) → have a st t (kind.Sign (operator_sign op)) at ≡ shift op at a (reduce (left_level op) st t)
 have_operator (Arith arith_op.Add) at a st t = refl
-have_operator (Arith arith_op.Sub) at a st t = refl
-have_operator (Arith arith_op.Mul) at a st t = refl
-have_operator (Arith arith_op.Div) at a st t = refl
 have_operator (Compare compare_op.Less) at a st t = refl
-have_operator (Compare compare_op.LessEqual) at a st t = refl
-have_operator (Compare compare_op.Equal) at a st t = refl
+have_operator _ at a st t = refl
 
 -- and so it does after an identifier
 identifier_operator : (op : Operator) (at : Place) (a : Around) (st : List Item) (name : List ℕ) (here : Place)
     → identifier a st name here (kind.Sign (operator_sign op)) at ≡ shift op at a (reduce (left_level op) st (Name name here))
 identifier_operator (Arith arith_op.Add) at a st name here = refl
-identifier_operator (Arith arith_op.Sub) at a st name here = refl
-identifier_operator (Arith arith_op.Mul) at a st name here = refl
-identifier_operator (Arith arith_op.Div) at a st name here = refl
 identifier_operator (Compare compare_op.Less) at a st name here = refl
-identifier_operator (Compare compare_op.LessEqual) at a st name here = refl
-identifier_operator (Compare compare_op.Equal) at a st name here = refl
+identifier_operator _ at a st name here = refl
 
 -- an operator after a tree ends the forms on its right spine
 operator_step : (op : Operator) (at : Place) (t : Concrete) (a : Around) (st : List Item) → EndsAtLeast (left_level op) t
@@ -167,10 +159,7 @@ fits_callee (OfClass t mark class dot name at) lparen args rparen (Open f ∷ st
 -- no operator binds looser than a comparison
 level_high : (op : Operator) → 3 ≤ level op
 level_high (Arith arith_op.Add) = omega arith
-level_high (Arith arith_op.Sub) = omega arith
-level_high (Arith arith_op.Mul) = omega arith
-level_high (Arith arith_op.Div) = omega arith
-level_high (Compare op) = omega arith
+level_high _ = omega arith
 
 -- an operator that fits the stack stays on it
 shift_fits : (op : Operator) (at : Place) (l r : Concrete) (a : Around) (st : List Item) → Fits st (Binary l op at r)
@@ -285,10 +274,8 @@ next_need a st lbrace firsts last semi ts b =
 
 -- a constant is an operand
 reads_literal : (value : Constant) (at : Place) (a : Around) (st : List Item) (ws : List Token) → run (Inside a st Need) (constant_token value at ∷ ws) ≡ run (Inside a st (Have (Literal value at))) ws
-reads_literal (Int value) at a st ws = refl
-reads_literal (Str bytes) at a st ws = refl
 reads_literal (Truth true) at a st ws = refl
-reads_literal (Truth false) at a st ws = refl
+reads_literal _ at a st ws = refl
 
 -- a prefix operator waits for its operand
 reads_mark : (op : Unary) (at : Place) (a : Around) (st : List Item) (ws : List Token) → run (Inside a st Need) (unary_token op at ∷ ws) ≡ run (Inside a (Front (Mark op at) ∷ st) Need) ws

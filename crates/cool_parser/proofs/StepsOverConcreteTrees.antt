@@ -40,11 +40,8 @@ left_shown (Compare op) = refl
 -- a prefix form is no comparison
 front_compares : (p : Prefix) (l : Laid) (st : List Item) → machine.compares (prefix_items p l st) ≡ false
 front_compares (Let at firsts (Default v) within) l st = refl
-front_compares (Let at firsts (Init v arrow e) within) l st = refl
-front_compares (Assign name at arrow) l st = refl
 front_compares (Mark Not at) l st = refl
-front_compares (Mark IsVoid at) l st = refl
-front_compares (Mark Neg at) l st = refl
+front_compares _ l st = refl
 
 -- nor is an open form
 open_compares : (f : Form) (l : Laid) (st : List Item) → machine.compares (form_items f l st) ≡ false
@@ -137,11 +134,8 @@ body_closes _ _ at t above = refl
 -- no token closes a prefix form
 front_closes : (p : Prefix) (k : TokenKind) (l : Laid) (st : List Item) (c : Context) (id : NodeId) → machine.close k (prefix_items p l st) c id ≡ None
 front_closes (Let at firsts (Default v) within) k l st c id = refl
-front_closes (Let at firsts (Init v arrow e) within) k l st c id = refl
-front_closes (Assign name at arrow) k l st c id = refl
 front_closes (Mark Not at) k l st c id = refl
-front_closes (Mark IsVoid at) k l st c id = refl
-front_closes (Mark Neg at) k l st c id = refl
+front_closes _ k l st c id = refl
 
 -- a token comes where all operators have ended
 top_closes : (k : TokenKind) (at : Place) (a : Around) (st : List concrete.Item) (t : Concrete) (above : List Item)

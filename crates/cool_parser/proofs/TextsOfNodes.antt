@@ -2,11 +2,13 @@
 use Rattle.std.proofs.Common.{◌≡◌, ℕ, ◌+◌, List, [], ◌∷◌, ◌++◌, length, refl, sym, ◌∙◌, ap, arith}
 use Rattle.cool_syntax.specs.declared.node.Node.{Node}
 use Rattle.cool_syntax.specs.declared.node.Node.TheVariants as node
-use Rattle.cool_syntax.specs.Tree.{Tree, Trees, MaybeTree, Cases, Last, More, Without, With, NoCase, CaseOf, tree_size, maybe_size}
+use Rattle.cool_syntax.specs.declared.node.NodeId.{NodeId}
+use Rattle.cool_syntax.specs.declared.place.Place.{Place}
+use Rattle.cool_syntax.specs.Tree.{Leaf, Unary, Binary, Call, Tree, Trees, MaybeTree, Cases, Last, More, Without, With, NoCase, CaseOf, tree_size, maybe_size}
 use Rattle.cool_syntax.specs.Tree as trees
-use Rattle.cool_syntax.specs.NodeLists.{root, root_of_maybe, roots, branch_roots, nodes, nodes_of_all, nodes_of_maybe, nodes_of_cases, tree_of, IsPostorder}
+use Rattle.cool_syntax.specs.NodeLists.{leaf_node, unary_node, binary_node, call_node, root, root_of_maybe, roots, branch_roots, nodes, nodes_of_all, nodes_of_maybe, nodes_of_cases, tree_of, IsPostorder}
 use Rattle.cool_syntax.specs.FeatureSizes.{branches_in}
-use Rattle.cool_syntax.specs.Weights.{text_in, text_in_all, text_in_maybe, text_in_cases}
+use Rattle.cool_syntax.specs.Weights.{own_text, text_in, text_in_all, text_in_maybe, text_in_cases}
 use Rattle.cool_syntax.proofs.TreesOfLists.{tree_of-nodes}
 use Rattle.cool_parser.proofs.WeightsOfNodes.{node_weight, weight, weight-placed, body_weight}
 
@@ -40,36 +42,42 @@ after_two a b n x y w e f = omega (arith, w, e, f, texts-placed (a ++ b) n, text
 after_three : (a b c : List Node) (n : Node) (x y z : ℕ) → node_text n ≡ 0 → texts a ≡ x → texts b ≡ y → texts c ≡ z → texts (a ++ b ++ c ++ n ∷ []) ≡ x + y + z
 after_three a b c n x y z w e f g = omega (arith, w, e, f, g, texts-placed (a ++ b ++ c) n, texts-append (a ++ b) c, texts-append a b)
 
+-- the node of a form without parts has the bytes of the form, and that of the others none
+leaf_text : (at : Place) (form : Leaf) → node_text (leaf_node at form) ≡ own_text form
+leaf_text at (trees.new class) = refl
+leaf_text at _ = refl
+
+unary_text : (at : Place) (form : Unary) (a : NodeId) → node_text (unary_node at form a) ≡ 0
+unary_text at trees.not a = refl
+unary_text at _ a = refl
+
+binary_text : (at : Place) (form : Binary) (a b : NodeId) → node_text (binary_node at form a b) ≡ 0
+binary_text at trees.while a b = refl
+binary_text at _ a b = refl
+
+call_text : (at : Place) (form : Call) (a : NodeId) (ids : List NodeId) → node_text (call_node at form a ids) ≡ 0
+call_text at (trees.dynamic name) a ids = refl
+call_text at (trees.static class name) a ids = refl
+
 mutual
   -- the list of a tree has its bytes
   texts-nodes : (t : Tree) (base : ℕ) → texts (nodes base t) ≡ text_in t
-  texts-nodes (trees.Assign at name a) base = after_one (nodes base a) (node.Assign at name (root base a)) _ refl (texts-nodes a base)
-  texts-nodes (trees.Dispatch at a name ts) base =
-      after_two (nodes base a) (nodes_of_all (base + tree_size a) ts) (node.Dispatch at (root base a) name (roots (base + tree_size a) ts)) _ _ refl (texts-nodes a base) (texts-nodes_of_all ts (base + tree_size a))
-  texts-nodes (trees.StaticDispatch at a class name ts) base =
-      after_two (nodes base a) (nodes_of_all (base + tree_size a) ts) (node.StaticDispatch at (root base a) class name (roots (base + tree_size a) ts)) _ _ refl (texts-nodes a base) (texts-nodes_of_all ts (base + tree_size a))
+  texts-nodes (trees.leaf at form) base = omega (arith, leaf_text at form)
+  texts-nodes (trees.unary at form a) base = after_one (nodes base a) (unary_node at form (root base a)) _ (unary_text at form (root base a)) (texts-nodes a base)
+  texts-nodes (trees.binary at form a b) base =
+      let n = binary_node at form (root base a) (root (base + tree_size a) b) in
+      after_two (nodes base a) (nodes (base + tree_size a) b) n _ _ (binary_text at form (root base a) (root (base + tree_size a) b)) (texts-nodes a base) (texts-nodes b (base + tree_size a))
+  texts-nodes (trees.call at form a ts) base =
+      let n = call_node at form (root base a) (roots (base + tree_size a) ts) in
+      after_two (nodes base a) (nodes_of_all (base + tree_size a) ts) n _ _ (call_text at form (root base a) (roots (base + tree_size a) ts)) (texts-nodes a base) (texts-nodes_of_all ts (base + tree_size a))
   texts-nodes (trees.If at a b c) base =
       after_three (nodes base a) (nodes (base + tree_size a) b) (nodes (base + tree_size a + tree_size b) c) (node.If at (root base a) (root (base + tree_size a) b) (root (base + tree_size a + tree_size b) c)) _ _ _ refl
       (texts-nodes a base) (texts-nodes b (base + tree_size a)) (texts-nodes c (base + tree_size a + tree_size b))
-  texts-nodes (trees.While at a b) base =
-      after_two (nodes base a) (nodes (base + tree_size a) b) (node.While at (root base a) (root (base + tree_size a) b)) _ _ refl (texts-nodes a base) (texts-nodes b (base + tree_size a))
   texts-nodes (trees.Block at ts) base = after_one (nodes_of_all base ts) (node.Block at (roots base ts)) _ refl (texts-nodes_of_all ts base)
   texts-nodes (trees.Let at name declared o a) base =
       after_two (nodes_of_maybe base o) (nodes (base + maybe_size o) a) (node.Let at name declared (root_of_maybe base o) (root (base + maybe_size o) a)) _ _ refl (texts-nodes_of_maybe o base) (texts-nodes a (base + maybe_size o))
   texts-nodes (trees.Case at a cs) base =
       after_two (nodes base a) (nodes_of_cases (base + tree_size a) cs) (node.Case at (root base a) (branch_roots (base + tree_size a) cs)) _ _ refl (texts-nodes a base) (texts-nodes_of_cases cs (base + tree_size a))
-  texts-nodes (trees.New at class) base = refl
-  texts-nodes (trees.IsVoid at a) base = after_one (nodes base a) (node.IsVoid at (root base a)) _ refl (texts-nodes a base)
-  texts-nodes (trees.Arith at op a b) base =
-      after_two (nodes base a) (nodes (base + tree_size a) b) (node.Arith at op (root base a) (root (base + tree_size a) b)) _ _ refl (texts-nodes a base) (texts-nodes b (base + tree_size a))
-  texts-nodes (trees.Neg at a) base = after_one (nodes base a) (node.Neg at (root base a)) _ refl (texts-nodes a base)
-  texts-nodes (trees.Compare at op a b) base =
-      after_two (nodes base a) (nodes (base + tree_size a) b) (node.Compare at op (root base a) (root (base + tree_size a) b)) _ _ refl (texts-nodes a base) (texts-nodes b (base + tree_size a))
-  texts-nodes (trees.Not at a) base = after_one (nodes base a) (node.Not at (root base a)) _ refl (texts-nodes a base)
-  texts-nodes (trees.Id at name) base = refl
-  texts-nodes (trees.Int at value) base = refl
-  texts-nodes (trees.Str at bytes) base = omega arith
-  texts-nodes (trees.Bool at value) base = refl
 
   -- the lists of some trees have their bytes
   texts-nodes_of_all : (ts : Trees) (base : ℕ) → texts (nodes_of_all base ts) ≡ text_in_all ts

@@ -74,16 +74,13 @@ made_within files ts (node.While at a b) m h w = (w, found files ts a.0 m h, fou
 made_within files ts (node.Block at ids) m h w = (w, all_found files ts ids m h)
 made_within files ts (node.Let at name declared o a) m h w = (w.0, w.1, w.2, maybe_found files ts o m h, found files ts a.0 m h)
 made_within files ts (node.Case at a bs) m h w = (w.0, found files ts a.0 m h, cases_found files ts bs m h w.1)
-made_within files ts (node.New at class) m h w = w
 made_within files ts (node.IsVoid at a) m h w = (w, found files ts a.0 m h)
 made_within files ts (node.Arith at op a b) m h w = (w, found files ts a.0 m h, found files ts b.0 m h)
 made_within files ts (node.Neg at a) m h w = (w, found files ts a.0 m h)
 made_within files ts (node.Compare at op a b) m h w = (w, found files ts a.0 m h, found files ts b.0 m h)
 made_within files ts (node.Not at a) m h w = (w, found files ts a.0 m h)
-made_within files ts (node.Id at name) m h w = w
 made_within files ts (node.Int at value) m h w = (w.0, let small = w.1 in omega arith)
-made_within files ts (node.Str at bytes) m h w = w
-made_within files ts (node.Bool at value) m h w = w
+made_within files ts _ m h w = w
 
 -- so do the trees of all nodes
 grown_within : (files : ℕ) (ns : List Node) (ts : List Tree) → 0 < files → AreWithin files ts → AllByRecursion (IsNodeWithin files) ns → AreWithin files (grown ts ns)
