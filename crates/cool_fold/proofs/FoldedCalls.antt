@@ -21,7 +21,7 @@ use Rattle.cool_rules.specs.Conformance.{class_of as class_meant}
 use Rattle.cool_rules.specs.Scopes.{found}
 use Rattle.cool_classes.specs.LawfulTables.{MayInherit}
 use Rattle.cool_rules.specs.TypedTables.{IsTypedTable}
-use Rattle.cool_meaning.specs.Values.{Value, Void, Int, Bool as Truth, Str, Obj, class_of, default_of}
+use Rattle.cool_meaning.specs.Values.{Value, Void, Str, Obj, class_of, default_of}
 use Rattle.cool_meaning.specs.Values.{State}
 use Rattle.cool_meaning.specs.Meters.{NoBranch, Computation, ◌>>=◌, ◌>>◌, give, stop, stuck, spend, rule, working, giving, holding, given}
 use Rattle.cool_meaning.specs.Meters.{Metered}
@@ -41,7 +41,7 @@ use Rattle.cool_meaning.proofs.MethodsOfTables.{implementation_own, user_own, de
 use Rattle.cool_rules.specs.Rules.{class_named}
 use Rattle.cool_meaning.proofs.SoundParts.{is_other, AllCallsSound, default_fits}
 use Rattle.cool_classes.specs.declared.method.BasicMethod.{BasicMethod}
-use Rattle.cool_classes.specs.declared.method.BasicMethod.TheVariants.{Abort, TypeName, Copy, OutString, OutInt, InString, InInt, Length, Concat, Substr}
+use Rattle.cool_classes.specs.declared.method.BasicMethod.TheVariants.{TypeName, Copy}
 use Rattle.cool_fold.proofs.NoMoreMeters.{NoMore, Keeps, no_more_same, keeps_same, bind_keeps, then_keeps, working_keeps, giving_keeps, holding_keeps, spend_keeps, if_keeps}
 use Rattle.std.proofs.lemmas.List.Elements.{Contains-append_right}
 use Rattle.lists.proofs.AllItems.{all_get}
@@ -78,24 +78,14 @@ module _ (p p' : List Class) (typed : IsTypedTable p) (same_tables : SameTables 
   named_type (Some c) s n = ap (λ (x : List ℕ). (give c >>= λ _. give (Str x)) s n) (same_tables.names c)
 
   copied : (v : Value) (s : State) (n : ℕ) → copy p' v s n ≡ copy p v s n
-  copied Void s n = refl
-  copied (Int m) s n = refl
-  copied (Truth b) s n = refl
-  copied (Str bytes) s n = refl
   copied (Obj c i ls) s n =
       ap (λ (x : ℕ). working (length ls + x) (giving (4 + length ls) (load_all ls >>= λ vs. locate_all vs >>= λ ls'. draw >>= λ i'. give (Obj c i' ls'))) s n) (ap length (same_tables.chains c))
+  copied _ s n = refl
 
   basic_same : (m : BasicMethod) (at : Place) (v : Value) (vs : List Value) (s : State) (n : ℕ) → basic p' m at v vs s n ≡ basic p m at v vs s n
-  basic_same Abort at v vs s n = refl
   basic_same TypeName at v vs s n = named_type (class_of v) s n
   basic_same Copy at v vs s n = copied v s n
-  basic_same OutString at v vs s n = refl
-  basic_same OutInt at v vs s n = refl
-  basic_same InString at v vs s n = refl
-  basic_same InInt at v vs s n = refl
-  basic_same Length at v vs s n = refl
-  basic_same Concat at v vs s n = refl
-  basic_same Substr at v vs s n = refl
+  basic_same _ at v vs s n = refl
 
   -- Loops
 

@@ -44,12 +44,13 @@ module _ (p p' : List Class) (s : FindSame p p') (c : ClassId) where
 
   mutual
     parts_same : (e : Tree) (scope : List Binding) → part_types p' c scope e ≡ part_types p c scope e
-    parts_same (trees.Assign at name e) scope = with_own e scope (parts_same e scope)
-    parts_same (trees.Dispatch at e name es) scope =
-        let a = with_own e scope (parts_same e scope) in
-        let b = all_same es scope in
+    parts_same (trees.leaf at form) scope = refl
+    parts_same (trees.unary at form e) scope = with_own e scope (parts_same e scope)
+    parts_same (trees.binary at form l r) scope =
+        let a = with_own l scope (parts_same l scope) in
+        let b = with_own r scope (parts_same r scope) in
         λ i. a i ++ b i
-    parts_same (trees.StaticDispatch at e class name es) scope =
+    parts_same (trees.call at form e es) scope =
         let a = with_own e scope (parts_same e scope) in
         let b = all_same es scope in
         λ i. a i ++ b i
@@ -58,32 +59,12 @@ module _ (p p' : List Class) (s : FindSame p p') (c : ClassId) where
         let b = with_own y scope (parts_same y scope) in
         let d = with_own n scope (parts_same n scope) in
         λ i. a i ++ b i ++ d i
-    parts_same (trees.While at e b) scope =
-        let a = with_own e scope (parts_same e scope) in
-        let d = with_own b scope (parts_same b scope) in
-        λ i. a i ++ d i
     parts_same (trees.Block at es) scope = all_same es scope
     parts_same (trees.Let at name declared o e) scope =
         let a = maybe_same o scope in
         let b = with_bound name declared.name e scope (parts_same e (with_name name (type_meant p declared.name) scope)) in
         λ i. a i ++ b i
     parts_same (trees.Case at e cs) scope = let a = with_own e scope (parts_same e scope) in let b = cases_same cs scope in λ i. a i ++ b i
-    parts_same (trees.New at class) scope = refl
-    parts_same (trees.IsVoid at e) scope = with_own e scope (parts_same e scope)
-    parts_same (trees.Arith at op l r) scope =
-        let a = with_own l scope (parts_same l scope) in
-        let b = with_own r scope (parts_same r scope) in
-        λ i. a i ++ b i
-    parts_same (trees.Neg at e) scope = with_own e scope (parts_same e scope)
-    parts_same (trees.Compare at op l r) scope =
-        let a = with_own l scope (parts_same l scope) in
-        let b = with_own r scope (parts_same r scope) in
-        λ i. a i ++ b i
-    parts_same (trees.Not at e) scope = with_own e scope (parts_same e scope)
-    parts_same (trees.Id at name) scope = refl
-    parts_same (trees.Int at n) scope = refl
-    parts_same (trees.Str at bytes) scope = refl
-    parts_same (trees.Bool at b) scope = refl
 
     all_same : (es : Trees) (scope : List Binding) → types_of_all p' c scope es ≡ types_of_all p c scope es
     all_same Last scope = refl

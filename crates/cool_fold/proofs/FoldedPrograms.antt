@@ -7,7 +7,7 @@ use Rattle.cool_classes.specs.Chains.{Class}
 use Rattle.cool_classes.specs.Features.{implementation, formals_of}
 use Rattle.cool_rules.specs.TypedTables.{IsTypedTable}
 use Rattle.cool_meaning.specs.Values.{Value, Void, class_of}
-use Rattle.cool_meaning.specs.Meters.{Error, Overflow, DivisionByZero, NoBranch, Substring, Aborted, give, DispatchVoid, CaseVoid}
+use Rattle.cool_meaning.specs.Meters.{Error, NoBranch, Aborted, give, DispatchVoid}
 use Rattle.cool_classes.specs.ClimbedChains.{chain as chain_of}
 use Rattle.cool_meaning.specs.Evaluation.{class_or, same, make, eval}
 use Rattle.cool_rules.proofs.ChainsOfTables.{below_itself, implementation_below}
@@ -60,13 +60,9 @@ module _ (p : List Class) (typed : IsTypedTable p) where
       first_own c (d ∷ ds) chain x e = ap (λ (o : Option MethodRef). first_of o (implementation p ds (codes "main"))) (ap (λ (y : ClassId). own_method p y (codes "main")) chain.0 ∙ e)
 
 error_same : (p : List Class) (names : List (List ℕ)) (x : Error) → error_text (fold_table p) names x ≡ error_text p names x
-error_same p names (DispatchVoid at) = refl
-error_same p names (CaseVoid at) = refl
 error_same p names (NoBranch at c) = ap (λ (n : List ℕ). line (place_text names at ++ (codes "No matching branch for class " ++ (n ++ codes ".")))) ((tables_same p).names c)
-error_same p names (DivisionByZero at) = refl
-error_same p names (Overflow at) = refl
-error_same p names (Substring at) = refl
 error_same p names (Aborted c) = ap (λ (n : List ℕ). line (codes "Abort called from class " ++ n)) ((tables_same p).names c)
+error_same p names _ = refl
 
 ends_same : (p : List Class) (names : List (List ℕ)) (o : Outcome Value) (a b c a' b' c' : ℕ) → a' ≤ a → b' ≤ b → c' ≤ c → NoMoreRun (run_of p names o a b c) (run_of (fold_table p) names o a' b' c')
 ends_same p names (Val v s n) a b c a' b' c' la lb lc = record { end = refl; output = refl; left = refl; work = omega arith; words = lb; peak = lc }

@@ -164,10 +164,6 @@ module _ (p : List Class) (c : ClassId) where
 
   mutual
     pub folded_most : (e : Tree) (scope : List Binding) → AtMost (size_of (fold p c scope e)) (size_of e)
-    folded_most (trees.Id at name) scope = same_most (size_of (trees.Id at name))
-    folded_most (trees.Int at n) scope = same_most (size_of (trees.Int at n))
-    folded_most (trees.Str at bytes) scope = same_most (size_of (trees.Str at bytes))
-    folded_most (trees.Bool at b) scope = same_most (size_of (trees.Bool at b))
     folded_most (trees.Assign at name e) scope = over_most (folded_most e scope)
     folded_most (trees.Dispatch at e name es) scope =
         then_most (both_most (folded_most e scope) (all_most es scope))
@@ -181,7 +177,6 @@ module _ (p : List Class) (c : ClassId) where
     folded_most (trees.Let at name declared o e) scope =
         over_most (both_most (maybe_most o scope) (folded_most e (with_name name (type_meant p declared.name) scope)))
     folded_most (trees.Case at e cs) scope = over_most (both_most (folded_most e scope) (cases_most cs scope))
-    folded_most (trees.New at class) scope = same_most (size_of (trees.New at class))
     folded_most (trees.IsVoid at e) scope = then_most (folded_most e scope) (void_most at (fold p c scope e) (constant_in (fold p c scope e)))
     folded_most (trees.Not at e) scope = then_most (folded_most e scope) (not_most at (fold p c scope e) (truth_in (constant_in (fold p c scope e))))
     folded_most (trees.Neg at e) scope = then_most (folded_most e scope) (neg_most at (fold p c scope e) (number_in (constant_in (fold p c scope e))))
@@ -191,6 +186,7 @@ module _ (p : List Class) (c : ClassId) where
         (number_in (constant_in (fold p c scope b))))
     folded_most (trees.Compare at op a b) scope =
         then_most (both_most (folded_most a scope) (folded_most b scope)) (compare_most at op (fold p c scope a) (fold p c scope b))
+    folded_most e scope = same_most (size_of e)
 
     all_most : (es : Trees) (scope : List Binding) → AtMost (size_of_all (fold_all p c scope es)) (size_of_all es)
     all_most Last scope = same_most (size_of_all Last)

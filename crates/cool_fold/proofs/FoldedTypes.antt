@@ -102,10 +102,6 @@ module _ (p : List Class) (whole : IsWholeTable p) (c : ClassId) (within : c.0 <
 
   mutual
     pub still_typed : (e : Tree) (scope : List Binding) (type : Ty) → AreTypes p scope → HasType p c scope e type → HasType p c scope (fold p c scope e) type
-    still_typed (trees.Id at name) scope type types h = h
-    still_typed (trees.Int at n) scope type types h = h
-    still_typed (trees.Str at bytes) scope type types h = h
-    still_typed (trees.Bool at b) scope type types h = h
     still_typed (trees.Assign at name e) scope type types (declared, other, has, there, conforms) = (declared, other, still_typed e scope type types has, there, conforms)
     still_typed (trees.Dispatch at e name es) scope type types (receiver, given, has, have, call) =
         subst (λ (k : ClassId). HasType p c scope (dispatch_by p k at (fold p c scope e) name (fold_all p c scope es)) type) (sym (ap (class_of c) (type_is p whole c within e scope receiver types has)))
@@ -128,7 +124,6 @@ module _ (p : List Class) (whole : IsWholeTable p) (c : ClassId) (within : c.0 <
     )
     still_typed (trees.Case at e cs) scope type types (t, ts, has, have, different, join) =
         (t, ts, still_typed e scope t types has, branches_typed cs scope ts types have, subst (λ (xs : List (List ℕ)). AreDifferent xs) (sym (branches_same scope cs)) different, join)
-    still_typed (trees.New at class) scope type types h = h
     still_typed (trees.IsVoid at e) scope type types (t, has, is) = void_typed scope at (fold p c scope e) type (constant_in (fold p c scope e)) is (t, still_typed e scope t types has, is)
     still_typed (trees.Not at e) scope type types (has, is) = not_typed scope at (fold p c scope e) type (truth_in (constant_in (fold p c scope e))) is (still_typed e scope bool_type types has, is)
     still_typed (trees.Neg at e) scope type types (has, is) = neg_typed scope at (fold p c scope e) type (number_in (constant_in (fold p c scope e))) is (still_typed e scope int_type types has, is)
@@ -137,6 +132,7 @@ module _ (p : List Class) (whole : IsWholeTable p) (c : ClassId) (within : c.0 <
         (still_typed a scope int_type types has, still_typed b scope int_type types has1, is)
     still_typed (trees.Compare at op a b) scope type types (t, u, has, has1, comparable, is) =
         compare_typed scope at op (fold p c scope a) (fold p c scope b) type is (t, u, still_typed a scope t types has, still_typed b scope u types has1, comparable, is)
+    still_typed _ scope type types h = h
 
     all_typed : (es : Trees) (scope : List Binding) (given : List Ty) → AreTypes p scope → HaveTypes p c scope es given → HaveTypes p c scope (fold_all p c scope es) given
     all_typed Last scope [] types h = tt

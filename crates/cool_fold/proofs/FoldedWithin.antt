@@ -128,10 +128,6 @@ module _ (files : ℕ) (p : List Class) (whole : IsWholeTable p) (names : (k : C
   mutual
     pub folded_within : (e : Tree) (scope : List Binding) (type : Ty) → AreTypes p scope → HasType p c scope e type → IsTreeWithin files e
         → IsTreeWithin files (fold p c scope e)
-    folded_within (trees.Id at name) scope type types t h = h
-    folded_within (trees.Int at n) scope type types t h = h
-    folded_within (trees.Str at bytes) scope type types t h = h
-    folded_within (trees.Bool at b) scope type types t h = h
     folded_within (trees.Assign at name e) scope type types (declared, other, has, there, conforms) (placed, named, h) =
         (placed, named, folded_within e scope type types has h)
     folded_within (trees.Dispatch at e name es) scope type types (receiver, given, has, have, call) (placed, h, named, hs) =
@@ -159,7 +155,6 @@ module _ (files : ℕ) (p : List Class) (whole : IsWholeTable p) (names : (k : C
     )
     folded_within (trees.Case at e cs) scope type types (t, ts, has, have, different, join) (placed, h, hs) =
         (placed, folded_within e scope t types has h, branches_within cs scope ts types have hs)
-    folded_within (trees.New at class) scope type types t h = h
     folded_within (trees.IsVoid at e) scope type types (t, has, is) (placed, h) =
         void_within files at (fold p c scope e) (constant_in (fold p c scope e)) (placed, folded_within e scope t types has h)
     folded_within (trees.Not at e) scope type types (has, is) (placed, h) =
@@ -173,6 +168,7 @@ module _ (files : ℕ) (p : List Class) (whole : IsWholeTable p) (names : (k : C
     folded_within (trees.Compare at op a b) scope type types (t, u, has, has1, comparable, is) (placed, h, g) =
         compare_within files at op (fold p c scope a) (fold p c scope b)
         (placed, folded_within a scope t types has h, folded_within b scope u types has1 g)
+    folded_within _ scope type types t h = h
 
     all_within : (es : Trees) (scope : List Binding) (given : List Ty) → AreTypes p scope → HaveTypes p c scope es given → AreTreesWithin files es
         → AreTreesWithin files (fold_all p c scope es)

@@ -114,10 +114,6 @@ module _ (p : List Class) (whole : IsWholeTable p) (c : ClassId) (within : c.0 <
   mutual
     -- nothing is left to fold in a folded expression
     pub is_done : (e : Tree) (scope : List Binding) (type : Ty) → AreTypes p scope → HasType p c scope e type → IsDone p c scope (fold p c scope e)
-    is_done (trees.Id at name) scope type types h = tt
-    is_done (trees.Int at n) scope type types h = tt
-    is_done (trees.Str at bytes) scope type types h = tt
-    is_done (trees.Bool at b) scope type types h = tt
     is_done (trees.Assign at name e) scope type types (declared, other, has, there, conforms) = is_done e scope type types has
     is_done (trees.Dispatch at e name es) scope type types (receiver, given, has, have, call) =
         let same = type_is p whole c within (fold p c scope e) scope receiver types (still_typed p whole c within e scope receiver types has) ∙ sym (type_is p whole c within e scope receiver types has) in
@@ -133,12 +129,12 @@ module _ (p : List Class) (whole : IsWholeTable p) (c : ClassId) (within : c.0 <
           (is_done e (with_name name bound scope) type (denotes_type p whole declared.name bound denotes, types) has1),
     )
     is_done (trees.Case at e cs) scope type types (t, ts, has, have, different, join) = (is_done e scope t types has, branches_done cs scope ts types have)
-    is_done (trees.New at class) scope type types h = tt
     is_done (trees.IsVoid at e) scope type types (t, has, is) = void_done scope at (fold p c scope e) (is_done e scope t types has)
     is_done (trees.Not at e) scope type types (has, is) = not_done scope at (fold p c scope e) (is_done e scope bool_type types has)
     is_done (trees.Neg at e) scope type types (has, is) = neg_done scope at (fold p c scope e) (is_done e scope int_type types has)
     is_done (trees.Arith at op a b) scope type types (has, has1, is) = arith_done scope at op (fold p c scope a) (fold p c scope b) (is_done a scope int_type types has) (is_done b scope int_type types has1)
     is_done (trees.Compare at op a b) scope type types (t, u, has, has1, comparable, is) = compare_done scope at op (fold p c scope a) (fold p c scope b) (is_done a scope t types has) (is_done b scope u types has1)
+    is_done _ scope type types h = tt
 
     are_done : (es : Trees) (scope : List Binding) (given : List Ty) → AreTypes p scope → HaveTypes p c scope es given → AreDone p c scope (fold_all p c scope es)
     are_done Last scope given types h = tt

@@ -1,7 +1,7 @@
 -- The parts of operators have smaller numbers and stand where the operator does, and with the operator they make up its nodes.
 use Rattle.std.proofs.Common.{◌≡◌, ℕ, ◌+◌, ◌<◌, List, refl, sym, subst}
 use Rattle.cool_syntax.specs.declared.node.Node.{Node}
-use Rattle.cool_syntax.specs.declared.node.Node.TheVariants.{Assign, Dispatch, StaticDispatch, If, While, Block, Let, Case, New, IsVoid, Arith, Neg, Compare, Not, Id, Int, Str, Bool}
+use Rattle.cool_syntax.specs.declared.node.Node.TheVariants.{Assign, IsVoid, Arith, Neg, Compare, Not}
 use Rattle.cool_syntax.specs.declared.node.NodeId.{NodeId}
 use Rattle.cool_syntax.specs.NodeGroups.{IsBinary, IsUnary}
 use Rattle.cool_syntax.specs.NodeLists.{at_id, made, HasPartsBelow}
@@ -21,20 +21,7 @@ operand_within k ts n i is group parts =
     by (IsVoid at a) g h = (h, refl)
     by (Neg at a) g h = (h, refl)
     by (Not at a) g h = (h, refl)
-    by (Dispatch _ _ _ _) g h = elim g [ ]
-    by (StaticDispatch _ _ _ _ _) g h = elim g [ ]
-    by (If _ _ _ _) g h = elim g [ ]
-    by (While _ _ _) g h = elim g [ ]
-    by (Block _ _) g h = elim g [ ]
-    by (Let _ _ _ _ _) g h = elim g [ ]
-    by (Case _ _ _) g h = elim g [ ]
-    by (New _ _) g h = elim g [ ]
-    by (Id _ _) g h = elim g [ ]
-    by (Int _ _) g h = elim g [ ]
-    by (Str _ _) g h = elim g [ ]
-    by (Bool _ _) g h = elim g [ ]
-    by (Arith _ _ _ _) g h = elim g [ ]
-    by (Compare _ _ _ _) g h = elim g [ ]
+    by _ g h = elim g [ ]
 
 -- the parts of an operator with two operands
 pub operands_within : (k : ℕ) (ts : List Tree) (n : Node) (i j : NodeId) → i ≡ left_operand n → j ≡ right_operand n → IsBinary n
@@ -48,22 +35,7 @@ operands_within k ts n i j is is2 group parts =
         × (tree_size (made ts m) ≡ tree_size (at_id ts (left_operand m)) + tree_size (at_id ts (right_operand m)) + 1)
     by (Arith at op a b) g h = (h.0, h.1, refl)
     by (Compare at op a b) g h = (h.0, h.1, refl)
-    by (Dispatch _ _ _ _) g h = elim g [ ]
-    by (StaticDispatch _ _ _ _ _) g h = elim g [ ]
-    by (If _ _ _ _) g h = elim g [ ]
-    by (While _ _ _) g h = elim g [ ]
-    by (Block _ _) g h = elim g [ ]
-    by (Let _ _ _ _ _) g h = elim g [ ]
-    by (Case _ _ _) g h = elim g [ ]
-    by (New _ _) g h = elim g [ ]
-    by (Id _ _) g h = elim g [ ]
-    by (Int _ _) g h = elim g [ ]
-    by (Str _ _) g h = elim g [ ]
-    by (Bool _ _) g h = elim g [ ]
-    by (Assign _ _ _) g h = elim g [ ]
-    by (IsVoid _ _) g h = elim g [ ]
-    by (Neg _ _) g h = elim g [ ]
-    by (Not _ _) g h = elim g [ ]
+    by _ g h = elim g [ ]
 
 -- an operator with one operand that stands in a body has its operand there
 pub has_operand : (b : TypedBody) (scope : List Binding) (n : Node) (i : NodeId) → i ≡ operand n → IsUnary n → HasParts b scope n → IsPart b scope i
@@ -74,20 +46,7 @@ has_operand b scope n i is group parts = subst (IsPart b scope) (sym is) (by n g
     by (IsVoid at a) g h = h
     by (Neg at a) g h = h
     by (Not at a) g h = h
-    by (Dispatch _ _ _ _) g h = elim g [ ]
-    by (StaticDispatch _ _ _ _ _) g h = elim g [ ]
-    by (If _ _ _ _) g h = elim g [ ]
-    by (While _ _ _) g h = elim g [ ]
-    by (Block _ _) g h = elim g [ ]
-    by (Let _ _ _ _ _) g h = elim g [ ]
-    by (Case _ _ _) g h = elim g [ ]
-    by (New _ _) g h = elim g [ ]
-    by (Id _ _) g h = elim g [ ]
-    by (Int _ _) g h = elim g [ ]
-    by (Str _ _) g h = elim g [ ]
-    by (Bool _ _) g h = elim g [ ]
-    by (Arith _ _ _ _) g h = elim g [ ]
-    by (Compare _ _ _ _) g h = elim g [ ]
+    by _ g h = elim g [ ]
 
 -- and one with two operands has both
 pub has_operands : (b : TypedBody) (scope : List Binding) (n : Node) (i j : NodeId) → i ≡ left_operand n → j ≡ right_operand n → IsBinary n
@@ -99,19 +58,4 @@ has_operands b scope n i j is is2 group parts =
     by : (m : Node) → IsBinary m → HasParts b scope m → IsPart b scope (left_operand m) × IsPart b scope (right_operand m)
     by (Arith at op l r) g h = h
     by (Compare at op l r) g h = h
-    by (Dispatch _ _ _ _) g h = elim g [ ]
-    by (StaticDispatch _ _ _ _ _) g h = elim g [ ]
-    by (If _ _ _ _) g h = elim g [ ]
-    by (While _ _ _) g h = elim g [ ]
-    by (Block _ _) g h = elim g [ ]
-    by (Let _ _ _ _ _) g h = elim g [ ]
-    by (Case _ _ _) g h = elim g [ ]
-    by (New _ _) g h = elim g [ ]
-    by (Id _ _) g h = elim g [ ]
-    by (Int _ _) g h = elim g [ ]
-    by (Str _ _) g h = elim g [ ]
-    by (Bool _ _) g h = elim g [ ]
-    by (Assign _ _ _) g h = elim g [ ]
-    by (IsVoid _ _) g h = elim g [ ]
-    by (Neg _ _) g h = elim g [ ]
-    by (Not _ _) g h = elim g [ ]
+    by _ g h = elim g [ ]

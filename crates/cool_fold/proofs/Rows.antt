@@ -13,7 +13,7 @@ use Rattle.cool_classes.specs.declared.class_id.ClassId.{ClassId}
 use Rattle.cool_classes.specs.declared.class_id.Ty.{Ty}
 use Rattle.cool_rules.specs.Rules.{same_type}
 use Rattle.cool_rules.specs.Scopes.{Binding}
-use Rattle.cool_meaning.specs.Values.{Value, Void, Int, Bool, Str, Obj, State, Environment}
+use Rattle.cool_meaning.specs.Values.{Value, Int, Bool, Str, State, Environment}
 use Rattle.cool_meaning.specs.Meters.{Val, Overflow, DivisionByZero, Metered, Computation, join, seq, ◌>>=◌, rule, give, stop}
 use Rattle.cool_meaning.specs.BasicMethods.{as_number, as_truth, new_number}
 use Rattle.cool_meaning.specs.Numbers.{fits, is_zero, signed}
@@ -46,20 +46,12 @@ read_back (negsuc n) fit = signed_high n (ltb-true n 2147483648 fit)
 -- Constants
 
 number_is : (o : Option Value) (n : ℤ) → number_in o ≡ Some n → o ≡ Some (Int n)
-number_is None n e = absurd cc
 number_is (Some (Int m)) n e = ap (λ (x : ℤ). Some (Int x)) (same_Some m n e)
-number_is (Some Void) n e = absurd cc
-number_is (Some (Bool b)) n e = absurd cc
-number_is (Some (Str bytes)) n e = absurd cc
-number_is (Some (Obj c i ls)) n e = absurd cc
+number_is _ n e = absurd cc
 
 truth_is : (o : Option Value) (b : Truth) → truth_in o ≡ Some b → o ≡ Some (Bool b)
-truth_is None b e = absurd cc
-truth_is (Some (Int m)) b e = absurd cc
-truth_is (Some Void) b e = absurd cc
 truth_is (Some (Bool a)) b e = ap (λ (x : Truth). Some (Bool x)) (same_Some a b e)
-truth_is (Some (Str bytes)) b e = absurd cc
-truth_is (Some (Obj c i ls)) b e = absurd cc
+truth_is _ b e = absurd cc
 
 module _ (p : List Class) (calls : Calls) (self : Value) (env : Environment) where
   abbrev run : Tree → Computation Value
@@ -70,21 +62,7 @@ module _ (p : List Class) (calls : Calls) (self : Value) (env : Environment) whe
   constant_gives (trees.Int at m) v e s n = ap (λ (x : Value). rule (give x) s n) (same_Some (Int (signed m)) v e)
   constant_gives (trees.Str at bytes) v e s n = ap (λ (x : Value). rule (give x) s n) (same_Some (Str bytes) v e)
   constant_gives (trees.Bool at b) v e s n = ap (λ (x : Value). rule (give x) s n) (same_Some (Bool b) v e)
-  constant_gives (trees.Assign at name t1) v e s n = absurd cc
-  constant_gives (trees.Dispatch at t1 name es) v e s n = absurd cc
-  constant_gives (trees.StaticDispatch at t1 class name es) v e s n = absurd cc
-  constant_gives (trees.If at t1 y z) v e s n = absurd cc
-  constant_gives (trees.While at t1 y) v e s n = absurd cc
-  constant_gives (trees.Block at es) v e s n = absurd cc
-  constant_gives (trees.Let at name declared o t1) v e s n = absurd cc
-  constant_gives (trees.Case at t1 cs) v e s n = absurd cc
-  constant_gives (trees.New at class) v e s n = absurd cc
-  constant_gives (trees.IsVoid at t1) v e s n = absurd cc
-  constant_gives (trees.Arith at op a b) v e s n = absurd cc
-  constant_gives (trees.Neg at t1) v e s n = absurd cc
-  constant_gives (trees.Compare at op a b) v e s n = absurd cc
-  constant_gives (trees.Not at t1) v e s n = absurd cc
-  constant_gives (trees.Id at name) v e s n = absurd cc
+  constant_gives _ v e s n = absurd cc
 
   number_gives : (t : Tree) (m : ℤ) → number_in (constant_in t) ≡ Some m → (s : State) (n : ℕ) → eval p calls self env t s n ≡ rule (give (Int m)) s n
   number_gives t m e s n = constant_gives t (Int m) (number_is (constant_in t) m e) s n

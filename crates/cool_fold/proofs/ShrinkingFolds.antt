@@ -86,10 +86,6 @@ module _ (p : List Class) (whole : IsWholeTable p) (c : ClassId) (within : c.0 <
 
   mutual
     pub shrunk_is : (e : Tree) (scope : List Binding) (type : Ty) → AreTypes p scope → HasType p c scope e type → shrunk p c scope e ≡ fold p c scope e
-    shrunk_is (trees.Id at name) scope type types h = refl
-    shrunk_is (trees.Int at n) scope type types h = refl
-    shrunk_is (trees.Str at bytes) scope type types h = refl
-    shrunk_is (trees.Bool at b) scope type types h = refl
     shrunk_is (trees.Assign at name e) scope type types (declared, other, has, there, conforms) = let a = shrunk_is e scope type types has in λ i. trees.Assign at name (a i)
     shrunk_is (trees.Dispatch at e name es) scope type types (receiver, given, has, have, call) =
         let a = shrunk_is e scope receiver types has in
@@ -121,7 +117,6 @@ module _ (p : List Class) (whole : IsWholeTable p) (c : ClassId) (within : c.0 <
         let a = shrunk_is e scope t types has in
         let b = branches_shrunk cs scope ts types have in
         λ i. trees.Case at (a i) (b i)
-    shrunk_is (trees.New at class) scope type types h = refl
     shrunk_is (trees.IsVoid at e) scope type types (t, has, is) =
         let a = shrunk_is e scope t types has in
         (λ i. truth_or (trees.IsVoid at (a i)) at (option_map is_void (constant_in (a i)))) ∙ void_row at (fold p c scope e) (constant_in (fold p c scope e))
@@ -140,6 +135,7 @@ module _ (p : List Class) (whole : IsWholeTable p) (c : ClassId) (within : c.0 <
         let a = shrunk_is e scope t types has in
         let b = shrunk_is f scope u types has1 in
         (λ i. truth_or (trees.Compare at op (a i) (b i)) at (compared op (constant_in (a i)) (constant_in (b i)))) ∙ compare_row at op (fold p c scope e) (fold p c scope f)
+    shrunk_is _ scope type types h = refl
 
     all_shrunk : (es : Trees) (scope : List Binding) (given : List Ty) → AreTypes p scope → HaveTypes p c scope es given → shrunk_all p c scope es ≡ fold_all p c scope es
     all_shrunk Last scope given types h = refl

@@ -78,10 +78,7 @@ module _ (p : List Class) (whole : IsWholeTable p) (c : ClassId) (within : c.0 <
 
   mutual
     pub shrunk_type : (e : Tree) (scope : List Binding) → AreTypes p scope → type_of p c scope (shrunk p c scope e) ≡ type_of p c scope e
-    shrunk_type (trees.Id at name) scope types = refl
-    shrunk_type (trees.Int at n) scope types = refl
-    shrunk_type (trees.Str at bytes) scope types = refl
-    shrunk_type (trees.Bool at b) scope types = refl
+    shrunk_type (trees.leaf at form) scope types = refl
     shrunk_type (trees.Assign at name e) scope types = shrunk_type e scope types
     shrunk_type (trees.Dispatch at e name es) scope types =
         dispatch_type scope at (shrunk p c scope e) name (shrunk_all p c scope es) (type_of p c scope e)
@@ -102,7 +99,6 @@ module _ (p : List Class) (whole : IsWholeTable p) (c : ClassId) (within : c.0 <
     shrunk_type (trees.Let at name declared o e) scope types =
         shrunk_type e (with_name name (type_meant p declared.name) scope) (meant_is_type p whole declared.name, types)
     shrunk_type (trees.Case at e cs) scope types = ap (λ (o : Option Ty). unwrap_or o object_type) (cases_type cs scope None types)
-    shrunk_type (trees.New at class) scope types = refl
     shrunk_type (trees.IsVoid at e) scope types =
         truth_type scope (trees.IsVoid at (shrunk p c scope e)) at (option_map is_void (constant_in (shrunk p c scope e))) refl
     shrunk_type (trees.Not at e) scope types =

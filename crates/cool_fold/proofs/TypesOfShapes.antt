@@ -31,7 +31,6 @@ module _ (p p' : List Class) (s : FindSame p p') (c : ClassId) where
 
   mutual
     pub type_same : (e : Tree) (scope : List Binding) → type_of p' c scope e ≡ type_of p c scope e
-    type_same (trees.Id at name) scope = refl
     type_same (trees.Assign at name e) scope = type_same e scope
     type_same (trees.Dispatch at e name es) scope =
         ap (λ (t : Ty). type_of_call p' (class_of c t) t name) (type_same e scope)
@@ -42,20 +41,13 @@ module _ (p p' : List Class) (s : FindSame p p') (c : ClassId) where
         ∙ call_same p p' s (class_of c (type_meant p class.name)) (type_of p c scope e) name)
     type_same (trees.If at test y n) scope =
         (λ i. join_in p' c (type_same y scope i) (type_same n scope i)) ∙ join_same p p' s c (type_of p c scope y) (type_of p c scope n)
-    type_same (trees.While at test body) scope = refl
     type_same (trees.Block at es) scope = last_same es scope object_type
     type_same (trees.Let at name declared init e) scope =
         ap (λ (bs : List Binding). type_of p' c bs e) (bound_same name declared.name scope) ∙ type_same e (bound_in p name declared.name scope)
     type_same (trees.Case at e cs) scope = ap (λ (o : Option Ty). unwrap_or o object_type) (cases_same cs scope None)
     type_same (trees.New at class) scope = meant_same p p' s class.name
-    type_same (trees.IsVoid at e) scope = refl
-    type_same (trees.Arith at op a b) scope = refl
-    type_same (trees.Neg at e) scope = refl
-    type_same (trees.Compare at op a b) scope = refl
-    type_same (trees.Not at e) scope = refl
-    type_same (trees.Int at n) scope = refl
-    type_same (trees.Str at bytes) scope = refl
-    type_same (trees.Bool at b) scope = refl
+    type_same (trees.While at test e) scope = refl
+    type_same _ scope = refl
 
     last_same : (es : Trees) (scope : List Binding) (before : Ty) → last_type_of p' c scope before es ≡ last_type_of p c scope before es
     last_same Last scope before = refl
@@ -81,11 +73,11 @@ module _ (p p' : List Class) (s : FindSame p p') (c : ClassId) where
 
   mutual
     pub still_done : (e : Tree) (scope : List Binding) → IsDone p c scope e → IsDone p' c scope e
-    still_done (trees.Id at name) scope h = tt
-    still_done (trees.Int at n) scope h = tt
-    still_done (trees.Str at bytes) scope h = tt
-    still_done (trees.Bool at b) scope h = tt
+    still_done (trees.leaf at form) scope h = tt
     still_done (trees.Assign at name e) scope h = still_done e scope h
+    still_done (trees.IsVoid at e) scope (none, h) = (none, still_done e scope h)
+    still_done (trees.Not at e) scope (none, h) = (none, still_done e scope h)
+    still_done (trees.Neg at e) scope (none, h) = (none, still_done e scope h)
     still_done (trees.Dispatch at e name es) scope (redefined, h, g) = (
       ap (λ (t : Ty). is_redefined p' (class_of c t) name) (type_same e scope)
           ∙ (redefined_same p p' s (class_of c (type_of p c scope e)) name ∙ redefined),
@@ -96,6 +88,8 @@ module _ (p p' : List Class) (s : FindSame p p') (c : ClassId) where
     still_done (trees.If at e y n) scope (kept, h, g, k) =
         (not_taken scope (trees.If at e y n) y n (truth_in (constant_in e)) kept, still_done e scope h, still_done y scope g, still_done n scope k)
     still_done (trees.While at e b) scope (h, g) = (still_done e scope h, still_done b scope g)
+    still_done (trees.Arith at op a b) scope (none, h, g) = (none, still_done a scope h, still_done b scope g)
+    still_done (trees.Compare at op a b) scope (none, h, g) = (none, still_done a scope h, still_done b scope g)
     still_done (trees.Block at es) scope h = all_done es scope h
     still_done (trees.Let at name declared o e) scope (h, g) = (
       maybe_done o scope h,
@@ -103,12 +97,6 @@ module _ (p p' : List Class) (s : FindSame p p') (c : ClassId) where
           (still_done e (bound_in p name declared.name scope) g),
     )
     still_done (trees.Case at e cs) scope (h, g) = (still_done e scope h, cases_done cs scope g)
-    still_done (trees.New at class) scope h = tt
-    still_done (trees.IsVoid at e) scope (none, h) = (none, still_done e scope h)
-    still_done (trees.Not at e) scope (none, h) = (none, still_done e scope h)
-    still_done (trees.Neg at e) scope (none, h) = (none, still_done e scope h)
-    still_done (trees.Arith at op a b) scope (none, h, g) = (none, still_done a scope h, still_done b scope g)
-    still_done (trees.Compare at op a b) scope (none, h, g) = (none, still_done a scope h, still_done b scope g)
 
     all_done : (es : Trees) (scope : List Binding) → AreDone p c scope es → AreDone p' c scope es
     all_done Last scope h = tt

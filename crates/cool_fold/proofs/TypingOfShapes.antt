@@ -75,10 +75,6 @@ module _ (p p' : List Class) (s : FindSame p p') where
 
   mutual
     pub type_kept : (e : Tree) (c : ClassId) (scope : List Binding) (type : Ty) → HasType p c scope e type → HasType p' c scope e type
-    type_kept (trees.Id at name) c scope type h = h
-    type_kept (trees.Int at n) c scope type h = h
-    type_kept (trees.Str at bytes) c scope type h = h
-    type_kept (trees.Bool at b) c scope type h = h
     type_kept (trees.Assign at name e) c scope type (declared, other, has, there, conforms) =
         (declared, other, type_kept e c scope type has, there, conforms_kept p p' s c type declared conforms)
     type_kept (trees.Dispatch at e name es) c scope type (receiver, given, has, have, call) = (
@@ -119,6 +115,7 @@ module _ (p p' : List Class) (s : FindSame p p') where
     type_kept (trees.Arith at op a b) c scope type (has, has1, is) = (type_kept a c scope int_type has, type_kept b c scope int_type has1, is)
     type_kept (trees.Compare at op a b) c scope type (t, u, has, has1, comparable, is) =
         (t, u, type_kept a c scope t has, type_kept b c scope u has1, comparable, is)
+    type_kept _ c scope type h = h
 
     types_kept : (es : Trees) (c : ClassId) (scope : List Binding) (given : List Ty) → HaveTypes p c scope es given → HaveTypes p' c scope es given
     types_kept Last c scope [] h = tt

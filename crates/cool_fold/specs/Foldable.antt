@@ -51,10 +51,7 @@ IsNotTaken y n whole (Some false) = same_type n whole ≡ false
 
 abbrev mutual
   pub IsDone : List Class → ClassId → List Binding → Tree → Type 0
-  IsDone p c scope (trees.Id at name) = Unit {0}
-  IsDone p c scope (trees.Int at n) = Unit {0}
-  IsDone p c scope (trees.Str at bytes) = Unit {0}
-  IsDone p c scope (trees.Bool at b) = Unit {0}
+  IsDone p c scope (trees.leaf at form) = Unit {0}
   IsDone p c scope (trees.Assign at name e) = IsDone p c scope e
   IsDone p c scope (trees.Dispatch at e name es) =
       (is_redefined p (class_of c (type_of p c scope e)) name ≡ true) × IsDone p c scope e × AreDone p c scope es
@@ -66,7 +63,6 @@ abbrev mutual
   IsDone p c scope (trees.Block at es) = AreDone p c scope es
   IsDone p c scope (trees.Let at name declared o e) = IsMaybeDone p c scope o × IsDone p c (with_name name (type_meant p declared.name) scope) e
   IsDone p c scope (trees.Case at e cs) = IsDone p c scope e × AreCasesDone p c scope cs
-  IsDone p c scope (trees.New at class) = Unit {0}
   IsDone p c scope (trees.IsVoid at e) = (constant_in e ≡ None) × IsDone p c scope e
   IsDone p c scope (trees.Not at e) = (truth_in (constant_in e) ≡ None) × IsDone p c scope e
   IsDone p c scope (trees.Neg at e) = IsNoNegation (number_in (constant_in e)) × IsDone p c scope e

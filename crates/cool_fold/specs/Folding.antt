@@ -138,10 +138,7 @@ dispatch_by p k at e name es =
 
 abbrev mutual
   pub fold : List Class → ClassId → List Binding → Tree → Tree
-  fold p c scope (trees.Id at name) = trees.Id at name
-  fold p c scope (trees.Int at n) = trees.Int at n
-  fold p c scope (trees.Str at bytes) = trees.Str at bytes
-  fold p c scope (trees.Bool at b) = trees.Bool at b
+  fold p c scope (trees.leaf at form) = trees.leaf at form
   fold p c scope (trees.Assign at name t) = trees.Assign at name (fold p c scope t)
   fold p c scope (trees.Dispatch at e name es) = dispatch_by p (class_of c (type_of p c scope e)) at (fold p c scope e) name (fold_all p c scope es)
   fold p c scope (trees.StaticDispatch at e class name es) = trees.StaticDispatch at (fold p c scope e) class name (fold_all p c scope es)
@@ -152,7 +149,6 @@ abbrev mutual
   fold p c scope (trees.Let at name declared o t) =
       trees.Let at name declared (fold_maybe p c scope o) (fold p c (with_name name (type_meant p declared.name) scope) t)
   fold p c scope (trees.Case at t cs) = trees.Case at (fold p c scope t) (fold_cases p c scope cs)
-  fold p c scope (trees.New at class) = trees.New at class
   fold p c scope (trees.IsVoid at t) = is_void_by at (fold p c scope t) (constant_in (fold p c scope t))
   fold p c scope (trees.Not at t) = not_by at (fold p c scope t) (truth_in (constant_in (fold p c scope t)))
   fold p c scope (trees.Neg at t) = neg_by at (fold p c scope t) (number_in (constant_in (fold p c scope t)))

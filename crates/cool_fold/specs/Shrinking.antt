@@ -61,10 +61,7 @@ taken (Some false) y n whole a b = if same_type n whole then Some b else None
 
 abbrev mutual
   pub shrunk : List Class → ClassId → List Binding → Tree → Tree
-  shrunk p c scope (trees.Id at name) = trees.Id at name
-  shrunk p c scope (trees.Int at n) = trees.Int at n
-  shrunk p c scope (trees.Str at bytes) = trees.Str at bytes
-  shrunk p c scope (trees.Bool at b) = trees.Bool at b
+  shrunk p c scope (trees.leaf at form) = trees.leaf at form
   shrunk p c scope (trees.Assign at name t) = trees.Assign at name (shrunk p c scope t)
   shrunk p c scope (trees.Dispatch at e name es) =
       dispatch_by p (class_of c (type_of p c scope e)) at (shrunk p c scope e) name (shrunk_all p c scope es)
@@ -80,7 +77,6 @@ abbrev mutual
   shrunk p c scope (trees.Let at name declared o t) =
       trees.Let at name declared (shrunk_maybe p c scope o) (shrunk p c (with_name name (type_meant p declared.name) scope) t)
   shrunk p c scope (trees.Case at t cs) = trees.Case at (shrunk p c scope t) (shrunk_cases p c scope cs)
-  shrunk p c scope (trees.New at class) = trees.New at class
   shrunk p c scope (trees.IsVoid at t) =
       truth_or (trees.IsVoid at (shrunk p c scope t)) at (option_map is_void (constant_in (shrunk p c scope t)))
   shrunk p c scope (trees.Not at t) =

@@ -4,7 +4,7 @@ use Rattle.cool_classes.specs.declared.class_id.ClassId.{ClassId}
 use Rattle.cool_classes.specs.Chains.{parent_of}
 use Rattle.cool_rules.specs.Rules.{is_among}
 use Rattle.cool_fold.proofs.ClassesAbove.{above_top, is_above}
-use Rattle.cool_fold.proofs.setting.FoldingSetting.is_properly_below.Goals as goal
+use Rattle.cool_fold.proofs.folding_setting.FoldingSetting.is_properly_below.Goals as goal
 
 pub returns-in-Some : goal.returns-in-Some
 returns-in-Some c =

@@ -1,7 +1,7 @@
 -- The classes that define a name are classes of the table.
 use Rattle.std.proofs.Common.{◌<◌, length, arith}
 use Rattle.cool_fold.proofs.DefinersGrow.{definer_within}
-use Rattle.cool_fold.proofs.setting.FoldingSetting.is_redefined.Goals as goal
+use Rattle.cool_fold.proofs.folding_setting.FoldingSetting.is_redefined.Goals as goal
 
 pub is_properly_below-requires-clause-below : goal.is_properly_below-requires-clause-below
 is_properly_below-requires-clause-below c =

@@ -4,7 +4,7 @@ use Rattle.std.specs.List.{list_any}
 use Rattle.cool_classes.specs.ClimbedChains.{above}
 use Rattle.cool_rules.specs.Rules.{is_among}
 use Rattle.cool_fold.specs.Definers.{definers_in}
-use Rattle.cool_fold.proofs.setting.FoldingSetting.is_redefined.Given as goal
+use Rattle.cool_fold.proofs.folding_setting.FoldingSetting.is_redefined.Given as goal
 
 abbrev pub invariant-loop-below : goal.invariant-loop-below
 invariant-loop-below l = record {
