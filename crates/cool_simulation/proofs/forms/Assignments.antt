@@ -10,7 +10,7 @@ use Rattle.cool_runtime.specs.Machines.{At, Pointers}
 use Rattle.cool_runtime.proofs.Pieces.{next, done, has_front, has_back, sizes_append}
 use Rattle.cool_codegen.specs.declared.variables.Variable.{Variable}
 use Rattle.cool_rules.specs.Scopes as scopes
-use Rattle.cool_codegen.specs.Variables as variables
+use Rattle.cool_codegen.specs.Variables.{Named, register}
 use Rattle.cool_codegen.specs.Pieces.{store_lines}
 use Rattle.cool_codegen.specs.Code.{code, assign_code, store_of}
 use Rattle.cool_meaning.specs.Values.{Value, State, Environment, location_of}
@@ -36,7 +36,7 @@ value_stored : (env : Environment) (name : List ℕ) (st : State) (n i : ℕ) (v
 value_stored env name st n i v there = ap (λ (o : Option ℕ). (given o >>= λ l. store l v >> give v) st n) there
 
 -- the words for a name other than self
-stored_lines : (vs : List variables.Named) (name : List ℕ) (v : Variable) → bytes_eq name (codes "self") ≡ false → scopes.found vs name ≡ Some v → assign_code vs name ≡ store_lines v.offset (register v.base)
+stored_lines : (vs : List Named) (name : List ℕ) (v : Variable) → bytes_eq name (codes "self") ≡ false → scopes.found vs name ≡ Some v → assign_code vs name ≡ store_lines v.offset (register v.base)
 stored_lines vs name v other found = ap (λ x. if x then [] else store_of (scopes.found vs name)) other ∙ ap store_of found
 
 module _ (l : Loading) (loaded : IsLoaded l) (calls : Calls) (begun_in : Call → Visits) (b : ℕ) (sound : AllCallsSound l.table calls b) (later : CallsLater calls) where
