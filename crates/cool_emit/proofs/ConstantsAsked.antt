@@ -26,25 +26,16 @@ use Rattle.cool_emit.proofs.ClassesInTurn.{placed_weight, features_weigh, table_
 -- a tree asks for no more integers than it has nodes
 mutual
   pub few_integers_in : (t : Tree) → length (integers_in t) ≤ tree_size t
-  few_integers_in (trees.Assign at name t) = omega (arith, few_integers_in t)
-  few_integers_in (trees.Dispatch at t name ts) = simp length-append (omega (arith, few_integers_in t, few_integers_in_all ts))
-  few_integers_in (trees.StaticDispatch at t class name ts) = simp length-append (omega (arith, few_integers_in t, few_integers_in_all ts))
+  few_integers_in (trees.Int at value) = omega arith
+  few_integers_in (trees.leaf at form) = omega arith
+  few_integers_in (trees.unary at form t) = omega (arith, few_integers_in t)
+  few_integers_in (trees.binary at form a b) = simp length-append (omega (arith, few_integers_in a, few_integers_in b))
+  few_integers_in (trees.call at form t ts) = simp length-append (omega (arith, few_integers_in t, few_integers_in_all ts))
   few_integers_in (trees.If at t y n) =
       simp length-append (omega (arith, few_integers_in t, few_integers_in y, few_integers_in n))
-  few_integers_in (trees.While at t b) = simp length-append (omega (arith, few_integers_in t, few_integers_in b))
   few_integers_in (trees.Block at ts) = omega (arith, few_integers_in_all ts)
   few_integers_in (trees.Let at name declared o t) = simp length-append (omega (arith, few_integers_in_maybe o, few_integers_in t))
   few_integers_in (trees.Case at t cs) = simp length-append (omega (arith, few_integers_in t, few_integers_in_cases cs))
-  few_integers_in (trees.New at class) = omega arith
-  few_integers_in (trees.IsVoid at t) = omega (arith, few_integers_in t)
-  few_integers_in (trees.Arith at op a b) = simp length-append (omega (arith, few_integers_in a, few_integers_in b))
-  few_integers_in (trees.Neg at t) = omega (arith, few_integers_in t)
-  few_integers_in (trees.Compare at op a b) = simp length-append (omega (arith, few_integers_in a, few_integers_in b))
-  few_integers_in (trees.Not at t) = omega (arith, few_integers_in t)
-  few_integers_in (trees.Id at name) = omega arith
-  few_integers_in (trees.Int at value) = omega arith
-  few_integers_in (trees.Str at bytes) = omega arith
-  few_integers_in (trees.Bool at value) = omega arith
 
   few_integers_in_all : (ts : Trees) → length (integers_in_all ts) ≤ trees_size ts
   few_integers_in_all Last = omega arith
@@ -68,30 +59,22 @@ few_files files arith_op.Div at = omega arith
 -- a tree asks for no more strings than twice its nodes
 mutual
   pub few_strings_in : (files : List (List ℕ)) (t : Tree) → length (strings_in files t) ≤ 2 * tree_size t
-  few_strings_in files (trees.Assign at name t) = omega (arith, few_strings_in files t)
-  few_strings_in files (trees.Dispatch at t name ts) =
-      simp length-append (omega (arith, few_strings_in files t, few_strings_in_all files ts))
-  few_strings_in files (trees.StaticDispatch at t class name ts) =
+  few_strings_in files (trees.Str at bytes) = omega arith
+  few_strings_in files (trees.leaf at form) = omega arith
+  few_strings_in files (trees.Neg at t) = simp length-append (omega (arith, few_strings_in files t))
+  few_strings_in files (trees.unary at form t) = omega (arith, few_strings_in files t)
+  few_strings_in files (trees.Arith at op a b) =
+      simp length-append (omega (arith, few_strings_in files a, few_strings_in files b, few_files files op at))
+  few_strings_in files (trees.binary at form a b) = simp length-append (omega (arith, few_strings_in files a, few_strings_in files b))
+  few_strings_in files (trees.call at form t ts) =
       simp length-append (omega (arith, few_strings_in files t, few_strings_in_all files ts))
   few_strings_in files (trees.If at t y n) =
       simp length-append (omega (arith, few_strings_in files t, few_strings_in files y, few_strings_in files n))
-  few_strings_in files (trees.While at t b) = simp length-append (omega (arith, few_strings_in files t, few_strings_in files b))
   few_strings_in files (trees.Block at ts) = omega (arith, few_strings_in_all files ts)
   few_strings_in files (trees.Let at name declared o t) =
       simp length-append (omega (arith, few_strings_in_maybe files o, few_strings_in files t))
   few_strings_in files (trees.Case at t cs) =
       simp length-append (omega (arith, few_strings_in files t, few_strings_in_cases files cs))
-  few_strings_in files (trees.New at class) = omega arith
-  few_strings_in files (trees.IsVoid at t) = omega (arith, few_strings_in files t)
-  few_strings_in files (trees.Arith at op a b) =
-      simp length-append (omega (arith, few_strings_in files a, few_strings_in files b, few_files files op at))
-  few_strings_in files (trees.Neg at t) = simp length-append (omega (arith, few_strings_in files t))
-  few_strings_in files (trees.Compare at op a b) = simp length-append (omega (arith, few_strings_in files a, few_strings_in files b))
-  few_strings_in files (trees.Not at t) = omega (arith, few_strings_in files t)
-  few_strings_in files (trees.Id at name) = omega arith
-  few_strings_in files (trees.Int at value) = omega arith
-  few_strings_in files (trees.Str at bytes) = omega arith
-  few_strings_in files (trees.Bool at value) = omega arith
 
   few_strings_in_all : (files : List (List ℕ)) (ts : Trees) → length (strings_in_all files ts) ≤ 2 * trees_size ts
   few_strings_in_all files Last = omega arith

@@ -61,7 +61,12 @@ IsShort bytes = length bytes ≤ MOST_BYTES
 -- the integers of a tree
 mutual
   integers_low : (n : ℕ) (t : Tree) → IsTreeWithin n t → AllByRecursion IsInt (integers_in t)
+  integers_low n (trees.Int at value) h = (h.1, tt)
+  integers_low n (trees.leaf at form) h = tt
   integers_low n (trees.Assign at name t) h = integers_low n t h.2
+  integers_low n (trees.unary at form t) h = integers_low n t h.1
+  integers_low n (trees.While at t b) h = all_append IsInt (integers_in t) (integers_in b) (integers_low n t h.1) (integers_low n b h.2)
+  integers_low n (trees.binary at form a b) h = all_append IsInt (integers_in a) (integers_in b) (integers_low n a h.1) (integers_low n b h.2)
   integers_low n (trees.Dispatch at t name ts) h =
       all_append IsInt (integers_in_all ts) (integers_in t) (all_low n ts h.3) (integers_low n t h.1)
   integers_low n (trees.StaticDispatch at t class name ts) h =
@@ -69,23 +74,11 @@ mutual
   integers_low n (trees.If at t y e) h =
       all_append IsInt (integers_in t) (integers_in y ++ integers_in e) (integers_low n t h.1)
       (all_append IsInt (integers_in y) (integers_in e) (integers_low n y h.2) (integers_low n e h.3))
-  integers_low n (trees.While at t b) h = all_append IsInt (integers_in t) (integers_in b) (integers_low n t h.1) (integers_low n b h.2)
   integers_low n (trees.Block at ts) h = all_low n ts h.1
   integers_low n (trees.Let at name declared o t) h =
       all_append IsInt (integers_in_maybe o) (integers_in t) (maybe_low n o h.3) (integers_low n t h.4)
   integers_low n (trees.Case at t cs) h =
       all_append IsInt (integers_in t) (integers_in_cases cs) (integers_low n t h.1) (cases_low n cs h.2)
-  integers_low n (trees.New at class) h = tt
-  integers_low n (trees.IsVoid at t) h = integers_low n t h.1
-  integers_low n (trees.Arith at op a b) h = all_append IsInt (integers_in a) (integers_in b) (integers_low n a h.1) (integers_low n b h.2)
-  integers_low n (trees.Neg at t) h = integers_low n t h.1
-  integers_low n (trees.Compare at op a b) h =
-      all_append IsInt (integers_in a) (integers_in b) (integers_low n a h.1) (integers_low n b h.2)
-  integers_low n (trees.Not at t) h = integers_low n t h.1
-  integers_low n (trees.Id at name) h = tt
-  integers_low n (trees.Int at value) h = (h.1, tt)
-  integers_low n (trees.Str at bytes) h = tt
-  integers_low n (trees.Bool at value) h = tt
 
   all_low : (n : ℕ) (ts : Trees) → AreTreesWithin n ts → AllByRecursion IsInt (integers_in_all ts)
   all_low n Last h = tt
@@ -119,7 +112,16 @@ module _ (files : List (List ℕ)) (named : AreShortNames files) where
   -- the strings of a tree
   mutual
     strings_short : (n : ℕ) (t : Tree) → IsTreeWithin n t → AllByRecursion IsShort (strings_in files t)
+    strings_short n (trees.Str at bytes) h = (h.1.0, tt)
+    strings_short n (trees.leaf at form) h = tt
     strings_short n (trees.Assign at name t) h = strings_short n t h.2
+    strings_short n (trees.Neg at t) h = all_append IsShort (strings_in files t) (file_of files at) (strings_short n t h.1) (file_short at)
+    strings_short n (trees.unary at form t) h = strings_short n t h.1
+    strings_short n (trees.Arith at op a b) h =
+        all_append IsShort (strings_in files a) (strings_in files b ++ files_of files op at) (strings_short n a h.1)
+        (all_append IsShort (strings_in files b) (files_of files op at) (strings_short n b h.2) (files_short op at))
+    strings_short n (trees.binary at form a b) h =
+        all_append IsShort (strings_in files a) (strings_in files b) (strings_short n a h.1) (strings_short n b h.2)
     strings_short n (trees.Dispatch at t name ts) h =
         all_append IsShort (strings_in_all files ts) (strings_in files t ++ file_of files at) (all_short n ts h.3)
         (all_append IsShort (strings_in files t) (file_of files at) (strings_short n t h.1) (file_short at))
@@ -129,27 +131,12 @@ module _ (files : List (List ℕ)) (named : AreShortNames files) where
     strings_short n (trees.If at t y e) h =
         all_append IsShort (strings_in files t) (strings_in files y ++ strings_in files e) (strings_short n t h.1)
         (all_append IsShort (strings_in files y) (strings_in files e) (strings_short n y h.2) (strings_short n e h.3))
-    strings_short n (trees.While at t b) h =
-        all_append IsShort (strings_in files t) (strings_in files b) (strings_short n t h.1) (strings_short n b h.2)
     strings_short n (trees.Block at ts) h = all_short n ts h.1
     strings_short n (trees.Let at name declared o t) h =
         all_append IsShort (strings_in_maybe files o) (strings_in files t) (maybe_short n o h.3) (strings_short n t h.4)
     strings_short n (trees.Case at t cs) h =
         all_append IsShort (strings_in files t) (file_of files at ++ strings_in_cases files cs) (strings_short n t h.1)
         (all_append IsShort (file_of files at) (strings_in_cases files cs) (file_short at) (cases_short n cs h.2))
-    strings_short n (trees.New at class) h = tt
-    strings_short n (trees.IsVoid at t) h = strings_short n t h.1
-    strings_short n (trees.Arith at op a b) h =
-        all_append IsShort (strings_in files a) (strings_in files b ++ files_of files op at) (strings_short n a h.1)
-        (all_append IsShort (strings_in files b) (files_of files op at) (strings_short n b h.2) (files_short op at))
-    strings_short n (trees.Neg at t) h = all_append IsShort (strings_in files t) (file_of files at) (strings_short n t h.1) (file_short at)
-    strings_short n (trees.Compare at op a b) h =
-        all_append IsShort (strings_in files a) (strings_in files b) (strings_short n a h.1) (strings_short n b h.2)
-    strings_short n (trees.Not at t) h = strings_short n t h.1
-    strings_short n (trees.Id at name) h = tt
-    strings_short n (trees.Int at value) h = tt
-    strings_short n (trees.Str at bytes) h = (h.1.0, tt)
-    strings_short n (trees.Bool at value) h = tt
 
     all_short : (n : ℕ) (ts : Trees) → AreTreesWithin n ts → AllByRecursion IsShort (strings_in_all files ts)
     all_short n Last h = tt

@@ -97,8 +97,20 @@ module _ (s : Context) (g g' : Constants) where
 
   mutual
     pub same_kinds : (vs : List Named) (d k : ℕ) (t : Tree) → kinds (code s g vs d k t) ≡ kinds (code s g' vs d k t)
-    same_kinds vs d k (trees.Id at name) = refl
-    same_kinds vs d k (trees.Assign at name t) = before _ _ _ (same_kinds vs d k t)
+    same_kinds vs d k (trees.Int at value) = same_take _ _
+    same_kinds vs d k (trees.Str at bytes) = same_take _ _
+    same_kinds vs d k (trees.leaf at form) = refl
+    same_kinds vs d k (trees.Neg at t) = joined (code s g vs d k t) _ (code s g' vs d k t) _ (same_kinds vs d k t) (behind _ _ _ (same_int at _))
+    same_kinds vs d k (trees.unary at form t) = before _ _ _ (same_kinds vs d k t)
+    same_kinds vs d k (trees.Arith at op a b) =
+        joined (code s g vs d k a) _ (code s g' vs d k a) _ (same_kinds vs d k a)
+        (behind push_lines _ _ (joined (code s g vs (d + 1) (k + tree_size a) b) _ (code s g' vs (d + 1) (k + tree_size a) b) _ (same_kinds vs (d + 1) (k + tree_size a) b)
+        (behind values_lines _ _ (joined (operation_code s g op at _) _ (operation_code s g' op at _) _ (same_operation op at _) (same_int at _)))))
+    same_kinds vs d k (trees.Compare at op a b) =
+        joined (code s g vs d k a) _ (code s g' vs d k a) _ (same_kinds vs d k a)
+        (behind push_lines _ _ (before _ _ _ (same_kinds vs (d + 1) (k + tree_size a) b)))
+    same_kinds vs d k (trees.While at t b) =
+        behind _ _ _ (joined (code s g vs d k t) _ (code s g' vs d k t) _ (same_kinds vs d k t) (behind _ _ _ (before _ _ _ (same_kinds vs d (k + tree_size t) b))))
     same_kinds vs d k (trees.Dispatch at t name ts) =
         joined (arguments_code s g vs d (k + tree_size t) ts) _ (arguments_code s g' vs d (k + tree_size t) ts) _ (kinds_of_arguments vs d (k + tree_size t) ts)
         (joined (code s g vs (d + trees_count ts) k t) _ (code s g' vs (d + trees_count ts) k t) _ (same_kinds vs (d + trees_count ts) k t) (same_slot at _ name))
@@ -109,8 +121,6 @@ module _ (s : Context) (g g' : Constants) where
         joined (code s g vs d k t) _ (code s g' vs d k t) _ (same_kinds vs d k t)
         (behind _ _ _ (joined (code s g vs d (k + tree_size t) y) _ (code s g' vs d (k + tree_size t) y) _ (same_kinds vs d (k + tree_size t) y)
         (behind _ _ _ (before _ _ _ (same_kinds vs d (k + tree_size t + tree_size y) n)))))
-    same_kinds vs d k (trees.While at t b) =
-        behind _ _ _ (joined (code s g vs d k t) _ (code s g' vs d k t) _ (same_kinds vs d k t) (behind _ _ _ (before _ _ _ (same_kinds vs d (k + tree_size t) b))))
     same_kinds vs d k (trees.Block at ts) = kinds_of_items vs d k ts
     same_kinds vs d k (trees.Let at name declared o t) =
         joined (initial_code s g vs d k (type_meant s.table declared.name) o) _ (initial_code s g' vs d k (type_meant s.table declared.name) o) _ (kinds_of_initial vs d k (type_meant s.table declared.name) o)
@@ -119,20 +129,6 @@ module _ (s : Context) (g g' : Constants) where
         joined (code s g vs d k t) _ (code s g' vs d k t) _ (same_kinds vs d k t)
         (joined (case_begin_lines (file_label s g at) at.line) _ (case_begin_lines (file_label s g' at) at.line) _ (same_begin at)
         (behind push_lines _ _ (before _ _ _ (same_lines _ _ (kinds_of_arms vs d (k + tree_size t) (label_at s (codes "end") (root k (trees.Case at t cs))) [] [] cs tt)))))
-    same_kinds vs d k (trees.New at class) = refl
-    same_kinds vs d k (trees.IsVoid at t) = before _ _ _ (same_kinds vs d k t)
-    same_kinds vs d k (trees.Arith at op a b) =
-        joined (code s g vs d k a) _ (code s g' vs d k a) _ (same_kinds vs d k a)
-        (behind push_lines _ _ (joined (code s g vs (d + 1) (k + tree_size a) b) _ (code s g' vs (d + 1) (k + tree_size a) b) _ (same_kinds vs (d + 1) (k + tree_size a) b)
-        (behind values_lines _ _ (joined (operation_code s g op at _) _ (operation_code s g' op at _) _ (same_operation op at _) (same_int at _)))))
-    same_kinds vs d k (trees.Neg at t) = joined (code s g vs d k t) _ (code s g' vs d k t) _ (same_kinds vs d k t) (behind _ _ _ (same_int at _))
-    same_kinds vs d k (trees.Compare at op a b) =
-        joined (code s g vs d k a) _ (code s g' vs d k a) _ (same_kinds vs d k a)
-        (behind push_lines _ _ (before _ _ _ (same_kinds vs (d + 1) (k + tree_size a) b)))
-    same_kinds vs d k (trees.Not at t) = before _ _ _ (same_kinds vs d k t)
-    same_kinds vs d k (trees.Int at value) = same_take _ _
-    same_kinds vs d k (trees.Str at bytes) = same_take _ _
-    same_kinds vs d k (trees.Bool at value) = refl
 
     pub kinds_of_arguments : (vs : List Named) (d k : ℕ) (ts : Trees) → kinds (arguments_code s g vs d k ts) ≡ kinds (arguments_code s g' vs d k ts)
     kinds_of_arguments vs d k Last = refl

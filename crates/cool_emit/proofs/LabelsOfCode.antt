@@ -227,6 +227,37 @@ module _ (x : Name) where
         let e : within k (n + 1) ≡ within k n + own_hits (k + (n + 1) - 1) = hits_last k n in
         omega arith
 
+    -- the label `next` of a node is among those of all kinds
+    no_label : (r : ℕ) → 0 + own_hit r (codes "next") ≤ own_hits r
+    no_label r = omega (arith, hits_are s.class.0 s.feature r)
+
+    -- lines behind those of one part, of two operands, and of the arguments and the receiver of a call
+
+    with_part : (k n r q : ℕ) (part more : List Line) → marks x part + r ≤ within k n → marks x more ≤ q
+        → q + own_hit (k + (n + 1) - 1) (codes "next") ≤ own_hits (k + (n + 1) - 1)
+        → marks x (part ++ more) + own_hit (k + (n + 1) - 1) (codes "next") ≤ within k (n + 1)
+    with_part k n r q part more h few own =
+        let first : marks x part ≤ within k n = omega (arith, h) in
+        omega (arith, with_own k n (marks x part) q first own, two_parts part more, few)
+
+    with_operands : (k a b r u q : ℕ) (left right more : List Line) → marks x left + r ≤ within k a → marks x right + u ≤ within (k + a) b → marks x more ≤ q
+        → q + own_hit (k + (a + b + 1) - 1) (codes "next") ≤ own_hits (k + (a + b + 1) - 1)
+        → marks x (left ++ (push_lines ++ (right ++ more))) + own_hit (k + (a + b + 1) - 1) (codes "next") ≤ within k (a + b + 1)
+    with_operands k a b r u q left right more h h' few own =
+        let first : marks x left ≤ within k a = omega (arith, h) in
+        let second : marks x right ≤ within (k + a) b = omega (arith, h') in
+        let parts : marks x left + marks x right ≤ within k (a + b) = omega (arith, first, second, hits_two k a b) in
+        let all = with_own k (a + b) (marks x left + marks x right) q parts own in
+        omega (arith, all, four_parts left push_lines right more, no_push, few)
+
+    with_call : (k a b r : ℕ) (object arguments more : List Line) → marks x object + r ≤ within k a → marks x arguments ≤ within (k + a) b → marks x more ≡ 0
+        → marks x (arguments ++ (object ++ more)) + own_hit (k + (a + b + 1) - 1) (codes "next") ≤ within k (a + b + 1)
+    with_call k a b r object arguments more h h' none =
+        let first : marks x object ≤ within k a = omega (arith, h) in
+        let parts : marks x object + marks x arguments ≤ within k (a + b) = omega (arith, first, h', hits_two k a b) in
+        let all = with_own k (a + b) (marks x object + marks x arguments) 0 parts (no_label (k + (a + b + 1) - 1)) in
+        omega (arith, all, three_parts arguments object more, none)
+
     -- an expression with no parts
     leaf : (k m : ℕ) → m ≡ 0 → m + own_hit (k + 1 - 1) (codes "next") ≤ within k 1
     leaf k m e =
@@ -234,10 +265,7 @@ module _ (x : Name) where
         let g : own_hit (k + 1 - 1) (codes "next") ≡ own_hit k (codes "next") = ap (λ n. own_hit n (codes "next")) l in
         omega (arith, hits_are s.class.0 s.feature k)
 
-    -- the labels of a node are among those of all kinds
-
-    no_label : (r : ℕ) → 0 + own_hit r (codes "next") ≤ own_hits r
-    no_label r = omega (arith, hits_are s.class.0 s.feature r)
+    -- and so are those of the kinds that a node has
 
     else_end : (r : ℕ) → own_hit r (codes "else") + own_hit r (codes "end") + own_hit r (codes "next") ≤ own_hits r
     else_end r = omega (arith, hits_are s.class.0 s.feature r)
@@ -331,6 +359,59 @@ module _ (x : Name) where
       pub code_marks : (vs : List Named) (d k : ℕ) (t : Tree)
           → marks x (code s g vs d k t) + own_hit (root k t).0 (codes "next") ≤ within k (tree_size t)
       code_marks vs d k (trees.Id at name) = leaf k (marks x (name_code vs name)) (no_name vs name)
+      code_marks vs d k (trees.New at class) =
+          let type = type_meant s.table class.name in
+          leaf k (marks x (new_code s.table type)) (no_new s.table type)
+      code_marks vs d k (trees.leaf at form) = leaf k _ (no_take _)
+      code_marks vs d k (trees.Assign at name t) =
+          with_part k (tree_size t) _ 0 (code s g vs d k t) (assign_code vs name) (code_marks vs d k t)
+          (omega (arith, no_assign vs name)) (no_label (k + (tree_size t + 1) - 1))
+      code_marks vs d k (trees.IsVoid at t) =
+          let own = root k (trees.IsVoid at t) in
+          with_part k (tree_size t) _ (own_hit own.0 (codes "end")) (code s g vs d k t) (is_void_lines ++ bool_code s own) (code_marks vs d k t)
+          (omega (arith, two_parts is_void_lines (bool_code s own), no_void_test, bool_marks own)) (end_alone own.0)
+      code_marks vs d k (trees.Neg at t) =
+          let own = root k (trees.Neg at t) in
+          with_part k (tree_size t) _ (own_hit own.0 (codes "fits")) (code s g vs d k t) (negate_lines ++ int_code s g at own) (code_marks vs d k t)
+          (omega (arith, two_parts negate_lines (int_code s g at own), no_negation, int_marks at own)) (fits_alone own.0)
+      code_marks vs d k (trees.Not at t) =
+          let own = root k (trees.Not at t) in
+          with_part k (tree_size t) _ (own_hit own.0 (codes "end")) (code s g vs d k t) (complement_lines ++ bool_code s own) (code_marks vs d k t)
+          (omega (arith, two_parts complement_lines (bool_code s own), no_complement, bool_marks own)) (end_alone own.0)
+      code_marks vs d k (trees.Arith at op l r) =
+          let own = root k (trees.Arith at op l r) in
+          let a = tree_size l in
+          with_operands k a (tree_size r) _ _ (own_hit own.0 (codes "some") + own_hit own.0 (codes "fits")) (code s g vs d k l) (code s g vs (d + 1) (k + a) r) (arith_code s g op at own) (code_marks vs d k l)
+          (code_marks vs (d + 1) (k + a) r) (arith_marks op at own) (some_fits own.0)
+      code_marks vs d k (trees.Compare at op l r) =
+          let own = root k (trees.Compare at op l r) in
+          let a = tree_size l in
+          with_operands k a (tree_size r) _ _ (own_hit own.0 (codes "end")) (code s g vs d k l) (code s g vs (d + 1) (k + a) r) (compare_code s op own) (code_marks vs d k l)
+          (code_marks vs (d + 1) (k + a) r) (compare_marks op own) (end_alone own.0)
+      code_marks vs d k (trees.While at t b) =
+          let own = root k (trees.While at t b) in
+          let a = tree_size t in
+          let begin = label_at s (codes "loop") own in
+          let end = label_at s (codes "end") own in
+          let first : marks x (code s g vs d k t) ≤ within k a = omega (arith, code_marks vs d k t) in
+          let second : marks x (code s g vs d (k + a) b) ≤ within (k + a) (tree_size b) = omega (arith, code_marks vs d (k + a) b) in
+          let m = marks x (code s g vs d k t) + marks x (code s g vs d (k + a) b) in
+          let parts : m ≤ within k (a + tree_size b) = omega (arith, first, second, hits_two k a (tree_size b)) in
+          let all = with_own k (a + tree_size b) m (own_hit own.0 (codes "loop") + own_hit own.0 (codes "end")) parts (loop_end own.0) in
+          let sum = five_parts (mark_lines begin) (code s g vs d k t) (test_lines end) (code s g vs d (k + a) b) (repeat_lines begin end) in
+          omega (arith, all, sum, mark_marks begin, test_marks end, repeat_marks begin end)
+      code_marks vs d k (trees.Dispatch at t name ts) =
+          let e = d + trees_count ts in
+          let a = tree_size t in
+          let class = class_of s.class (type_of s.table s.class (scope_of vs) t) in
+          with_call k a (trees_size ts) _ (code s g vs e k t) (arguments_code s g vs d (k + a) ts) (slot_code s g at class name) (code_marks vs e k t)
+          (arguments_marks vs d (k + a) ts) (slot_marks at class name)
+      code_marks vs d k (trees.StaticDispatch at t class name ts) =
+          let e = d + trees_count ts in
+          let a = tree_size t in
+          let meant = class_meant s.table s.class class.name in
+          with_call k a (trees_size ts) _ (code s g vs e k t) (arguments_code s g vs d (k + a) ts) (static_code s g at meant name) (code_marks vs e k t)
+          (arguments_marks vs d (k + a) ts) (static_marks at meant name)
       code_marks vs d k (trees.If at t y n) =
           let a = tree_size t in
           let b = tree_size y in
@@ -353,50 +434,6 @@ module _ (x : Name) where
             turn_marks (label_at s (codes "end") own) (label_at s (codes "else") own),
             mark_marks (label_at s (codes "end") own),
           )
-      code_marks vs d k (trees.Assign at name t) =
-          let first : marks x (code s g vs d k t) ≤ within k (tree_size t) = omega (arith, code_marks vs d k t) in
-          let all = with_own k (tree_size t) (marks x (code s g vs d k t)) 0 first (no_label (root k (trees.Assign at name t)).0) in
-          omega (arith, all, two_parts (code s g vs d k t) (assign_code vs name), no_assign vs name)
-      code_marks vs d k (trees.Dispatch at t name ts) =
-          let e = d + trees_count ts in
-          let first : marks x (code s g vs e k t) ≤ within k (tree_size t) = omega (arith, code_marks vs e k t) in
-          let m = marks x (code s g vs e k t) + marks x (arguments_code s g vs d (k + tree_size t) ts) in
-          let parts : m ≤ within k (tree_size t + trees_size ts) =
-          omega (arith, first, arguments_marks vs d (k + tree_size t) ts, hits_two k (tree_size t) (trees_size ts)) in
-          let all = with_own k (tree_size t + trees_size ts) m 0 parts (no_label (root k (trees.Dispatch at t name ts)).0) in
-          let class = class_of s.class (type_of s.table s.class (scope_of vs) t) in
-          omega (
-            arith,
-            all,
-            three_parts (arguments_code s g vs d (k + tree_size t) ts) (code s g vs e k t) (slot_code s g at class name),
-            slot_marks at class name,
-          )
-      code_marks vs d k (trees.StaticDispatch at t class name ts) =
-          let e = d + trees_count ts in
-          let first : marks x (code s g vs e k t) ≤ within k (tree_size t) = omega (arith, code_marks vs e k t) in
-          let m = marks x (code s g vs e k t) + marks x (arguments_code s g vs d (k + tree_size t) ts) in
-          let parts : m ≤ within k (tree_size t + trees_size ts) =
-          omega (arith, first, arguments_marks vs d (k + tree_size t) ts, hits_two k (tree_size t) (trees_size ts)) in
-          let all = with_own k (tree_size t + trees_size ts) m 0 parts (no_label (root k (trees.StaticDispatch at t class name ts)).0) in
-          let meant = class_meant s.table s.class class.name in
-          omega (
-            arith,
-            all,
-            three_parts (arguments_code s g vs d (k + tree_size t) ts) (code s g vs e k t) (static_code s g at meant name),
-            static_marks at meant name,
-          )
-      code_marks vs d k (trees.While at t b) =
-          let own = root k (trees.While at t b) in
-          let a = tree_size t in
-          let begin = label_at s (codes "loop") own in
-          let end = label_at s (codes "end") own in
-          let first : marks x (code s g vs d k t) ≤ within k a = omega (arith, code_marks vs d k t) in
-          let second : marks x (code s g vs d (k + a) b) ≤ within (k + a) (tree_size b) = omega (arith, code_marks vs d (k + a) b) in
-          let m = marks x (code s g vs d k t) + marks x (code s g vs d (k + a) b) in
-          let parts : m ≤ within k (a + tree_size b) = omega (arith, first, second, hits_two k a (tree_size b)) in
-          let all = with_own k (a + tree_size b) m (own_hit own.0 (codes "loop") + own_hit own.0 (codes "end")) parts (loop_end own.0) in
-          let sum = five_parts (mark_lines begin) (code s g vs d k t) (test_lines end) (code s g vs d (k + a) b) (repeat_lines begin end) in
-          omega (arith, all, sum, mark_marks begin, test_marks end, repeat_marks begin end)
       code_marks vs d k (trees.Block at ts) =
           let all = with_own k (trees_size ts) (marks x (items_code s g vs d k ts)) 0 (items_marks vs d k ts)
           (no_label (root k (trees.Block at ts)).0) in
@@ -436,59 +473,6 @@ module _ (x : Name) where
             no_push,
             case_end_marks end,
           )
-      code_marks vs d k (trees.New at class) =
-          let type = type_meant s.table class.name in
-          leaf k (marks x (new_code s.table type)) (no_new s.table type)
-      code_marks vs d k (trees.IsVoid at t) =
-          let own = root k (trees.IsVoid at t) in
-          let first : marks x (code s g vs d k t) ≤ within k (tree_size t) = omega (arith, code_marks vs d k t) in
-          let all = with_own k (tree_size t) (marks x (code s g vs d k t)) (own_hit own.0 (codes "end")) first (end_alone own.0) in
-          omega (arith, all, three_parts (code s g vs d k t) is_void_lines (bool_code s own), no_void_test, bool_marks own)
-      code_marks vs d k (trees.Arith at op l r) =
-          let own = root k (trees.Arith at op l r) in
-          let a = tree_size l in
-          let first : marks x (code s g vs d k l) ≤ within k a = omega (arith, code_marks vs d k l) in
-          let second : marks x (code s g vs (d + 1) (k + a) r) ≤ within (k + a) (tree_size r) =
-          omega (arith, code_marks vs (d + 1) (k + a) r) in
-          let m = marks x (code s g vs d k l) + marks x (code s g vs (d + 1) (k + a) r) in
-          let parts : m ≤ within k (a + tree_size r) = omega (arith, first, second, hits_two k a (tree_size r)) in
-          let all = with_own k (a + tree_size r) m (own_hit own.0 (codes "some") + own_hit own.0 (codes "fits")) parts (some_fits own.0) in
-          omega (
-            arith,
-            all,
-            four_parts (code s g vs d k l) push_lines (code s g vs (d + 1) (k + a) r) (arith_code s g op at own),
-            no_push,
-            arith_marks op at own,
-          )
-      code_marks vs d k (trees.Neg at t) =
-          let own = root k (trees.Neg at t) in
-          let first : marks x (code s g vs d k t) ≤ within k (tree_size t) = omega (arith, code_marks vs d k t) in
-          let all = with_own k (tree_size t) (marks x (code s g vs d k t)) (own_hit own.0 (codes "fits")) first (fits_alone own.0) in
-          omega (arith, all, three_parts (code s g vs d k t) negate_lines (int_code s g at own), no_negation, int_marks at own)
-      code_marks vs d k (trees.Compare at op l r) =
-          let own = root k (trees.Compare at op l r) in
-          let a = tree_size l in
-          let first : marks x (code s g vs d k l) ≤ within k a = omega (arith, code_marks vs d k l) in
-          let second : marks x (code s g vs (d + 1) (k + a) r) ≤ within (k + a) (tree_size r) =
-          omega (arith, code_marks vs (d + 1) (k + a) r) in
-          let m = marks x (code s g vs d k l) + marks x (code s g vs (d + 1) (k + a) r) in
-          let parts : m ≤ within k (a + tree_size r) = omega (arith, first, second, hits_two k a (tree_size r)) in
-          let all = with_own k (a + tree_size r) m (own_hit own.0 (codes "end")) parts (end_alone own.0) in
-          omega (
-            arith,
-            all,
-            four_parts (code s g vs d k l) push_lines (code s g vs (d + 1) (k + a) r) (compare_code s op own),
-            no_push,
-            compare_marks op own,
-          )
-      code_marks vs d k (trees.Not at t) =
-          let own = root k (trees.Not at t) in
-          let first : marks x (code s g vs d k t) ≤ within k (tree_size t) = omega (arith, code_marks vs d k t) in
-          let all = with_own k (tree_size t) (marks x (code s g vs d k t)) (own_hit own.0 (codes "end")) first (end_alone own.0) in
-          omega (arith, all, three_parts (code s g vs d k t) complement_lines (bool_code s own), no_complement, bool_marks own)
-      code_marks vs d k (trees.Int at value) = leaf k (marks x (take_lines (integer_label g value))) (no_take (integer_label g value))
-      code_marks vs d k (trees.Str at bytes) = leaf k (marks x (take_lines (string_label g bytes))) (no_take (string_label g bytes))
-      code_marks vs d k (trees.Bool at value) = leaf k (marks x (take_lines (truth_label value))) (no_take (truth_label value))
 
       pub arguments_marks : (vs : List Named) (d k : ℕ) (ts : Trees) → marks x (arguments_code s g vs d k ts) ≤ within k (trees_size ts)
       arguments_marks vs d k Last = omega arith

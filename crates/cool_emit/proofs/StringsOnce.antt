@@ -154,29 +154,21 @@ literal files b = by (has b files)
 module _ (files : List (List ℕ)) where
   mutual
     strings_cost : (t : Tree) → total (cost files) (strings_in files t) ≤ text_in t
-    strings_cost (trees.Assign at name t) = omega (arith, strings_cost t)
-    strings_cost (trees.Dispatch at t name ts) =
-        simp total-append (omega (arith, file_free files at.file, strings_cost t, strings_cost_all ts))
-    strings_cost (trees.StaticDispatch at t class name ts) =
+    strings_cost (trees.Str at bytes) = omega (arith, literal files bytes)
+    strings_cost (trees.leaf at form) = omega arith
+    strings_cost (trees.Neg at t) = simp total-append (omega (arith, file_free files at.file, strings_cost t))
+    strings_cost (trees.unary at form t) = strings_cost t
+    strings_cost (trees.Arith at op a b) =
+        simp total-append (omega (arith, files_free files op at, strings_cost a, strings_cost b))
+    strings_cost (trees.binary at form a b) = simp total-append (omega (arith, strings_cost a, strings_cost b))
+    strings_cost (trees.call at form t ts) =
         simp total-append (omega (arith, file_free files at.file, strings_cost t, strings_cost_all ts))
     strings_cost (trees.If at t y n) =
         simp total-append (omega (arith, strings_cost t, strings_cost y, strings_cost n))
-    strings_cost (trees.While at t b) = simp total-append (omega (arith, strings_cost t, strings_cost b))
     strings_cost (trees.Block at ts) = strings_cost_all ts
     strings_cost (trees.Let at name declared o t) = simp total-append (omega (arith, strings_cost_maybe o, strings_cost t))
     strings_cost (trees.Case at t cs) =
         simp total-append (omega (arith, file_free files at.file, strings_cost t, strings_cost_cases cs))
-    strings_cost (trees.New at class) = omega arith
-    strings_cost (trees.IsVoid at t) = strings_cost t
-    strings_cost (trees.Arith at op a b) =
-        simp total-append (omega (arith, files_free files op at, strings_cost a, strings_cost b))
-    strings_cost (trees.Neg at t) = simp total-append (omega (arith, file_free files at.file, strings_cost t))
-    strings_cost (trees.Compare at op a b) = simp total-append (omega (arith, strings_cost a, strings_cost b))
-    strings_cost (trees.Not at t) = strings_cost t
-    strings_cost (trees.Id at name) = omega arith
-    strings_cost (trees.Int at value) = omega arith
-    strings_cost (trees.Str at bytes) = omega (arith, literal files bytes)
-    strings_cost (trees.Bool at value) = omega arith
 
     strings_cost_all : (ts : Trees) → total (cost files) (strings_in_all files ts) ≤ text_in_all ts
     strings_cost_all Last = omega arith

@@ -1,5 +1,5 @@
 -- The lines of a program in batches, one after another: a batch for each section of its text, and behind these one for its data.
-use Rattle.std.specs.Prelude.{◌≡◌, ℕ, ◌≤◌, List, [], ◌∷◌, ◌++◌, length, map, flat_map, take}
+use Rattle.std.specs.Prelude.{◌≡◌, ℕ, ◌+◌, ◌≤◌, List, [], ◌∷◌, ◌++◌, length, map, flat_map, take}
 use Rattle.mips_isa.specs.Assembly.{directive_line}
 use Rattle.mips_isa.specs.Lines.{Line, ToData, lines_of}
 use Rattle.cool_classes.specs.Chains.{Class}
@@ -9,6 +9,7 @@ use Rattle.cool_emit.specs.Additions.{integers_asked, strings_asked}
 use Rattle.cool_emit.specs.Programs.{program_constants, program_data}
 use Rattle.cool_emit.specs.Sections.{features_in, section_code, sections_in}
 use Rattle.cool_emit.specs.declared.kept.Kept.{Kept}
+use Rattle.cool_emit.specs.declared.kept.TheConstants.{MOST_KEPT_LINES}
 use Rattle.cool_emit.specs.declared.section.Section.{Section}
 
 abbrev pub batches_of : List Class → List (List ℕ) → List (List Line)
@@ -23,6 +24,15 @@ joined = flat_map (λ batch. batch)
 pub record AreFirst (all : List (List Line)) (kept : Kept) : Type 0 where
   pub within : kept.batches ≤ length all
   pub lines : lines_of kept.lines.items ≡ joined (take kept.batches all)
+
+-- A batch of this number follows what is kept, and there is room for its lines, so many of them.
+abbrev pub HasRoom : Kept → ℕ → ℕ → Type 0
+HasRoom kept number many = (number ≡ kept.batches) × (length kept.lines.items + many ≤ MOST_KEPT_LINES)
+
+-- With these lines one batch more is kept, behind the others.
+abbrev pub IsKept : Kept → List Line → Kept → Type 0
+IsKept before lines after =
+    (after.batches ≡ before.batches + 1) × (lines_of after.lines.items ≡ lines_of before.lines.items ++ lines)
 
 -- the constants for which some sections ask, one after another
 abbrev pub asked_by : List Class → List (List ℕ) → List Section → Constants

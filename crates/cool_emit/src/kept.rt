@@ -3,7 +3,7 @@
 ghost use Rattle.std.specs.Prelude.{◌≡◌, ◌≤◌, ◌<◌, ◌^◌, ◌-◌, List, Some, length, slice_get, OnOk};
 ghost use Rattle.mips_isa.specs.Lines as assembly;
 ghost use Rattle.mips_isa.specs.Lines.{lines_of};
-ghost use Rattle.cool_emit.specs.Batches.{AreFirst};
+ghost use Rattle.cool_emit.specs.Batches.{AreFirst, HasRoom, IsKept};
 
 use crate::emission::add_lines;
 use mips_isa::Line;
@@ -32,13 +32,15 @@ impl Kept {
         }
     }
 
-    /// Keeps the lines of the batch of this number, where those of all before it are kept and there is room; else lets them go.
+    /// Keeps the lines of the batch of this number, exactly where those of all before it are kept and there is room; else lets them go.
     /// `Err` comes only for want of memory.
     pub(crate) fn keep(&mut self, number: usize, lines: Vec<Line>) -> Result<(), AllocError>
         requires number { number < 2 ^ 64 - 1 }
         requires few { length self.old.lines.items ≤ MOST_KEPT_LINES }
         ensures first { (all : List (List assembly.Line)) → AreFirst all self.old → slice_get all number ≡ Some (lines_of lines.items) → OnOk result (AreFirst all self.new) }
         ensures few { OnOk result (length self.new.lines.items ≤ MOST_KEPT_LINES) }
+        ensures kept { HasRoom self.old number (length lines.items) → OnOk result (IsKept self.old (lines_of lines.items) self.new) }
+        ensures left { (HasRoom self.old number (length lines.items) → ⊥) → OnOk result (self.new ≡ self.old) }
     {
         let room = MOST_KEPT_LINES - self.lines.len();
         if number == self.batches && lines.len() <= room {
