@@ -1,6 +1,6 @@
 -- How a call goes that writes one thing, the bytes or the note that are due, or that refuses its files.
 use Rattle.std.proofs.Common.{List, [], arith, inl, inr, ℕ, ◌≡◌, ◌≢◌, ◌≤◌}
-use Rattle.cool_driver.specs.{Calls.{Call, Got, Request, shelf_of}, Comes.{Comes, Dues, Pieces}, Ends.{Goes}, Refusals.{IsTold, RefusalNoted}, Sources.{IsNoProgram}}
+use Rattle.cool_driver.specs.{Calls.{Call, Got, Request, shelf_of}, Comes.{Comes, Dues, Pieces}, Does.{Goes}, Refusals.{IsTold, RefusalNoted}, Sources.{IsNoProgram}}
 use Rattle.cool_driver.specs.{Statuses.{code_of}, Telling.{Noted}, declared.refusal.Refusal.{Refusal}, declared.status.Status.{Status}}
 use Rattle.cool_driver.proofs.DevicesOfCalls.{IsStatus, due_finished, finished_goes, is_noted, short_goes}
 
@@ -58,4 +58,4 @@ comes_map rows parts (Comes.short nothing) = Comes.short nothing
 -- a call goes as another promise says that follows
 pub goes_map : {Promise Other : Call → ℕ → Type 0} {c : Call} {status : ℕ} → (Promise c status → Other c status) → Goes Promise c status
     → Goes Other c status
-goes_map f g = record { devices = g.devices; ends = f g.ends; asked = g.asked }
+goes_map f g = record { devices = g.devices; ends = f g.ends; usage_only = g.usage_only }

@@ -3,7 +3,7 @@ use Rattle.std.proofs.Common.{List, Option, Some, [], arith, inl, inr, refl, ℕ
 use Rattle.cool_words.specs.declared.plan.RunLimits.{RunLimits}
 use Rattle.mips_isa.specs.{Calls.{Exited, Outcome, Running, State, Trapped}, ImageBounds.{ImageParts}, Run.{start}}
 use Rattle.spim_machine.specs.{Ends.{Counted, FailsReading, Ran}, MachineStates.{IsIn, MachineParts}, declared.halt.Halt.{Halt}}
-use Rattle.cool_driver.specs.{Calls.{Call}, Comes.{Comes}, Ends.{Goes}, Execution.{note_of, run_of, segments_within, status_of}, Runs.{DueToRun, PiecesOfRun}, Statuses.{code_of}}
+use Rattle.cool_driver.specs.{Calls.{Call}, Comes.{Comes}, Does.{Goes}, Execution.{note_of, run_of, segments_within, status_of}, Runs.{DueToRun, PiecesOfRun}, Statuses.{code_of}}
 use Rattle.cool_driver.specs.{Telling.{HaltNoted}, declared.status.Status.{Status}}
 use Rattle.cool_driver.proofs.{DevicesOfCalls.{IsFinished, cut_goes, due_finished, finished_goes, got_alone, halt_noted}, RunsWithinLimits.{run_of-is}}
 use Rattle.cool_driver.proofs.StatusesOfRuns.{IsOneOf, end_status, good_status}

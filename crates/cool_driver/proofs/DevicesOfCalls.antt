@@ -3,7 +3,7 @@ use Rattle.std.proofs.Common.{List, Option, Some, [], arith, inl, inr, refl, sym
 use Rattle.cool_ports.proofs.GettingBytes.{appended-nil}
 use Rattle.cool_ports.specs.{Counts.{Rose}, SinkBytes.{appended}}
 use Rattle.spim_machine.specs.declared.halt.Halt.{Halt}
-use Rattle.cool_driver.specs.{Calls.{Call, Got, GotPart, Request}, Comes.{Comes, Dues, Pieces}, Ends.{Goes}, Execution.{note_of_halt, status_of_halt}, Statuses.{code_of}}
+use Rattle.cool_driver.specs.{Calls.{Call, Got, GotPart, Request}, Comes.{Comes, Dues, Pieces}, Does.{Goes}, Execution.{note_of_halt, status_of_halt}, Statuses.{code_of}}
 use Rattle.cool_driver.specs.{Telling.{HaltNoted, Noted}, declared.status.Status.{Status}}
 
 -- A status that is due: it is one of those that may be, and what it says of the shelf.

@@ -11,7 +11,8 @@ mod StatusesOfRuns
 mod ComesOfRuns
 mod rooms
 mod ReadingNames
-mod EndsByCommand
+mod Doings
+mod DoingsByPlan
 mod RunsWithinLimits
 mod BigRuns
 mod ProgramsMeant

@@ -1,7 +1,9 @@
 -- A call of `cool`: what it was asked, which files were read for it, what came of its output, its notes and its input.
 use Rattle.std.specs.Prelude.{◌≡◌, ◌≢◌, ℕ, ◌<◌, ◌≤◌, List, [], Option, Some}
 use Rattle.cool_ports.specs.{Counts.{last_count, Rose}, ShelfFiles.{FileMap}, SinkBytes.{appended, GotPrefix}}
-use Rattle.cool_driver.specs.Statuses.{WRITE_FAULT, OUT_OF_MEMORY}
+use Rattle.cool_ports.specs.declared.shelf.Shelf as shelf
+use Rattle.cool_ports.specs.declared.sink.Sink as sink
+use Rattle.cool_driver.specs.{Outside.{Outside, ShelfState, SinkState, shelf_at, sink_at}, Statuses.{WRITE_FAULT, OUT_OF_MEMORY}}
 
 -- What a call was asked: its words, the files that the shelf tells, the shelf's count of faults before and after, the names that it was asked for
 -- and the bytes of each file that it gave up to the end, and an input that the source may have had left at first.
@@ -23,15 +25,18 @@ pub record ShelfUse : Type 0 where
   pub asked_after : List (List ℕ)
   pub gave_after : List (List ℕ)
 
--- how a shelf fared from one state to another, by what it tells, its count of faults, what it was asked for and what it gave
-abbrev pub shelf_use : {S : Type 0} → (S → Option FileMap) → (S → ℕ) → (S → List (List ℕ)) → (S → List (List ℕ)) → S → S → ShelfUse
-shelf_use files faults asked gave before after = record {
-  files = files before;
-  faults_before = faults before;
-  faults_after = faults after;
-  asked_after = asked after;
-  gave_after = gave after;
+-- how a shelf fared from one state to another
+abbrev pub shelf_between : ShelfState → ShelfState → ShelfUse
+shelf_between before after = record {
+  files = before.files;
+  faults_before = before.faults;
+  faults_after = after.faults;
+  asked_after = after.asked;
+  gave_after = after.gave;
 }
+
+abbrev pub shelf_use : {S : Type 0} → shelf.Ghosts S → S → S → ShelfUse
+shelf_use of before after = shelf_between (shelf_at of before) (shelf_at of after)
 
 -- how the shelf of a request fared
 abbrev pub shelf_of : Request → ShelfUse
@@ -52,16 +57,19 @@ pub record SinkUse : Type 0 where
   pub puts_before : List (List ℕ)
   pub puts_after : List (List ℕ)
 
--- how a sink fared from one state to another, by what it holds, its count of faults and its puts
-abbrev pub sink_use : {S : Type 0} → (S → Option (List ℕ)) → (S → ℕ) → (S → List (List ℕ)) → S → S → SinkUse
-sink_use held faults puts before after = record {
-  held_before = held before;
-  held_after = held after;
-  faults_before = faults before;
-  faults_after = faults after;
-  puts_before = puts before;
-  puts_after = puts after;
+-- how a sink fared from one state to another
+abbrev pub sink_between : SinkState → SinkState → SinkUse
+sink_between before after = record {
+  held_before = before.held;
+  held_after = after.held;
+  faults_before = before.faults;
+  faults_after = after.faults;
+  puts_before = before.puts;
+  puts_after = after.puts;
 }
+
+abbrev pub sink_use : {S : Type 0} → sink.Ghosts S → S → S → SinkUse
+sink_use of before after = sink_between (sink_at of before) (sink_at of after)
 
 -- these bytes and no others came, without a fault
 abbrev pub Got : SinkUse → List ℕ → Type 0
@@ -115,9 +123,11 @@ call_of words shelf input rest before after out notes = record {
   input_after = after;
 }
 
--- a call that takes nothing of its input
-abbrev pub untaking : List (List ℕ) → ShelfUse → List ℕ → ℕ → SinkUse → SinkUse → Call
-untaking words shelf input faults out notes = call_of words shelf input input faults faults out notes
+-- a call by words from one state of the outside to another, of which the source may have had this input at first, of which a rest is left
+abbrev pub call_between : List (List ℕ) → Outside → Outside → (input rest : List ℕ) → Call
+call_between words before after input rest =
+    call_of words (shelf_between before.shelf after.shelf) input rest before.input.faults after.input.faults (sink_between before.out after.out)
+    (sink_between before.notes after.notes)
 
 -- the shelf tells these files, and no fault of it can have come
 abbrev pub HasTold : ShelfUse → FileMap → Type 0

@@ -7,6 +7,7 @@ pub mod Execution
 pub mod Evaluation
 pub mod Debugging
 pub mod Compiled
+pub mod Outside
 pub mod Calls
 pub mod Comes
 pub mod Runs
@@ -16,5 +17,6 @@ pub mod Sources
 pub mod Refusals
 pub mod Headline
 pub mod commands
+pub mod Does
 pub mod Ends
 pub mod System

@@ -5,7 +5,7 @@ ghost use Rattle.cool_ports.specs.Answers.{Leaves};
 ghost use Rattle.cool_ports.specs.Taking.{Took};
 ghost use Rattle.cool_driver.specs.Calls.{Request, sink_use};
 ghost use Rattle.cool_driver.specs.Comes.{Comes, PutAsDue};
-ghost use Rattle.cool_driver.specs.Ends.{Goes};
+ghost use Rattle.cool_driver.specs.Does.{Goes};
 ghost use Rattle.cool_driver.specs.Execution.{heap_of, stack_of};
 ghost use Rattle.cool_words.specs.Plans.{IsBounded};
 ghost use Rattle.spim_memory.specs.Memory.{IsLimits};
@@ -48,12 +48,12 @@ pub fn execute<I: Source, O: Sink, E: Sink>(
     ensures lines { PutsLines (E.puts notes.old) (E.puts notes.new) }
     ensures other { code_of result ≢ REFUSED }
     ensures taken { (ended : Bool) × Took false ended (I.past input.old) (I.past input.new) (I.left input.old) (I.left input.new) }
-    ensures puts { (given rest : List ℕ) → Leaves (I.past input.old) (I.past input.new) given rest → PutAsDue (puts_of_run limits image.now given) (sink_use O.held O.faults O.puts out.old out.new) (code_of result) }
+    ensures puts { (given rest : List ℕ) → Leaves (I.past input.old) (I.past input.new) given rest → PutAsDue (puts_of_run limits image.now given) (sink_use O.Sink out.old out.new) (code_of result) }
     ensures ends { (r : Request) (rest : List ℕ) → r.faults_after ≡ r.faults_before → Leaves (I.past input.old) (I.past input.new) r.input rest
         → Goes (Comes (DueToRun limits image.now r.input) (PiecesOfRun limits image.now r.input)) (record {
           request = r;
-          out = sink_use O.held O.faults O.puts out.old out.new;
-          notes = sink_use E.held E.faults E.puts notes.old notes.new;
+          out = sink_use O.Sink out.old out.new;
+          notes = sink_use E.Sink notes.old notes.new;
           left = rest;
           input_before = I.faults input.old;
           input_after = I.faults input.new;
@@ -69,7 +69,7 @@ pub fn execute<I: Source, O: Sink, E: Sink>(
 /// Writes how a machine halted, and answers its status, or that the write failed.
 #[tactic(auto, using(crate::proofs::LinesOfNotes::no_lines), unfolding(crate::specs::Telling::ends_line))]
 pub fn tell_halt<E: Sink>(notes: &mut E, halt: Halt) -> Status
-    ensures noted { HaltNoted (sink_use E.held E.faults E.puts notes.old notes.new) halt result }
+    ensures noted { HaltNoted (sink_use E.Sink notes.old notes.new) halt result }
     ensures lines { PutsLines (E.puts notes.old) (E.puts notes.new) }
     ensures other { code_of result ≢ REFUSED }
 {

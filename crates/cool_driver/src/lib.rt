@@ -3,20 +3,23 @@
 //! Comes in: words, files, input. Goes out: output, notes and a status. It meets `specs/Ends.antt`.
 #![tactic(auto)]
 
-ghost use Rattle.std.specs.Prelude.{◌≡◌, ◌⊎◌, ℕ, List, Bool, Some, false};
+ghost use Rattle.std.specs.Prelude.{◌≡◌, ◌⊎◌, ℕ, List, Bool, IfOk, None, Option, Some, false};
 ghost use Rattle.cool_ports.specs.Answers.{Leaves};
 ghost use Rattle.cool_ports.specs.Counts.{Rose};
 ghost use Rattle.cool_ports.specs.ShelfFiles.{AskedFront};
 ghost use Rattle.cool_ports.specs.SinkBytes.{appended, GotPrefix};
 ghost use Rattle.cool_ports.specs.Taking.{Took};
 ghost use Rattle.cool_driver.specs.Calls.{call_of, shelf_use, sink_use};
-ghost use Rattle.cool_driver.specs.CommandLine.{words_of, asked_for, names_asked, IfSources, TakesNoInput};
+ghost use Rattle.cool_driver.specs.CommandLine.{words_of, asked_for, doing_of, names_asked, IfSources, TakesNoInput};
+ghost use Rattle.cool_driver.specs.Does.{DoesUnless};
 ghost use Rattle.cool_driver.specs.Notes.{usage_note};
 ghost use Rattle.cool_driver.specs.Ends.{Ends};
 ghost use Rattle.cool_driver.specs.Limits.{AreLimits};
+ghost use Rattle.cool_driver.specs.Outside.{outside, shelf_at, sink_at, source_at};
 ghost use Rattle.cool_driver.specs.Refusals.{PutsFaults};
-ghost use Rattle.cool_driver.specs.Statuses.{READ_FAULT, REFUSED};
+ghost use Rattle.cool_driver.specs.Statuses.{READ_FAULT, REFUSED, code_of};
 ghost use Rattle.cool_driver.specs.Telling.{PutsLines};
+ghost use Rattle.cool_words.specs.Plans.{Answers, Asked, IsWithinBounds, asked_by};
 ghost use Rattle.cool_words.specs.Plans.Asked.{session};
 
 mod commands;
@@ -51,7 +54,6 @@ pub const MOST_IMAGE_BYTES: u64 = 532_676_628;
 pub const MOST_BIG_OUTPUT: u64 = 65_536;
 
 /// Does what the words ask, and answers the exit status. The words are those after the program's own name.
-#[tactic(auto, unfolding(crate::specs::Telling::ends_line))]
 pub fn cool<F: Shelf, I: Source, O: Sink, E: Sink>(
     alloc: Global,
     words: &[String],
@@ -74,7 +76,7 @@ pub fn cool<F: Shelf, I: Source, O: Sink, E: Sink>(
 
     // Where source files are refused for their faults, it puts a line for each fault.
     ensures refused { result ≡ REFUSED → IfSources (asked_for (words_of words.now))
-        (λ names. PutsFaults names (shelf_use F.files F.faults F.asked F.gave files.old files.new) (E.puts notes.old) (E.puts notes.new)) }
+        (λ names. PutsFaults names (shelf_use F.Shelf files.old files.new) (E.puts notes.old) (E.puts notes.new)) }
 
     // Only `run`, `exec`, `debug`, `eval` and `session` take of the input.
     ensures input { TakesNoInput (words_of words.now) → input.new ≡ input.old }
@@ -88,10 +90,31 @@ pub fn cool<F: Shelf, I: Source, O: Sink, E: Sink>(
     // How it ends, by its status, for any input that begins with what it took, and is no more than that where the end was
     // answered.
     ensures ends { (given rest : List ℕ) → Leaves (I.past input.old) (I.past input.new) given rest
-        → Ends (call_of (words_of words.now) (shelf_use F.files F.faults F.asked F.gave files.old files.new) given rest (I.faults input.old) (I.faults input.new)
-        (sink_use O.held O.faults O.puts out.old out.new) (sink_use E.held E.faults E.puts notes.old notes.new)) result }
+        → Ends (call_of (words_of words.now) (shelf_use F.Shelf files.old files.new) given rest (I.faults input.old) (I.faults input.new)
+        (sink_use O.Sink out.old out.new) (sink_use E.Sink notes.old notes.new)) result }
 {
-    let status = match read_words(alloc, words) {
+    carry_out(alloc, read_words(alloc, words), files, input, out, notes).code()
+}
+
+/// Does what words ask, by what they were read as, and answers how that ends.
+#[tactic(auto, unfolding(crate::specs::Telling::ends_line))]
+fn carry_out<F: Shelf, I: Source, O: Sink, E: Sink>(
+    alloc: Global,
+    plan: Result<Plan, WordsError>,
+    files: &mut F,
+    input: &mut I,
+    out: &mut O,
+    notes: &mut E,
+) -> Status
+    requires { IfOk plan IsWithinBounds }
+    ensures input { (asked : Option Asked) → Answers asked_by asked plan → (doing_of asked).takes ≡ false → input.new ≡ input.old }
+    ensures unended { (asked : Option Asked) → Answers asked_by asked plan → asked ≡ Some session → code_of result ≡ READ_FAULT
+        → (I.past input.new).ends ≡ (I.past input.old).ends }
+    ensures does { (asked : Option Asked) → Answers asked_by asked plan → DoesUnless (asked ≡ None) (doing_of asked)
+        (outside (shelf_at F.Shelf files.old) (source_at I.Source input.old) (sink_at O.Sink out.old) (sink_at E.Sink notes.old))
+        (outside (shelf_at F.Shelf files.new) (source_at I.Source input.new) (sink_at O.Sink out.new) (sink_at E.Sink notes.new)) (code_of result) }
+{
+    match plan {
         Ok(Plan::Check { files: names }) => check_files(alloc, &names, files, notes),
         Ok(Plan::Asm { files: names }) => {
             build_files(alloc, Form::Text, &names, files, out, notes)
@@ -129,10 +152,11 @@ pub fn cool<F: Shelf, I: Source, O: Sink, E: Sink>(
         }
         Ok(Plan::Big { n }) => sum_up(alloc, n, out),
         Ok(Plan::Session) => hold_session(alloc, input, out, notes),
-        Err(WordsError::Usage) => tell(notes, Status::Usage, BAD_COMMAND_LINE),
-        Err(WordsError::Memory) => Status::Memory,
-    };
-    status.code()
+        Err(error) => match error {
+            WordsError::Usage => tell(notes, Status::Usage, BAD_COMMAND_LINE),
+            WordsError::Memory => Status::Memory,
+        },
+    }
 }
 
 /// Writes the note for words that cannot be had as text.

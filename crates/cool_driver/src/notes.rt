@@ -36,7 +36,7 @@ pub const READ_FAULT: &[u8] = b"cool: read fault\n";
 /// Writes a note at once and answers this status, or that the write failed.
 pub fn tell<E: Sink>(notes: &mut E, status: Status, note: &[u8]) -> Status
     requires { ends_line note.now ≡ true }
-    ensures noted { Noted (sink_use E.held E.faults E.puts notes.old notes.new) note.now status result }
+    ensures noted { Noted (sink_use E.Sink notes.old notes.new) note.now status result }
     ensures put { E.puts notes.new ≡ E.puts notes.old ++ note.now ∷ [] }
     ensures lines { PutsLines (E.puts notes.old) (E.puts notes.new) }
     ensures other { code_of status ≢ REFUSED → code_of result ≢ REFUSED }
@@ -50,7 +50,7 @@ pub fn tell<E: Sink>(notes: &mut E, status: Status, note: &[u8]) -> Status
 /// Writes lines one by one and answers this status, or that a write failed.
 pub fn tell_lines<E: Sink>(notes: &mut E, status: Status, lines: &[Vec<u8>]) -> Status
     requires { AreLines (texts lines.now) }
-    ensures noted { Noted (sink_use E.held E.faults E.puts notes.old notes.new) (note_of lines.now) status result }
+    ensures noted { Noted (sink_use E.Sink notes.old notes.new) (note_of lines.now) status result }
     ensures put { result ≢ Status.WriteFault → E.puts notes.new ≡ E.puts notes.old ++ texts lines.now }
     ensures lines { PutsLines (E.puts notes.old) (E.puts notes.new) }
 {

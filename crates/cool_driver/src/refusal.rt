@@ -107,7 +107,7 @@ fn lines_of_faults(
 /// Writes why the command goes no further, and answers the status of that, or that a write failed.
 pub fn tell_refusal<E: Sink>(notes: &mut E, refusal: &Refusal) -> Status
     requires { HasLines refusal.now }
-    ensures noted { RefusalNoted (sink_use E.held E.faults E.puts notes.old notes.new) refusal.now result }
+    ensures noted { RefusalNoted (sink_use E.Sink notes.old notes.new) refusal.now result }
     ensures lines { PutsLines (E.puts notes.old) (E.puts notes.new) }
     ensures put { (names : List (List ℕ)) (shelf : ShelfUse) → AreFaultLines names shelf refusal.now → code_of result ≡ REFUSED
         → PutsFaults names shelf (E.puts notes.old) (E.puts notes.new) }

@@ -34,9 +34,9 @@ pub fn read_program<F: Shelf>(
     ensures asked { AskedFront (unless_too_many (words_of names.now) (words_of names.now)) (F.asked files.old) (F.asked files.new) }
     ensures count { F.faults files.old ≤ F.faults files.new }
     ensures grew { OnOk result (GrewBy (length (words_of names.now)) (F.gave files.old) (F.gave files.new)) }
-    ensures program { IfOk result (IsProgram (shelf_use F.files F.faults F.asked F.gave files.old files.new) (words_of names.now)) }
-    ensures refused { IfErr result (IsTold (IsNoProgram (shelf_use F.files F.faults F.asked F.gave files.old files.new) (words_of names.now))) }
-    ensures lined { IfErr result (AreFaultLines (words_of names.now) (shelf_use F.files F.faults F.asked F.gave files.old files.new)) }
+    ensures program { IfOk result (IsProgram (shelf_use F.Shelf files.old files.new) (words_of names.now)) }
+    ensures refused { IfErr result (IsTold (IsNoProgram (shelf_use F.Shelf files.old files.new) (words_of names.now))) }
+    ensures lined { IfErr result (AreFaultLines (words_of names.now) (shelf_use F.Shelf files.old files.new)) }
 {
     match read_sources(alloc, names, MOST_SOURCE_BYTES, files) {
         Ok(contents) => accept_sources(alloc, names, &contents),
@@ -55,10 +55,10 @@ pub fn read_sources<F: Shelf>(
     ensures kept { F.files files.new ≡ F.files files.old }
     ensures asked { AskedFront (unless_too_many (words_of names.now) (words_of names.now)) (F.asked files.old) (F.asked files.new) }
     ensures count { F.faults files.old ≤ F.faults files.new }
-    ensures read { IfOk result (λ contents. AreRead (shelf_use F.files F.faults F.asked F.gave files.old files.new) most (words_of names.now) (texts contents.items)) }
+    ensures read { IfOk result (λ contents. AreRead (shelf_use F.Shelf files.old files.new) most (words_of names.now) (texts contents.items)) }
     ensures gave { IfOk result (λ contents. F.gave files.new ≡ F.gave files.old ++ texts contents.items) }
     ensures bytes { IfOk result (λ contents. AllByRecursion AreBytes (texts contents.items)) }
-    ensures refused { IfErr result (IsTold (IsDueUnread (shelf_use F.files F.faults F.asked F.gave files.old files.new) most (words_of names.now))) }
+    ensures refused { IfErr result (IsTold (IsDueUnread (shelf_use F.Shelf files.old files.new) most (words_of names.now))) }
 {
     if names.len() > MOST_FILES {
         return Err(refuse_by_line(alloc, Status::FileFault, TOO_MANY_FILES));

@@ -29,14 +29,14 @@ pub fn cool_over_system<R: Files, S: Read + Drop, O: Write, E: Write>(
     // How each command ends, by its status, as `ends` of `cool` says, by what the files gave, what the reader gave and what the writers took.
     ensures ends { (given rest : List ℕ) → Leaves (⟦<StdSource<S> as Source>⟧.past input.old) (⟦<StdSource<S> as Source>⟧.past input.new) given rest
         → Ends (call_of (words_of words.now)
-        (shelf_use ⟦<FileShelf<R> as Shelf>⟧.files ⟦<FileShelf<R> as Shelf>⟧.faults ⟦<FileShelf<R> as Shelf>⟧.asked ⟦<FileShelf<R> as Shelf>⟧.gave files.old files.new)
+        (shelf_use ⟦<FileShelf<R> as Shelf>⟧ files.old files.new)
         given rest (⟦<StdSource<S> as Source>⟧.faults input.old) (⟦<StdSource<S> as Source>⟧.faults input.new)
-        (sink_use ⟦<StdSink<O> as Sink>⟧.held ⟦<StdSink<O> as Sink>⟧.faults ⟦<StdSink<O> as Sink>⟧.puts out.old out.new)
-        (sink_use ⟦<StdSink<E> as Sink>⟧.held ⟦<StdSink<E> as Sink>⟧.faults ⟦<StdSink<E> as Sink>⟧.puts notes.old notes.new)) result }
+        (sink_use ⟦<StdSink<O> as Sink>⟧ out.old out.new)
+        (sink_use ⟦<StdSink<E> as Sink>⟧ notes.old notes.new)) result }
 
     // What this says of a program that `run` runs to its end, or to a limit.
     ensures ran { RunsAsSource (words_of words.now)
-        (shelf_use ⟦<FileShelf<R> as Shelf>⟧.files ⟦<FileShelf<R> as Shelf>⟧.faults ⟦<FileShelf<R> as Shelf>⟧.asked ⟦<FileShelf<R> as Shelf>⟧.gave files.old files.new)
+        (shelf_use ⟦<FileShelf<R> as Shelf>⟧ files.old files.new)
         (⟦<StdSource<S> as Source>⟧.past input.old) (⟦<StdSource<S> as Source>⟧.past input.new)
         (⟦<StdSink<O> as Sink>⟧.held out.old) (⟦<StdSink<O> as Sink>⟧.held out.new) result }
 {

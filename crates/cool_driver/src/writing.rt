@@ -15,8 +15,8 @@ const MOST_PIECE_BYTES: usize = 4_096;
 
 /// Writes the bytes in pieces of 4,096, the last one shorter, and answers `Done`, or that a write failed. No bytes are no write.
 pub fn write_pieces<O: Sink>(out: &mut O, bytes: &[u8]) -> Status
-    ensures noted { Noted (sink_use O.held O.faults O.puts out.old out.new) bytes.now Status.Done result }
-    ensures put { PutAsDue (pieces_of MOST_PIECE_BYTES bytes.now) (sink_use O.held O.faults O.puts out.old out.new) (code_of result) }
+    ensures noted { Noted (sink_use O.Sink out.old out.new) bytes.now Status.Done result }
+    ensures put { PutAsDue (pieces_of MOST_PIECE_BYTES bytes.now) (sink_use O.Sink out.old out.new) (code_of result) }
     ensures other { code_of result ≢ REFUSED }
 {
     match put_pieces(out, bytes, MOST_PIECE_BYTES) {

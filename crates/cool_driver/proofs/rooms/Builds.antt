@@ -1,6 +1,6 @@
 -- How a call of `asm` or `build` ends.
 use Rattle.cool_ports.specs.SinkPuts.{pieces_of}
-use Rattle.cool_driver.specs.{declared.writing.TheConstants.{MOST_PIECE_BYTES}, Calls.{Call, Request, ShelfUse, shelf_of}, Comes.{Comes, NoPieces, PutAsDue}, Ends.{Goes}, Sources.{AreKnown, IsNoProgram, IsProgram}}
+use Rattle.cool_driver.specs.{declared.writing.TheConstants.{MOST_PIECE_BYTES}, Calls.{Call, Request, ShelfUse, shelf_of}, Comes.{Comes, NoPieces, PutAsDue}, Does.{Goes}, Sources.{AreKnown, IsNoProgram, IsProgram}}
 use Rattle.cool_driver.specs.{commands.Build.{BuildEnds, DueToBuild, IsBuilt, IsCompiled, PiecesOfBuild, built_bytes}, declared.commands.build.Form.{Form}}
 use Rattle.std.proofs.Common.{Err, IfOk, List, Ok, Result, inl, inr, refl, subst, ℕ, ◌≡◌}
 use Rattle.std.specs.Global.{Vec}

@@ -3,7 +3,7 @@ use Rattle.std.specs.Prelude.{◌∷◌, codes}
 use Rattle.cool_driver.specs.Sources.{EndsWith, AreKnown, FilesExactly, IsNoProgram, IsProgram}
 use Rattle.cool_sources.specs.Reading.{IsCause}
 use Rattle.cool_driver.specs.{Calls.{Call, DidNothing, Got, Request, ShelfUse, SinkUse, UnlessCutShort, shelf_of}, Comes.{Comes, NoPieces}}
-use Rattle.cool_driver.specs.{Debugging.{commands_for, debug_notes, debuggee_within}, Ends.{Goes}}
+use Rattle.cool_driver.specs.{Debugging.{commands_for, debug_notes, debuggee_within}, Does.{Goes}}
 use Rattle.cool_driver.specs.Execution.{heap_of, note_of, note_of_halt, run_of, segments_within, stack_of, status_of, status_of_halt}
 use Rattle.cool_driver.specs.{Headline.{EndsAsImage, Headline, IsPartOfSource, StopsReading}, Notes.{missing_note, refused_note, script_note, too_large_note, unread_note}}
 use Rattle.cool_driver.specs.{Refusals.{IsLine, IsTold}, Statuses.{FILE_FAULT, code_of}, Telling.{HaltNoted, fault_note}}

@@ -6,7 +6,7 @@ use Rattle.cool_eval.specs.{Counts.{CountedEnd}, Ends.{Evaluates, IsPart, IsWhol
 use Rattle.cool_faults.specs.Verdicts.{IsAccepted}
 use Rattle.cool_ports.specs.{SinkBytes.{GotPrefix, appended}, SinkPuts.{PutFront, pieces_of}}
 use Rattle.cool_syntax.specs.declared.TheConstants.{MOST_SOURCE_BYTES}
-use Rattle.cool_driver.specs.{Calls.{Call, DidNothing, Got, Request, SinkUse, shelf_of}, Comes.{Comes, NoPieces, PutAsDue}, Ends.{Goes}, Evaluation.{note_of_end, status_of_end}}
+use Rattle.cool_driver.specs.{Calls.{Call, DidNothing, Got, Request, SinkUse, shelf_of}, Comes.{Comes, NoPieces, PutAsDue}, Does.{Goes}, Evaluation.{note_of_end, status_of_end}}
 use Rattle.cool_driver.specs.{Notes.{read_fault_note, step_limit_note}, Sources.{AreKnown, IsNoProgram, IsProgram, SourcesExactly}, Statuses.{OUT_OF_MEMORY, WRITE_FAULT, code_of}, Telling.{Noted}}
 use Rattle.cool_driver.specs.{commands.Eval.{CutShort, DueToEval, EndsAs, EvalEnds, FailsToNote, FailsToWrite, PiecesOfEval}, declared.status.Status.{Status}}
 use Rattle.cool_driver.proofs.{ComesOfRefusals.{DueToRefusal, comes_map, goes_map}, PutsOfCalls.{put_cut, put_refused, put_short, put_unread, put_whole}}

@@ -3,7 +3,7 @@ use Rattle.std.proofs.Common.{Err, IfErr, IfOk, List, Ok, Result, [], ap, arith,
 use Rattle.std.specs.Global.{Vec}
 use Rattle.cool_words.specs.declared.plan.RunLimits.{RunLimits}
 use Rattle.mips_isa.specs.{ImageBounds.{ImageParts}, declared.asm_fault.AsmFault.{AsmFault}}
-use Rattle.cool_driver.specs.{Calls.{Call, Request, ShelfUse, shelf_of}, Comes.{Comes, NoPieces, PutAsDue}, Contents.{texts}, Ends.{Goes}}
+use Rattle.cool_driver.specs.{Calls.{Call, Request, ShelfUse, shelf_of}, Comes.{Comes, NoPieces, PutAsDue}, Contents.{texts}, Does.{Goes}}
 use Rattle.cool_driver.specs.{Execution.{IsRunnable, IsTextFault, is_text_file, run_of, status_of}, Notes.{asm_note}, Refusals.{IsTold}, Runs.{DueToRun, PiecesOfRun, puts_of_run}}
 use Rattle.cool_driver.specs.{Sources.{AreRead}, commands.Exec.{DueToExec, ExecEnds, FileIsKnown, FileIsRead, IsDueToBytes, IsLoaded, IsNoImage, PiecesOfExec}}
 use Rattle.cool_driver.specs.{declared.TheConstants.{MOST_IMAGE_BYTES}, declared.refusal.Refusal.{Refusal}}

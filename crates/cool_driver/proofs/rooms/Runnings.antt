@@ -7,7 +7,7 @@ use Rattle.cool_simulation.specs.Accord.{Means}
 use Rattle.cool_syntax.specs.declared.TheConstants.{MOST_SOURCE_BYTES}
 use Rattle.cool_words.specs.Plans.{RunAsked}
 use Rattle.mips_isa.specs.{Assembly.{image_of}, ImageBounds.{ImageParts}}
-use Rattle.cool_driver.specs.{Calls.{Call, DidNothing, Got, GotPart, Request, shelf_of}, Comes.{Comes, NoPieces, PutAsDue}, Compiled.{IsImageFor, compiled_program}, Ends.{Goes}}
+use Rattle.cool_driver.specs.{Calls.{Call, DidNothing, Got, GotPart, Request, shelf_of}, Comes.{Comes, NoPieces, PutAsDue}, Compiled.{IsImageFor, compiled_program}, Does.{Goes}}
 use Rattle.cool_driver.specs.{Execution.{run_of, status_of}, Headline.{Headline}, Runs.{DueToRun, PiecesOfRun, puts_of_run}, Sources.{AreKnown, IsNoProgram}}
 use Rattle.cool_driver.specs.commands.Run.{DueToRunning, IsRunFor, PiecesOfRunning, RunEnds}
 use Rattle.cool_driver.proofs.{ComesOfRefusals.{DueToRefusal, comes_map, goes_map}, ComesOfRuns.{run_so, run_status}, DevicesOfCalls.{came}, HeadlineOfRuns.{headline_cut, headline_due}, PutsOfCalls.{put_refused}}

@@ -3,7 +3,7 @@ use Rattle.std.proofs.Common.{Err, List, Ok, Result, [], ap, arith, inl, inr, re
 use Rattle.cool_ports.specs.Counts.{Rose}
 use Rattle.cool_session.proofs.OneExchange.{one_exchange}
 use Rattle.cool_session.specs.{Conversations.{Conversed, Counted}, Held.{nothing_held}, declared.ending.Ending.{Ending}, declared.ending.Interruption.{Interruption}}
-use Rattle.cool_driver.specs.{Calls.{Call, DidNothing, Got}, Ends.{Goes}, Notes.{ending_note, read_fault_note}, Statuses.{code_of}, Telling.{NotedIfMade}}
+use Rattle.cool_driver.specs.{Calls.{Call, DidNothing, Got}, Does.{Goes}, Notes.{ending_note, read_fault_note}, Statuses.{code_of}, Telling.{NotedIfMade}}
 use Rattle.cool_driver.specs.{commands.Session.{DueToSession, SessionComes, SessionEnds, SessionWent, status_of_ending}, declared.status.Status.{Status}}
 use Rattle.cool_driver.proofs.DevicesOfCalls.{IsFinished, cut_goes, finished_goes, is_noted, short_goes}
 use Rattle.cool_session.specs.Exchanges as exchange

@@ -1,5 +1,5 @@
 -- What `big` writes: how the large program of a number comes out, compiled and run within the usual limits over no input.
-use Rattle.std.specs.{Prelude.{◌≡◌, ℕ, ◌+◌, ◌<◌, ◌≤◌, List, [], ◌∷◌, ◌++◌, length, codes, decimal, refl}, Fmt.{digits}}
+use Rattle.std.specs.{Prelude.{◌≡◌, ℕ, ◌+◌, ◌<◌, ◌≤◌, List, [], ◌∷◌, ◌++◌, length, codes, decimal, refl, None, false}, Fmt.{digits}}
 use Rattle.cool_big.specs.BigPrograms.{big_text}
 use Rattle.cool_classes.specs.Chains.{Class}
 use Rattle.cool_faults.specs.{declared.fault.Fault.{Fault}, Verdicts.{IsAccepted, IsRefused}}
@@ -8,7 +8,7 @@ use Rattle.cool_emit.specs.Programs.{program_lines}
 use Rattle.cool_meaning.specs.SourceRun as source
 use Rattle.cool_simulation.specs.Accord.{Accord}
 use Rattle.cool_words.specs.Plans.{usual_limits}
-use Rattle.cool_driver.specs.{Calls.{Request, Call, Got, UnlessCutShort}, Comes.{Comes}, Statuses.{DONE, REFUSED, WRITE_FAULT}, Execution.{run_of, status_of}, Headline.{limits_of}}
+use Rattle.cool_driver.specs.{Calls.{Request, Call, Got, UnlessCutShort}, Comes.{Comes}, Does.{Doing}, Statuses.{DONE, REFUSED, WRITE_FAULT}, Execution.{run_of, status_of}, Headline.{limits_of}}
 use Rattle.cool_driver.specs.declared.TheConstants.{MOST_BIG_OUTPUT}
 use Rattle.spim_debug.specs.Notes.{state_in}
 
@@ -66,3 +66,7 @@ pub data PiecesOfBig (n : ℕ) (r : Request) : List ℕ → List ℕ → List �
 pub record BigEnds (n : ℕ) (c : Call) (status : ℕ) : Type 0 where
   pub comes : Comes (DueToBig n c.request) (PiecesOfBig n c.request) c status
   pub summed_exactly : UnlessCutShort status ((status ≡ DONE) × (line : List ℕ) × IsBigLine n line × Got c.out line)
+
+-- What `big` does with this number.
+abbrev pub summing : ℕ → Doing
+summing n = record { asked = []; sources = None; takes = false; ends = BigEnds n }

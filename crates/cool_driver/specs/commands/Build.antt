@@ -1,5 +1,5 @@
 -- What `asm` and `build` promise: the lines or the image of the program that their files are, which mean it, and else why they are none.
-use Rattle.std.specs.Prelude.{◌≡◌, ℕ, List, []}
+use Rattle.std.specs.Prelude.{◌≡◌, ℕ, List, [], Some, false}
 use Rattle.cool_syntax.specs.declared.TheConstants.{MOST_SOURCE_BYTES}
 use Rattle.cool_classes.specs.Chains.{Class}
 use Rattle.cool_faults.specs.Verdicts.{IsAccepted}
@@ -10,7 +10,7 @@ use Rattle.mips_isa.specs.Assembly.{image_of}
 use Rattle.mips_image.specs.{ImageBytes.{image_bytes}, declared.stored_image.TheConstants.{CHECKED_VERSION}}
 use Rattle.mips_text.specs.Printing.{printed}
 use Rattle.cool_driver.specs.{Calls.{Request, Call, Got, ShelfUse, shelf_of, UnlessCutShort}, Comes.{Comes, PutAsDue}, Execution.{IsAssembled}}
-use Rattle.cool_driver.specs.{Sources.{AreKnown, IsProgram, IsNoProgram, SourcesExactly}, Statuses.{DONE}, declared.writing.TheConstants.{MOST_PIECE_BYTES}}
+use Rattle.cool_driver.specs.{Does.{Doing}, Sources.{AreKnown, IsProgram, IsNoProgram, SourcesExactly, unless_too_many}, Statuses.{DONE}, declared.writing.TheConstants.{MOST_PIECE_BYTES}}
 use Rattle.cool_driver.specs.{declared.commands.build.Form.{Form}, declared.commands.build.Form.TheVariants.{Text, Image}}
 
 -- what `asm` and `build` write for a program whose files have these names: its lines, and the image of its lines in the version of checked
@@ -50,3 +50,7 @@ pub record BuildEnds (form : Form) (names : List (List ℕ)) (c : Call) (status 
   pub built_means : (contents : List (List ℕ)) (p : List Class) → AreKnown (shelf_of c.request) MOST_SOURCE_BYTES names contents
       → IsAccepted contents p → UnlessCutShort status (IsCompiled p names)
   pub sources : SourcesExactly names c status
+
+-- What `asm` and `build` do with files of these names.
+abbrev pub building : Form → List (List ℕ) → Doing
+building form names = record { asked = unless_too_many names names; sources = Some names; takes = false; ends = BuildEnds form names }

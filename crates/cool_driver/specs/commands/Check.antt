@@ -1,9 +1,9 @@
 -- What `check` promises: no note and status 0 where its files are a program, and else why they are none.
-use Rattle.std.specs.Prelude.{◌≡◌, ◌≢◌, ℕ, List, []}
+use Rattle.std.specs.Prelude.{◌≡◌, ◌≢◌, ℕ, List, [], Some, false}
 use Rattle.cool_syntax.specs.declared.TheConstants.{MOST_SOURCE_BYTES}
 use Rattle.cool_classes.specs.Chains.{Class}
 use Rattle.cool_faults.specs.{declared.fault.Fault.{Fault}, Verdicts.{IsFaultList}}
-use Rattle.cool_driver.specs.{Calls.{Request, Call, shelf_of, UnlessCutShort}, Comes.{Comes, NoPieces}, Sources.{AreKnown, IsProgram, IsNoProgram, SourcesExactly}}
+use Rattle.cool_driver.specs.{Calls.{Request, Call, shelf_of, UnlessCutShort}, Comes.{Comes, NoPieces}, Does.{Doing}, Sources.{AreKnown, IsProgram, IsNoProgram, SourcesExactly, unless_too_many}}
 use Rattle.cool_driver.specs.Statuses.{DONE, REFUSED}
 
 pub data DueToCheck (names : List (List ℕ)) (r : Request) : ℕ → List ℕ → List ℕ → List ℕ → Type 0 where
@@ -18,3 +18,7 @@ pub record CheckEnds (names : List (List ℕ)) (c : Call) (status : ℕ) : Type 
       → IsFaultList contents faults
       → UnlessCutShort status ((faults ≡ [] → status ≡ DONE) × (faults ≢ [] → status ≡ REFUSED))
   pub sources : SourcesExactly names c status
+
+-- What `check` does with files of these names.
+abbrev pub checking : List (List ℕ) → Doing
+checking names = record { asked = unless_too_many names names; sources = Some names; takes = false; ends = CheckEnds names }

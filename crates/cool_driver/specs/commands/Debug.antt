@@ -1,6 +1,6 @@
 -- What `debug` promises: the run of the image for the program that its files are, within the limits, with the notes that its script asks for, and
 -- else why there is none.
-use Rattle.std.specs.Prelude.{◌≡◌, ◌≢◌, ℕ, ◌<◌, ◌≤◌, ◌⊎◌, List, [], ◌∷◌, ◌++◌, length, Some, None, Ok, Err}
+use Rattle.std.specs.Prelude.{◌≡◌, ◌≢◌, ℕ, ◌<◌, ◌≤◌, ◌⊎◌, List, [], ◌∷◌, ◌++◌, length, Some, None, Ok, Err, true}
 use Rattle.cool_syntax.specs.declared.TheConstants.{MOST_FILES, MOST_SOURCE_BYTES}
 use Rattle.cool_classes.specs.Chains.{Class}
 use Rattle.cool_emit.specs.Programs.{program_lines}
@@ -13,10 +13,10 @@ use Rattle.spim_debug.specs.{declared.script.ScriptFault.{ScriptFault}, declared
 use Rattle.spim_debug.specs.declared.debugger.DebugEnd.TheVariants as end
 use Rattle.spim_machine.specs.declared.halt.Halt.TheVariants as halt
 use Rattle.cool_words.specs.{Plans.{IsBounded}, declared.plan.RunLimits.{RunLimits}}
-use Rattle.cool_driver.specs.{Calls.{Request, Call, SinkUse, Got, GotPart, ShelfUse, shelf_of, HasTold, UnlessCutShort, DidNothing}, Comes.{Comes, NoPieces}}
+use Rattle.cool_driver.specs.{Calls.{Request, Call, SinkUse, Got, GotPart, ShelfUse, shelf_of, HasTold, UnlessCutShort, DidNothing}, Comes.{Comes, NoPieces}, Does.{Doing}}
 use Rattle.cool_driver.specs.{Debugging.{commands_for, debuggee_within, debug_notes}, Execution.{run_of, status_of, note_of}, Headline.{Headline, IsPartOfSource}}
 use Rattle.cool_driver.specs.Notes.{missing_note, unread_note, too_many_note, too_large_note, refused_note, read_fault_note, script_note}
-use Rattle.cool_driver.specs.{Sources.{AreKnown, EndsWith, IsProgram, IsNoProgram, FilesExactly}, Statuses.{REFUSED, READ_FAULT, WRITE_FAULT, OUT_OF_MEMORY, FILE_FAULT, UNFIT}}
+use Rattle.cool_driver.specs.{Sources.{AreKnown, EndsWith, IsProgram, IsNoProgram, FilesExactly, unless_too_many}, Statuses.{REFUSED, READ_FAULT, WRITE_FAULT, OUT_OF_MEMORY, FILE_FAULT, UNFIT}}
 use Rattle.lists.specs.Bytes.{AreBytes}
 
 -- The script of this name has these bytes, as far as the shelf tells, and is not too large.
@@ -160,3 +160,7 @@ pub record DebugEnds (script : List ℕ) (names : List (List ℕ)) (limits : Run
   pub refused_exactly : (contents : List (List ℕ)) (bytes : List ℕ) (faults : List Fault)
       → AreKnown (shelf_of c.request) MOST_SOURCE_BYTES names contents → ScriptIsKnown (shelf_of c.request) script bytes contents
       → IsFaultList contents faults → faults ≢ [] → UnlessCutShort status ((status ≡ REFUSED) × Got c.notes (refused_note names faults))
+
+-- What `debug` does with a script and files of these names, within limits.
+abbrev pub debugging : (script : List ℕ) → (names : List (List ℕ)) → RunLimits → Doing
+debugging script names limits = record { asked = unless_too_many names (script ∷ names); sources = Some names; takes = true; ends = DebugEnds script names limits }

@@ -1,10 +1,10 @@
 -- What `session` promises: it reads commands from the input and puts their replies to the output, as a session over the input does, and ends
 -- with the status and the note of its end.
-use Rattle.std.specs.{Prelude.{◌≡◌, ◌⊎◌, ℕ, List, [], Result, Ok, Err}, List.{concat}}
+use Rattle.std.specs.{Prelude.{◌≡◌, ◌⊎◌, ℕ, List, [], Result, Ok, Err, None, true}, List.{concat}}
 use Rattle.cool_session.specs.{declared.ending.Ending.{Ending}, declared.ending.Ending.TheVariants.{Over, BadCommand, EndsInFile, TooLarge}}
 use Rattle.cool_session.specs.{declared.ending.Interruption.{Interruption}, declared.ending.Interruption.TheVariants.{Memory}, Conversations.{Conversed}}
 use Rattle.cool_session.specs.Exchanges.{Exchange, Unread, Unwritten}
-use Rattle.cool_driver.specs.{Notes.{ending_note, read_fault_note}, Calls.{Got, GotPart, Call, UnlessCutShort}, Statuses.{DONE, READ_FAULT, WRITE_FAULT, OUT_OF_MEMORY, UNFIT}}
+use Rattle.cool_driver.specs.{Notes.{ending_note, read_fault_note}, Calls.{Got, GotPart, Call, UnlessCutShort}, Does.{Doing}, Statuses.{DONE, READ_FAULT, WRITE_FAULT, OUT_OF_MEMORY, UNFIT}}
 
 -- the status of an end: 0 at `quit` or at the end of the input before a line's first byte, and 12 at B3, B4 and B5
 abbrev pub status_of_ending : Ending → ℕ
@@ -68,3 +68,7 @@ pub record SessionEnds (c : Call) (status : ℕ) : Type 0 where
   -- input is left, unless a read failed
   pub session_exactly : (replies : List (List ℕ)) (end : Ending) (left : List ℕ) → Exchange c.request.input replies end left
       → UnlessCutShort status ((status ≡ READ_FAULT) ⊎ EndsAsSession c status replies end left)
+
+-- What `session` does.
+abbrev pub conversing : Doing
+conversing = record { asked = []; sources = None; takes = true; ends = SessionEnds }

@@ -1,18 +1,18 @@
 //! The command `big`: a large program, compiled and run, and one line about it.
 
-ghost use Rattle.std.specs.Prelude.{◌≡◌, ◌≤◌, ℕ, List, [], ◌∷◌, length, IfOk, map, string_bytes};
+ghost use Rattle.std.specs.Prelude.{◌≡◌, ◌≤◌, [], length, IfOk, string_bytes};
 ghost use Rattle.std.specs.List.{AllByRecursion};
 ghost use Rattle.cool_faults.specs.Files.{total};
 ghost use Rattle.lists.specs.Bytes.{AreBytes};
-ghost use Rattle.cool_syntax.specs.declared.TheConstants.{MOST_FILES, MOST_SOURCE_BYTES};
+ghost use Rattle.cool_syntax.specs.declared.TheConstants.{MOST_SOURCE_BYTES};
 ghost use Rattle.cool_words.specs.Numbers.{IsWithin};
 ghost use Rattle.cool_words.specs.Plans.{usual_limits};
+ghost use Rattle.cool_driver.specs.Does.{Does};
 ghost use Rattle.cool_driver.specs.Execution.{run_of};
-ghost use Rattle.cool_driver.specs.Calls.{Got, ShelfUse, SinkUse, sink_use, untaking};
 ghost use Rattle.cool_driver.specs.Contents.{texts};
-ghost use Rattle.cool_driver.specs.Ends.{Goes};
+ghost use Rattle.cool_driver.specs.Outside.{ShelfState, SourceState, SinkState, outside, sink_at};
 ghost use Rattle.cool_driver.specs.Statuses.{code_of};
-ghost use Rattle.cool_driver.specs.commands.Big.{BigEnds, ComesOut, RunsTo, IsBigLine};
+ghost use Rattle.cool_driver.specs.commands.Big.{ComesOut, RunsTo, IsBigLine, summing};
 
 use crate::MOST_BIG_OUTPUT;
 use crate::execution::machine_limits;
@@ -40,9 +40,9 @@ struct Outcome {
 /// Writes the line about the large program of n, or nothing, where memory ran out for it.
 pub fn sum_up<O: Sink>(alloc: Global, n: u32, out: &mut O) -> Status
     requires { IsWithin 1 300 n }
-    ensures { (words : List (List ℕ)) (shelf : ShelfUse) (input : List ℕ) (faults : ℕ) (notes : SinkUse)
-        → shelf.faults_after ≡ shelf.faults_before → Got notes []
-        → Goes (BigEnds n) (untaking words shelf input faults (sink_use O.held O.faults O.puts out.old out.new) notes) (code_of result) }
+    ensures { (shelf : ShelfState) (input : SourceState) (notes : SinkState)
+        → Does (summing n) (outside shelf input (sink_at O.Sink out.old) notes)
+        (outside shelf input (sink_at O.Sink out.new) notes) (code_of result) }
 {
     match big_line(alloc, n) {
         Ok(line) => write_pieces(out, line.as_bytes()),

@@ -1,17 +1,17 @@
 //! The commands `asm` and `build`: the lines or the image of a program, written to the output.
 
-ghost use Rattle.std.specs.Prelude.{◌≡◌, ◌<◌, ◌≤◌, ℕ, List, [], length, IfErr, IfOk, true};
+ghost use Rattle.std.specs.Prelude.{◌≡◌, ◌<◌, ◌≤◌, length, IfErr, IfOk, true};
 ghost use Rattle.cool_ports.specs.ShelfFiles.{AskedFront};
 ghost use Rattle.std.specs.List.{list_all};
 ghost use Rattle.cool_rules.specs.Fits.{Fits};
 ghost use Rattle.cool_words.specs.Plans.{is_file_name, words_of};
-ghost use Rattle.cool_driver.specs.Calls.{Got, SinkUse, shelf_use, sink_use, untaking};
-ghost use Rattle.cool_driver.specs.Ends.{Goes};
-ghost use Rattle.cool_driver.specs.Refusals.{AreFaultLines, IsTold, PutsFaults};
+ghost use Rattle.cool_driver.specs.Calls.{shelf_use};
+ghost use Rattle.cool_driver.specs.Does.{Does};
+ghost use Rattle.cool_driver.specs.Outside.{SourceState, outside, shelf_at, sink_at};
+ghost use Rattle.cool_driver.specs.Refusals.{AreFaultLines, IsTold};
 ghost use Rattle.cool_driver.specs.Sources.{IsNoProgram, unless_too_many};
-ghost use Rattle.cool_driver.specs.Statuses.{REFUSED, code_of};
-ghost use Rattle.cool_driver.specs.Telling.{PutsLines};
-ghost use Rattle.cool_driver.specs.commands.Build.{BuildEnds, IsBuilt, built_bytes};
+ghost use Rattle.cool_driver.specs.Statuses.{code_of};
+ghost use Rattle.cool_driver.specs.commands.Build.{IsBuilt, built_bytes, building};
 
 use crate::refusal::{Refusal, tell_refusal};
 use crate::sources::read_program;
@@ -44,13 +44,9 @@ pub fn build_files<F: Shelf, O: Sink, E: Sink>(
 ) -> Status
     requires some { 0 < length names.now }
     requires names { list_all is_file_name (words_of names.now) ≡ true }
-    ensures kept { F.files files.new ≡ F.files files.old }
-    ensures asked { AskedFront (unless_too_many (words_of names.now) (words_of names.now)) (F.asked files.old) (F.asked files.new) }
-    ensures lines { PutsLines (E.puts notes.old) (E.puts notes.new) }
-    ensures refused { code_of result ≡ REFUSED → PutsFaults (words_of names.now) (shelf_use F.files F.faults F.asked F.gave files.old files.new) (E.puts notes.old) (E.puts notes.new) }
-    ensures ends { (words : List (List ℕ)) (input : List ℕ) (faults : ℕ)
-        → Goes (BuildEnds form (words_of names.now)) (untaking words (shelf_use F.files F.faults F.asked F.gave files.old files.new) input faults
-        (sink_use O.held O.faults O.puts out.old out.new) (sink_use E.held E.faults E.puts notes.old notes.new)) (code_of result) }
+    ensures { (input : SourceState)
+        → Does (building form (words_of names.now)) (outside (shelf_at F.Shelf files.old) input (sink_at O.Sink out.old) (sink_at E.Sink notes.old))
+        (outside (shelf_at F.Shelf files.new) input (sink_at O.Sink out.new) (sink_at E.Sink notes.new)) (code_of result) }
 {
     match make_bytes(alloc, form, names, files) {
         Ok(bytes) => write_pieces(out, &bytes),
@@ -70,9 +66,9 @@ fn make_bytes<F: Shelf>(
     ensures kept { F.files files.new ≡ F.files files.old }
     ensures asked { AskedFront (unless_too_many (words_of names.now) (words_of names.now)) (F.asked files.old) (F.asked files.new) }
     ensures count { F.faults files.old ≤ F.faults files.new }
-    ensures built { IfOk result (λ bytes. IsBuilt form (words_of names.now) (shelf_use F.files F.faults F.asked F.gave files.old files.new) bytes.items) }
-    ensures refused { IfErr result (IsTold (IsNoProgram (shelf_use F.files F.faults F.asked F.gave files.old files.new) (words_of names.now))) }
-    ensures lined { IfErr result (AreFaultLines (words_of names.now) (shelf_use F.files F.faults F.asked F.gave files.old files.new)) }
+    ensures built { IfOk result (λ bytes. IsBuilt form (words_of names.now) (shelf_use F.Shelf files.old files.new) bytes.items) }
+    ensures refused { IfErr result (IsTold (IsNoProgram (shelf_use F.Shelf files.old files.new) (words_of names.now))) }
+    ensures lined { IfErr result (AreFaultLines (words_of names.now) (shelf_use F.Shelf files.old files.new)) }
 {
     match read_program(alloc, names, files) {
         Ok(program) => write_program(alloc, form, &program, names),

@@ -11,14 +11,16 @@ ghost use Rattle.cool_words.specs.Plans.{IsBounded, is_file_name, words_of};
 ghost use Rattle.mips_isa.specs.Assembly.{fault_of, image_of};
 ghost use Rattle.mips_isa.specs.Lines.{lines_of, AreInRange};
 ghost use Rattle.spim_debug.specs.Debugging.{IsScriptFor};
-ghost use Rattle.cool_driver.specs.Calls.{Request, request_of, shelf_use, sink_use};
+ghost use Rattle.cool_driver.specs.Calls.{Request, shelf_use, sink_use};
 ghost use Rattle.cool_driver.specs.Debugging.{commands_for};
-ghost use Rattle.cool_driver.specs.Ends.{Goes};
+ghost use Rattle.cool_driver.specs.Does.{Does};
+ghost use Rattle.cool_driver.specs.Does.{Goes};
+ghost use Rattle.cool_driver.specs.Outside.{outside, shelf_at, sink_at, source_at};
 ghost use Rattle.cool_driver.specs.Sources.{EndsWith, unless_too_many};
-ghost use Rattle.cool_driver.specs.Refusals.{AreFaultLines, IsTold, PutsFaults};
+ghost use Rattle.cool_driver.specs.Refusals.{AreFaultLines, IsTold};
 ghost use Rattle.cool_driver.specs.Statuses.{REFUSED, code_of};
 ghost use Rattle.cool_driver.specs.Telling.{PutsLines};
-ghost use Rattle.cool_driver.specs.commands.Debug.{DebugEnds, Debugs, IsDebuggee, IsDueToScript, IsDueUnscripted, IsNoDebuggee, ScriptIsRead};
+ghost use Rattle.cool_driver.specs.commands.Debug.{Debugs, IsDebuggee, IsDueToScript, IsDueUnscripted, IsNoDebuggee, ScriptIsRead, debugging};
 
 use crate::execution::{machine_limits, tell_halt};
 use crate::notes::{TOO_MANY_FILES, script_note};
@@ -57,20 +59,9 @@ pub fn debug_files<F: Shelf, I: Source, O: Sink, E: Sink>(
     requires some { 0 < length names.now }
     requires names { list_all is_file_name (words_of names.now) ≡ true }
     requires limits { IsBounded limits }
-    ensures kept { F.files files.new ≡ F.files files.old }
-    ensures asked { AskedFront (unless_too_many (words_of names.now) (script.now ∷ words_of names.now)) (F.asked files.old) (F.asked files.new) }
-    ensures lines { PutsLines (E.puts notes.old) (E.puts notes.new) }
-    ensures refused { code_of result ≡ REFUSED → PutsFaults (words_of names.now) (shelf_use F.files F.faults F.asked F.gave files.old files.new) (E.puts notes.old) (E.puts notes.new) }
-    ensures taken { (ended : Bool) × Took false ended (I.past input.old) (I.past input.new) (I.left input.old) (I.left input.new) }
-    ensures ends { (words : List (List ℕ)) (given rest : List ℕ) → Leaves (I.past input.old) (I.past input.new) given rest
-        → Goes (DebugEnds script.now (words_of names.now) limits) (record {
-          request = request_of words (shelf_use F.files F.faults F.asked F.gave files.old files.new) given;
-          out = sink_use O.held O.faults O.puts out.old out.new;
-          notes = sink_use E.held E.faults E.puts notes.old notes.new;
-          left = rest;
-          input_before = I.faults input.old;
-          input_after = I.faults input.new;
-        }) (code_of result) }
+    ensures { Does (debugging script.now (words_of names.now) limits)
+        (outside (shelf_at F.Shelf files.old) (source_at I.Source input.old) (sink_at O.Sink out.old) (sink_at E.Sink notes.old))
+        (outside (shelf_at F.Shelf files.new) (source_at I.Source input.new) (sink_at O.Sink out.new) (sink_at E.Sink notes.new)) (code_of result) }
 {
     match read_debuggee(alloc, script, names, files) {
         Ok(scripted) => {
@@ -100,10 +91,10 @@ fn read_debuggee<F: Shelf>(
     ensures kept { F.files files.new ≡ F.files files.old }
     ensures asked { AskedFront (unless_too_many (words_of names.now) (script.now ∷ words_of names.now)) (F.asked files.old) (F.asked files.new) }
     ensures count { F.faults files.old ≤ F.faults files.new }
-    ensures debuggee { IfOk result (λ x. IsDebuggee script.now (words_of names.now) (shelf_use F.files F.faults F.asked F.gave files.old files.new) x.image x.commands.items) }
+    ensures debuggee { IfOk result (λ x. IsDebuggee script.now (words_of names.now) (shelf_use F.Shelf files.old files.new) x.image x.commands.items) }
     ensures script { IfOk result (λ x. IsScriptFor x.image.text x.commands.items) }
-    ensures refused { IfErr result (IsTold (IsNoDebuggee script.now (words_of names.now) (shelf_use F.files F.faults F.asked F.gave files.old files.new))) }
-    ensures lined { IfErr result (AreFaultLines (words_of names.now) (shelf_use F.files F.faults F.asked F.gave files.old files.new)) }
+    ensures refused { IfErr result (IsTold (IsNoDebuggee script.now (words_of names.now) (shelf_use F.Shelf files.old files.new))) }
+    ensures lined { IfErr result (AreFaultLines (words_of names.now) (shelf_use F.Shelf files.old files.new)) }
 {
     if names.len() > MOST_FILES {
         return Err(refuse_by_line(alloc, Status::FileFault, TOO_MANY_FILES));
@@ -121,8 +112,8 @@ fn read_bytes<F: Shelf>(alloc: Global, script: &str, files: &mut F) -> Result<Ve
     ensures count { F.faults files.old ≤ F.faults files.new }
     ensures calm { OnOk result (F.faults files.new ≡ F.faults files.old) }
     ensures gave { IfOk result (λ bytes. F.gave files.new ≡ F.gave files.old ++ bytes.items ∷ []) }
-    ensures read { IfOk result (λ bytes. ScriptIsRead (shelf_use F.files F.faults F.asked F.gave files.old files.new) script.now bytes.items) }
-    ensures refused { IfErr result (IsTold (IsDueUnscripted (shelf_use F.files F.faults F.asked F.gave files.old files.new) script.now)) }
+    ensures read { IfOk result (λ bytes. ScriptIsRead (shelf_use F.Shelf files.old files.new) script.now bytes.items) }
+    ensures refused { IfErr result (IsTold (IsDueUnscripted (shelf_use F.Shelf files.old files.new) script.now)) }
 {
     match files.read(alloc, script, MOST_SCRIPT_BYTES) {
         Ok(bytes) => Ok(bytes),
@@ -143,15 +134,15 @@ fn read_scripted<F: Shelf>(
 ) -> Result<Scripted, Refusal>
     requires some { 0 < length names.now }
     requires names { list_all is_file_name (words_of names.now) ≡ true }
-    requires read { ScriptIsRead (shelf_use F.files F.faults F.asked F.gave files.old files.old) script.now bytes.now }
+    requires read { ScriptIsRead (shelf_use F.Shelf files.old files.old) script.now bytes.now }
     requires gave { EndsWith (bytes.now ∷ []) (F.gave files.old) }
     ensures kept { F.files files.new ≡ F.files files.old }
     ensures asked { AskedFront (unless_too_many (words_of names.now) (words_of names.now)) (F.asked files.old) (F.asked files.new) }
     ensures count { F.faults files.old ≤ F.faults files.new }
-    ensures debuggee { IfOk result (λ x. IsDebuggee script.now (words_of names.now) (shelf_use F.files F.faults F.asked F.gave files.old files.new) x.image x.commands.items) }
+    ensures debuggee { IfOk result (λ x. IsDebuggee script.now (words_of names.now) (shelf_use F.Shelf files.old files.new) x.image x.commands.items) }
     ensures script { IfOk result (λ x. IsScriptFor x.image.text x.commands.items) }
-    ensures refused { IfErr result (IsTold (IsNoDebuggee script.now (words_of names.now) (shelf_use F.files F.faults F.asked F.gave files.old files.new))) }
-    ensures lined { IfErr result (AreFaultLines (words_of names.now) (shelf_use F.files F.faults F.asked F.gave files.old files.new)) }
+    ensures refused { IfErr result (IsTold (IsNoDebuggee script.now (words_of names.now) (shelf_use F.Shelf files.old files.new))) }
+    ensures lined { IfErr result (AreFaultLines (words_of names.now) (shelf_use F.Shelf files.old files.new)) }
 {
     match read_program(alloc, names, files) {
         Ok(program) => script_program(alloc, script, bytes, names, &program),
@@ -221,8 +212,8 @@ fn debug_image<I: Source, O: Sink, E: Sink>(
     ensures ends { (r : Request) (rest : List ℕ) → r.faults_after ≡ r.faults_before
         → Leaves (I.past input.old) (I.past input.new) r.input rest → Goes (Debugs limits image.now commands.now) (record {
           request = r;
-          out = sink_use O.held O.faults O.puts out.old out.new;
-          notes = sink_use E.held E.faults E.puts notes.old notes.new;
+          out = sink_use O.Sink out.old out.new;
+          notes = sink_use E.Sink notes.old notes.new;
           left = rest;
           input_before = I.faults input.old;
           input_after = I.faults input.new;

@@ -1,18 +1,16 @@
 //! The command `exec`: an image or a text of assembly, run.
 
-ghost use Rattle.std.specs.Prelude.{◌≡◌, ◌≤◌, ℕ, List, Bool, false, length, IfErr, IfOk, string_bytes, true, [], ◌∷◌};
-ghost use Rattle.cool_ports.specs.Answers.{Leaves};
+ghost use Rattle.std.specs.Prelude.{◌≡◌, ◌≤◌, false, length, IfErr, IfOk, string_bytes, true, [], ◌∷◌};
 ghost use Rattle.cool_ports.specs.ShelfFiles.{AskedFront};
-ghost use Rattle.cool_ports.specs.Taking.{Took};
 ghost use Rattle.cool_words.specs.Plans.{IsBounded};
-ghost use Rattle.cool_driver.specs.Calls.{request_of, shelf_use, sink_use};
-ghost use Rattle.cool_driver.specs.Ends.{Goes};
+ghost use Rattle.cool_driver.specs.Calls.{shelf_use};
+ghost use Rattle.cool_driver.specs.Does.{Does};
 ghost use Rattle.cool_driver.specs.Execution.{IsRunnable, is_text_file};
+ghost use Rattle.cool_driver.specs.Outside.{outside, shelf_at, sink_at, source_at};
 ghost use Rattle.cool_driver.specs.declared.TheConstants.{MOST_IMAGE_BYTES};
 ghost use Rattle.cool_driver.specs.Refusals.{IsTold};
 ghost use Rattle.cool_driver.specs.Statuses.{code_of};
-ghost use Rattle.cool_driver.specs.Telling.{PutsLines};
-ghost use Rattle.cool_driver.specs.commands.Exec.{AssemblesText, ExecEnds, IsDueToBytes, IsLoaded, IsNoImage};
+ghost use Rattle.cool_driver.specs.commands.Exec.{AssemblesText, IsDueToBytes, IsLoaded, IsNoImage, executing};
 
 use crate::MOST_IMAGE_BYTES;
 use crate::execution::execute;
@@ -42,19 +40,9 @@ pub fn execute_file<F: Shelf, I: Source, O: Sink, E: Sink>(
     notes: &mut E,
 ) -> Status
     requires { IsBounded limits }
-    ensures kept { F.files files.new ≡ F.files files.old }
-    ensures asked { AskedFront (string_bytes file ∷ []) (F.asked files.old) (F.asked files.new) }
-    ensures lines { PutsLines (E.puts notes.old) (E.puts notes.new) }
-    ensures taken { (ended : Bool) × Took false ended (I.past input.old) (I.past input.new) (I.left input.old) (I.left input.new) }
-    ensures ends { (words : List (List ℕ)) (given rest : List ℕ) → Leaves (I.past input.old) (I.past input.new) given rest
-        → Goes (ExecEnds (string_bytes file) limits) (record {
-          request = request_of words (shelf_use F.files F.faults F.asked F.gave files.old files.new) given;
-          out = sink_use O.held O.faults O.puts out.old out.new;
-          notes = sink_use E.held E.faults E.puts notes.old notes.new;
-          left = rest;
-          input_before = I.faults input.old;
-          input_after = I.faults input.new;
-        }) (code_of result) }
+    ensures { Does (executing (string_bytes file) limits)
+        (outside (shelf_at F.Shelf files.old) (source_at I.Source input.old) (sink_at O.Sink out.old) (sink_at E.Sink notes.old))
+        (outside (shelf_at F.Shelf files.new) (source_at I.Source input.new) (sink_at O.Sink out.new) (sink_at E.Sink notes.new)) (code_of result) }
 {
     match load_file(alloc, file, files) {
         Ok(image) => execute(alloc, limits, &image, input, out, notes),
@@ -67,8 +55,8 @@ fn load_file<F: Shelf>(alloc: Global, file: String, files: &mut F) -> Result<Ima
     ensures kept { F.files files.new ≡ F.files files.old }
     ensures asked { AskedFront (string_bytes file ∷ []) (F.asked files.old) (F.asked files.new) }
     ensures count { F.faults files.old ≤ F.faults files.new }
-    ensures image { IfOk result (IsLoaded (shelf_use F.files F.faults F.asked F.gave files.old files.new) (string_bytes file)) }
-    ensures refused { IfErr result (IsTold (IsNoImage (shelf_use F.files F.faults F.asked F.gave files.old files.new) (string_bytes file))) }
+    ensures image { IfOk result (IsLoaded (shelf_use F.Shelf files.old files.new) (string_bytes file)) }
+    ensures refused { IfErr result (IsTold (IsNoImage (shelf_use F.Shelf files.old files.new) (string_bytes file))) }
 {
     let names = vec![in alloc; file]?;
     match read_sources(alloc, &names, MOST_IMAGE_BYTES, files) {

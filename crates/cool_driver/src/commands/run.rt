@@ -1,20 +1,18 @@
 //! The command `run`: a program, compiled and run.
 
-ghost use Rattle.std.specs.Prelude.{◌≡◌, ◌<◌, ◌≤◌, ℕ, List, Bool, false, length, IfErr, IfOk, true};
+ghost use Rattle.std.specs.Prelude.{◌≡◌, ◌<◌, ◌≤◌, ℕ, length, IfErr, IfOk, true};
 ghost use Rattle.std.specs.List.{list_all};
-ghost use Rattle.cool_ports.specs.Answers.{Leaves};
 ghost use Rattle.cool_ports.specs.ShelfFiles.{AskedFront};
-ghost use Rattle.cool_ports.specs.Taking.{Took};
 ghost use Rattle.cool_rules.specs.Fits.{Fits};
 ghost use Rattle.cool_words.specs.Plans.{IsBounded, is_file_name, run_asked, words_of};
-ghost use Rattle.cool_driver.specs.Calls.{request_of, shelf_use, sink_use};
+ghost use Rattle.cool_driver.specs.Calls.{shelf_use};
 ghost use Rattle.cool_driver.specs.Compiled.{compiled_program};
-ghost use Rattle.cool_driver.specs.Ends.{Goes};
-ghost use Rattle.cool_driver.specs.Refusals.{AreFaultLines, IsTold, PutsFaults};
+ghost use Rattle.cool_driver.specs.Does.{Does};
+ghost use Rattle.cool_driver.specs.Outside.{outside, shelf_at, sink_at, source_at};
+ghost use Rattle.cool_driver.specs.Refusals.{AreFaultLines, IsTold};
 ghost use Rattle.cool_driver.specs.Sources.{IsNoProgram, unless_too_many};
-ghost use Rattle.cool_driver.specs.Statuses.{REFUSED, code_of};
-ghost use Rattle.cool_driver.specs.Telling.{PutsLines};
-ghost use Rattle.cool_driver.specs.commands.Run.{IsCompiledTo, RunEnds};
+ghost use Rattle.cool_driver.specs.Statuses.{code_of};
+ghost use Rattle.cool_driver.specs.commands.Run.{IsCompiledTo, running};
 
 use crate::execution::execute;
 use crate::refusal::{Refusal, tell_refusal};
@@ -40,20 +38,9 @@ pub fn run_files<F: Shelf, I: Source, O: Sink, E: Sink>(
     requires some { 0 < length plan.now.files.items }
     requires names { list_all is_file_name (words_of plan.now.files.items) ≡ true }
     requires limits { IsBounded plan.now.limits }
-    ensures kept { F.files files.new ≡ F.files files.old }
-    ensures asked { AskedFront (unless_too_many (words_of plan.now.files.items) (words_of plan.now.files.items)) (F.asked files.old) (F.asked files.new) }
-    ensures lines { PutsLines (E.puts notes.old) (E.puts notes.new) }
-    ensures refused { code_of result ≡ REFUSED → PutsFaults (words_of plan.now.files.items) (shelf_use F.files F.faults F.asked F.gave files.old files.new) (E.puts notes.old) (E.puts notes.new) }
-    ensures taken { (ended : Bool) × Took false ended (I.past input.old) (I.past input.new) (I.left input.old) (I.left input.new) }
-    ensures ends { (words : List (List ℕ)) (given rest : List ℕ) → Leaves (I.past input.old) (I.past input.new) given rest
-        → Goes (RunEnds (run_asked plan.now)) (record {
-          request = request_of words (shelf_use F.files F.faults F.asked F.gave files.old files.new) given;
-          out = sink_use O.held O.faults O.puts out.old out.new;
-          notes = sink_use E.held E.faults E.puts notes.old notes.new;
-          left = rest;
-          input_before = I.faults input.old;
-          input_after = I.faults input.new;
-        }) (code_of result) }
+    ensures { Does (running (run_asked plan.now))
+        (outside (shelf_at F.Shelf files.old) (source_at I.Source input.old) (sink_at O.Sink out.old) (sink_at E.Sink notes.old))
+        (outside (shelf_at F.Shelf files.new) (source_at I.Source input.new) (sink_at O.Sink out.new) (sink_at E.Sink notes.new)) (code_of result) }
 {
     match compile_files(alloc, plan.fold, &plan.files, files) {
         Ok(image) => execute(alloc, plan.limits, &image, input, out, notes),
@@ -73,9 +60,9 @@ fn compile_files<F: Shelf>(
     ensures kept { F.files files.new ≡ F.files files.old }
     ensures asked { AskedFront (unless_too_many (words_of names.now) (words_of names.now)) (F.asked files.old) (F.asked files.new) }
     ensures count { F.faults files.old ≤ F.faults files.new }
-    ensures image { IfOk result (IsCompiledTo fold (words_of names.now) (shelf_use F.files F.faults F.asked F.gave files.old files.new)) }
-    ensures refused { IfErr result (IsTold (IsNoProgram (shelf_use F.files F.faults F.asked F.gave files.old files.new) (words_of names.now))) }
-    ensures lined { IfErr result (AreFaultLines (words_of names.now) (shelf_use F.files F.faults F.asked F.gave files.old files.new)) }
+    ensures image { IfOk result (IsCompiledTo fold (words_of names.now) (shelf_use F.Shelf files.old files.new)) }
+    ensures refused { IfErr result (IsTold (IsNoProgram (shelf_use F.Shelf files.old files.new) (words_of names.now))) }
+    ensures lined { IfErr result (AreFaultLines (words_of names.now) (shelf_use F.Shelf files.old files.new)) }
 {
     match read_program(alloc, names, files) {
         Ok(program) => {

@@ -4,7 +4,7 @@ ghost use Rattle.std.specs.Prelude.{◌≡◌, List, ℕ, Bool, false};
 ghost use Rattle.cool_ports.specs.Answers.{Leaves};
 ghost use Rattle.cool_ports.specs.Taking.{Took};
 ghost use Rattle.cool_driver.specs.Calls.{Request, sink_use};
-ghost use Rattle.cool_driver.specs.Ends.{Goes};
+ghost use Rattle.cool_driver.specs.Does.{Goes};
 ghost use Rattle.cool_driver.specs.Notes.{command_note};
 ghost use Rattle.cool_driver.specs.Statuses.{code_of};
 ghost use Rattle.cool_driver.specs.Telling.{NotedIfMade, PutsLines};
@@ -38,8 +38,8 @@ pub fn hold_session<I: Source, O: Sink, E: Sink>(
     ensures unended { result ≡ Status.ReadFault → (I.past input.new).ends ≡ (I.past input.old).ends }
     ensures ends { (r : Request) (rest : List ℕ) → r.faults_after ≡ r.faults_before → Leaves (I.past input.old) (I.past input.new) r.input rest → Goes SessionEnds (record {
       request = r;
-      out = sink_use O.held O.faults O.puts out.old out.new;
-      notes = sink_use E.held E.faults E.puts notes.old notes.new;
+      out = sink_use O.Sink out.old out.new;
+      notes = sink_use E.Sink notes.old notes.new;
       left = rest;
       input_before = I.faults input.old;
       input_after = I.faults input.new;
@@ -58,7 +58,7 @@ pub fn hold_session<I: Source, O: Sink, E: Sink>(
 
 /// Writes what is wrong with the command of this number, and answers the status, or that the write failed or memory ran out.
 fn tell_command<E: Sink>(alloc: Global, notes: &mut E, number: u64, words: &str) -> Status
-    ensures noted { NotedIfMade (sink_use E.held E.faults E.puts notes.old notes.new) (command_note number words.now) Status.Unfit result }
+    ensures noted { NotedIfMade (sink_use E.Sink notes.old notes.new) (command_note number words.now) Status.Unfit result }
     ensures lines { PutsLines (E.puts notes.old) (E.puts notes.new) }
 {
     match command_note(alloc, number, words) {

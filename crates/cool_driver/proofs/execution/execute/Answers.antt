@@ -31,7 +31,7 @@ returns g c = record {
   puts = λ given rest leaves.
       let loaded = c.in-Ok.ensures in
       let limits = c.machine_limits in
-      put_by_halt (sink_use g.E.Sink.held g.E.Sink.faults g.E.Sink.puts c.args.notes.now c.tell_halt.new.notes) c.run-halt.result
+      put_by_halt (sink_use g.E.Sink c.args.notes.now c.tell_halt.new.notes) c.run-halt.result
       (loaded_within c.args.limits c.args.image.now _ _ c.in-Ok.machine given _ _ (λ text b s first. PutWithin c.run-halt.result (run_puts text b c.args.limits.steps s) (g.O.Sink.puts c.args.out.now) (g.O.Sink.puts c.run-halt.new.sink))
       limits.ensures.heap limits.ensures.stack (loaded.state given) loaded.text loaded.segments refl
       (λ first s at. c.run-halt.ensures.puts first s loaded.goes_on given rest leaves at))

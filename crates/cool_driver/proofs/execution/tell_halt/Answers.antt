@@ -34,22 +34,22 @@ other_note : (code : ℕ) → code ≢ 4 → code ≢ 5 → exit_note code ≡ [
 other_note code heap stack = grind (arith, heap, stack)
 
 pub returns-in-Exit-eq0-clause-noted : goal.returns-in-Exit-eq0-clause-noted
-returns-in-Exit-eq0-clause-noted g c = silent (sink_use g.E.Sink.held g.E.Sink.faults g.E.Sink.puts c.args.notes.now c.args.notes.now) _ (halts.Exit 0) statuses.Done (exits _ _ _ 0 c.in-Exit-eq0.is c.in-Exit-eq0.field-0-is c.in-Exit-eq0.field-0-test) refl refl (got_nothing _ _)
+returns-in-Exit-eq0-clause-noted g c = silent (sink_use g.E.Sink c.args.notes.now c.args.notes.now) _ (halts.Exit 0) statuses.Done (exits _ _ _ 0 c.in-Exit-eq0.is c.in-Exit-eq0.field-0-is c.in-Exit-eq0.field-0-test) refl refl (got_nothing _ _)
 
 pub returns-in-Exit-eq4-clause-noted : goal.returns-in-Exit-eq4-clause-noted
 returns-in-Exit-eq4-clause-noted g c =
-    told (sink_use g.E.Sink.held g.E.Sink.faults g.E.Sink.puts c.args.notes.now c.tell.new.notes) _ (halts.Exit 4) statuses.HeapLimit c.tell.result _ (exits _ _ _ 4 c.in-Exit-eq4.is c.in-Exit-eq4.field-0-is c.in-Exit-eq4.field-0-test) refl refl (λ e. cc) c.tell.ensures.noted
+    told (sink_use g.E.Sink c.args.notes.now c.tell.new.notes) _ (halts.Exit 4) statuses.HeapLimit c.tell.result _ (exits _ _ _ 4 c.in-Exit-eq4.is c.in-Exit-eq4.field-0-is c.in-Exit-eq4.field-0-test) refl refl (λ e. cc) c.tell.ensures.noted
 
 pub returns-in-Exit-eq5-clause-noted : goal.returns-in-Exit-eq5-clause-noted
 returns-in-Exit-eq5-clause-noted g c =
-    told (sink_use g.E.Sink.held g.E.Sink.faults g.E.Sink.puts c.args.notes.now c.tell-in-Exit-eq5.new.notes) _ (halts.Exit 5) statuses.StackLimit c.tell-in-Exit-eq5.result _ (exits _ _ _ 5 c.in-Exit-eq5.is c.in-Exit-eq5.field-0-is c.in-Exit-eq5.field-0-test) refl refl (λ e. cc)
+    told (sink_use g.E.Sink c.args.notes.now c.tell-in-Exit-eq5.new.notes) _ (halts.Exit 5) statuses.StackLimit c.tell-in-Exit-eq5.result _ (exits _ _ _ 5 c.in-Exit-eq5.is c.in-Exit-eq5.field-0-is c.in-Exit-eq5.field-0-test) refl refl (λ e. cc)
     c.tell-in-Exit-eq5.ensures.noted
 
 pub returns-in-Exit-clause-noted : goal.returns-in-Exit-clause-noted
 returns-in-Exit-clause-noted g c =
     let other = c.in-Exit.field-0-test in
     let same = c.in-Exit.field-0-is in
-    silent (sink_use g.E.Sink.held g.E.Sink.faults g.E.Sink.puts c.args.notes.now c.args.notes.now) _ (halts.Exit c.in-Exit.field-0) statuses.Failed c.in-Exit.is
+    silent (sink_use g.E.Sink c.args.notes.now c.args.notes.now) _ (halts.Exit c.in-Exit.field-0) statuses.Failed c.in-Exit.is
     (other_status c.in-Exit.field-0 (λ e. other.0.0.1 (same ∙ e)) (λ e. other.0.1 (same ∙ e)) (λ e. other.1 (same ∙ e)))
     (other_note c.in-Exit.field-0 (λ e. other.0.1 (same ∙ e)) (λ e. other.1 (same ∙ e))) (got_nothing _ _)
 
@@ -58,16 +58,16 @@ tell-requires-in-Trap g c = rw (c.as_bytes.ensures.value ∙ (c.as_str.ensures.v
 
 pub returns-in-Trap-clause-noted : goal.returns-in-Trap-clause-noted
 returns-in-Trap-clause-noted g c =
-    told (sink_use g.E.Sink.held g.E.Sink.faults g.E.Sink.puts c.args.notes.now c.tell-in-Trap.new.notes) _ (halts.Trap c.in-Trap.trap) statuses.Trapped c.tell-in-Trap.result _ c.in-Trap.is refl
+    told (sink_use g.E.Sink c.args.notes.now c.tell-in-Trap.new.notes) _ (halts.Trap c.in-Trap.trap) statuses.Trapped c.tell-in-Trap.result _ c.in-Trap.is refl
     (c.as_bytes.ensures.value ∙ (c.as_str.ensures.value ∙ c.trap_note.ensures)) (λ e. cc) c.tell-in-Trap.ensures.noted
 
 pub returns-in-StepLimit-clause-noted : goal.returns-in-StepLimit-clause-noted
 returns-in-StepLimit-clause-noted g c =
-    told (sink_use g.E.Sink.held g.E.Sink.faults g.E.Sink.puts c.args.notes.now c.tell-in-StepLimit.new.notes) _ halts.StepLimit statuses.StepLimit c.tell-in-StepLimit.result _ c.in-StepLimit.is refl refl (λ e. cc) c.tell-in-StepLimit.ensures.noted
+    told (sink_use g.E.Sink c.args.notes.now c.tell-in-StepLimit.new.notes) _ halts.StepLimit statuses.StepLimit c.tell-in-StepLimit.result _ c.in-StepLimit.is refl refl (λ e. cc) c.tell-in-StepLimit.ensures.noted
 
 pub returns-in-ReadFault-clause-noted : goal.returns-in-ReadFault-clause-noted
 returns-in-ReadFault-clause-noted g c =
-    told (sink_use g.E.Sink.held g.E.Sink.faults g.E.Sink.puts c.args.notes.now c.tell-in-ReadFault.new.notes) _ halts.ReadFault statuses.ReadFault c.tell-in-ReadFault.result _ c.in-ReadFault.is refl refl (λ e. cc) c.tell-in-ReadFault.ensures.noted
+    told (sink_use g.E.Sink c.args.notes.now c.tell-in-ReadFault.new.notes) _ halts.ReadFault statuses.ReadFault c.tell-in-ReadFault.result _ c.in-ReadFault.is refl refl (λ e. cc) c.tell-in-ReadFault.ensures.noted
 
 pub returns-in-WriteFault-clause-noted : goal.returns-in-WriteFault-clause-noted
-returns-in-WriteFault-clause-noted g c = silent (sink_use g.E.Sink.held g.E.Sink.faults g.E.Sink.puts c.args.notes.now c.args.notes.now) _ halts.WriteFault statuses.WriteFault c.in-WriteFault.is refl refl (got_nothing _ _)
+returns-in-WriteFault-clause-noted g c = silent (sink_use g.E.Sink c.args.notes.now c.args.notes.now) _ halts.WriteFault statuses.WriteFault c.in-WriteFault.is refl refl (got_nothing _ _)

@@ -7,7 +7,7 @@ use Rattle.cool_driver.proofs.refusal.tell_refusal.Goals as goal
 pub returns-in-Told-clause-put : goal.returns-in-Told-clause-put
 returns-in-Told-clause-put g c names shelf lined is =
     let lined = rw c.in-Told.is at lined in
-    faults_put names shelf _ _ _ (lined (status_told (sink_use g.E.Sink.held g.E.Sink.faults g.E.Sink.puts c.args.notes.now c.tell_lines.new.notes) _ _ _ is c.tell_lines.ensures.noted))
+    faults_put names shelf _ _ _ (lined (status_told (sink_use g.E.Sink c.args.notes.now c.tell_lines.new.notes) _ _ _ is c.tell_lines.ensures.noted))
     (rw c.deref.ensures.value at (c.tell_lines.ensures.put (λ e. omega (arith, is, ap code_of e))))
 
 -- nothing is written

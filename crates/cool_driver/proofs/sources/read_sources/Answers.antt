@@ -13,7 +13,7 @@ use Rattle.cool_driver.proofs.sources.read_sources.Goals as goal
 pub returns-then-names-gt-MOST_FILES-clause-refused : goal.returns-then-names-gt-MOST_FILES-clause-refused
 returns-then-names-gt-MOST_FILES-clause-refused g c =
     let many : MOST_FILES < length (words_of c.args.names.now) = omega (arith, length-map c.args.names.now string_bytes, c.if-names-gt-MOST_FILES.true) in
-    line_told (IsDueUnread (shelf_use g.F.Shelf.files g.F.Shelf.faults g.F.Shelf.asked g.F.Shelf.gave c.args.files.now c.args.files.now) c.args.most (words_of c.args.names.now)) statuses.FileFault too_many_note c.refuse_by_line.result (ends_after (codes "cool: too many files") (codes "\n") feed) (refl, too_many many refl) c.refuse_by_line.ensures
+    line_told (IsDueUnread (shelf_use g.F.Shelf c.args.files.now c.args.files.now) c.args.most (words_of c.args.names.now)) statuses.FileFault too_many_note c.refuse_by_line.result (ends_after (codes "cool: too many files") (codes "\n") feed) (refl, too_many many refl) c.refuse_by_line.ensures
 
 -- the files were read
 pub returns-in-Ok-clause-read : goal.returns-in-Ok-clause-read
@@ -34,7 +34,7 @@ returns-in-Err-Refused-clause-refused g c =
     let names = words_of c.args.names.now in
     let refused = c.in-Err-Refused in
     let stop = rw refused.field-0-is at refused.ensures.stop in
-    stop_told (shelf_use g.F.Shelf.files g.F.Shelf.faults g.F.Shelf.asked g.F.Shelf.gave c.args.files.now c.read_files.new.files) c.args.most names refused.name.now refused.fault
+    stop_told (shelf_use g.F.Shelf c.args.files.now c.read_files.new.files) c.args.most names refused.name.now refused.fault
     c.refuse_unread.result (refused_at _ names c.args.most refused.name.now refused.fault (omega (arith, length-map c.args.names.now string_bytes, c.if-names-gt-MOST_FILES.false)) stop)
     c.refuse_unread.ensures
 

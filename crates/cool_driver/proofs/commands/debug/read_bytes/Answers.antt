@@ -9,6 +9,6 @@ use Rattle.cool_driver.proofs.commands.debug.read_bytes.Goals as goal
 pub returns-in_default-clause-refused : goal.returns-in_default-clause-refused
 returns-in_default-clause-refused g c =
     let read = c.in-Err.ensures in
-    script_told (shelf_use g.F.Shelf.files g.F.Shelf.faults g.F.Shelf.asked g.F.Shelf.gave c.args.files.now c.read.new.self) c.args.script.now c.in-Err.fault c.refuse_unread.result (_, c.read.ensures.asked)
+    script_told (shelf_use g.F.Shelf c.args.files.now c.read.new.self) c.args.script.now c.in-Err.fault c.refuse_unread.result (_, c.read.ensures.asked)
     (cause_of _ _ _ c.args.script.now _ c.in-Err.fault (λ e. read.missing (ap Err e)) (λ e. read.too_large (ap Err e)) (λ e. read.failed (ap Err e)) c.in_default.not-Memory)
     c.refuse_unread.ensures
