@@ -21,24 +21,19 @@ use Rattle.lists.proofs.AllItems.{all_left, all_right}
 -- the places of an expression and of its parts
 abbrev mutual
   pub IsTreeAt : (Place → Type 0) → Tree → Type 0
-  IsTreeAt P (trees.Assign at name t) = P at × IsTreeAt P t
-  IsTreeAt P (trees.Dispatch at t name ts) = P at × IsTreeAt P t × AreTreesAt P ts
-  IsTreeAt P (trees.StaticDispatch at t class name ts) = P at × IsTreeAt P t × P class.at × AreTreesAt P ts
-  IsTreeAt P (trees.If at t y n) = P at × IsTreeAt P t × IsTreeAt P y × IsTreeAt P n
-  IsTreeAt P (trees.While at t b) = P at × IsTreeAt P t × IsTreeAt P b
-  IsTreeAt P (trees.Block at ts) = P at × AreTreesAt P ts
-  IsTreeAt P (trees.Let at name declared o t) = P at × P declared.at × IsMaybeAt P o × IsTreeAt P t
-  IsTreeAt P (trees.Case at t cs) = P at × IsTreeAt P t × AreCasesAt P cs
   IsTreeAt P (trees.New at class) = P at × P class.at
-  IsTreeAt P (trees.IsVoid at t) = P at × IsTreeAt P t
-  IsTreeAt P (trees.Arith at op a b) = P at × IsTreeAt P a × IsTreeAt P b
-  IsTreeAt P (trees.Neg at t) = P at × IsTreeAt P t
-  IsTreeAt P (trees.Compare at op a b) = P at × IsTreeAt P a × IsTreeAt P b
-  IsTreeAt P (trees.Not at t) = P at × IsTreeAt P t
   IsTreeAt P (trees.Id at name) = P at
   IsTreeAt P (trees.Int at value) = P at
   IsTreeAt P (trees.Str at bytes) = P at
   IsTreeAt P (trees.Bool at value) = P at
+  IsTreeAt P (trees.unary at form t) = P at × IsTreeAt P t
+  IsTreeAt P (trees.binary at form a b) = P at × IsTreeAt P a × IsTreeAt P b
+  IsTreeAt P (trees.Dispatch at t name ts) = P at × IsTreeAt P t × AreTreesAt P ts
+  IsTreeAt P (trees.StaticDispatch at t class name ts) = P at × IsTreeAt P t × P class.at × AreTreesAt P ts
+  IsTreeAt P (trees.If at t y n) = P at × IsTreeAt P t × IsTreeAt P y × IsTreeAt P n
+  IsTreeAt P (trees.Block at ts) = P at × AreTreesAt P ts
+  IsTreeAt P (trees.Let at name declared o t) = P at × P declared.at × IsMaybeAt P o × IsTreeAt P t
+  IsTreeAt P (trees.Case at t cs) = P at × IsTreeAt P t × AreCasesAt P cs
 
   pub AreTreesAt : (Place → Type 0) → Trees → Type 0
   AreTreesAt P Last = Unit {0}
@@ -59,24 +54,12 @@ IsFeatureAt P (feature.Attribute a) = P a.at × IfSome a.init (IsTreeAt P)
 
 -- the place of an expression is one of its places
 pub own_place : (P : Place → Type 0) (t : Tree) → IsTreeAt P t → P (place_of t)
-own_place P (trees.Assign at name t) h = h.0
-own_place P (trees.Dispatch at t name ts) h = h.0
-own_place P (trees.StaticDispatch at t class name ts) h = h.0
-own_place P (trees.If at t y e) h = h.0
-own_place P (trees.While at t b) h = h.0
-own_place P (trees.Block at ts) h = h.0
-own_place P (trees.Let at name declared o t) h = h.0
-own_place P (trees.Case at t cs) h = h.0
-own_place P (trees.New at class) h = h.0
-own_place P (trees.IsVoid at t) h = h.0
-own_place P (trees.Arith at op a b) h = h.0
-own_place P (trees.Neg at t) h = h.0
-own_place P (trees.Compare at op a b) h = h.0
-own_place P (trees.Not at t) h = h.0
 own_place P (trees.Id at name) h = h
 own_place P (trees.Int at value) h = h
 own_place P (trees.Str at bytes) h = h
 own_place P (trees.Bool at value) h = h
+own_place P (trees.Dispatch at t name ts) h = h.0
+own_place P _ h = h.0
 
 -- Trees within so many files have their places in these
 
@@ -97,10 +80,8 @@ module _ (n : ℕ) where
     tree_at (trees.Neg at t) h = (h.0, tree_at t h.1)
     tree_at (trees.Compare at op a b) h = (h.0, tree_at a h.1, tree_at b h.2)
     tree_at (trees.Not at t) h = (h.0, tree_at t h.1)
-    tree_at (trees.Id at name) h = h.0
-    tree_at (trees.Int at value) h = h.0
-    tree_at (trees.Str at bytes) h = h.0
     tree_at (trees.Bool at value) h = h
+    tree_at _ h = h.0
 
     trees_at : (ts : Trees) → AreTreesWithin n ts → AreTreesAt (IsPlaced n) ts
     trees_at Last h = tt
@@ -140,11 +121,7 @@ module _ (P : Place → Type 0) where
 
   mutual
     plain_at : (c : Concrete) → All (reading c) → IsTreeAt P (plain c)
-    plain_at (Name name at) h = h.0
-    plain_at (Literal (Int value) at) h = h.0
-    plain_at (Literal (Str bytes) at) h = h.0
     plain_at (Literal (Truth true) at) h = h.0
-    plain_at (Literal (Truth false) at) h = h.0
     plain_at (New at class) h = (h.0, h.1.0)
     plain_at (Paren lparen e rparen) h = plain_at e (left (reading e) _ h.1)
     plain_at (Dispatch callee lparen args rparen) h =
@@ -170,6 +147,7 @@ module _ (P : Place → Type 0) where
         let behind = right (reading a) _ h in
         operation_at op at (plain a) (plain b) behind.0 (plain_at a (left (reading a) _ h)) (plain_at b behind.1)
     plain_at (Before prefix e) h = prefix_at prefix (plain e) (left (prefix_reading prefix) _ h) (plain_at e (right (prefix_reading prefix) _ h))
+    plain_at _ h = h.0
 
     call_at : (callee : Callee) (args : Trees) → All (callee_reading callee) → AreTreesAt P args → IsTreeAt P (plain_call callee args)
     call_at (OfSelf name at) args h g = (h.0, h.0, g)
@@ -200,10 +178,8 @@ module _ (P : Place → Type 0) where
     prefix_at (Let at firsts last within) t h g =
         let all = left (bindings_reading firsts ++ binding_reading last) _ h.1 in
         bindings_at firsts (plain_binding last t) (left (bindings_reading firsts) _ all) (binding_at last t (right (bindings_reading firsts) _ all) g)
-    prefix_at (Assign name at arrow) t h g = (h.0, g)
     prefix_at (Mark Not at) t h g = (h.0, g)
-    prefix_at (Mark IsVoid at) t h g = (h.0, g)
-    prefix_at (Mark Neg at) t h g = (h.0, g)
+    prefix_at _ t h g = (h.0, g)
 
     bindings_at : (bindings : Bindings) (t : Tree) → All (bindings_reading bindings) → IsTreeAt P t → IsTreeAt P (plain_bindings bindings t)
     bindings_at NoBinding t h g = g

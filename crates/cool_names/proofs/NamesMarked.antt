@@ -91,29 +91,18 @@ callee_before byte (OfClass receiver sign_at class dot name at) ts h =
     (before_right byte (reading receiver) (symbol sign.At sign_at ∷ type class ∷ symbol sign.Dot dot ∷ object name at ∷ []) h).1.1.1.0
 
 place_before : (byte : ℕ) (e : Concrete) → AreBefore byte (reading e) → (place_of (plain e)).byte < byte
-place_before byte (Name name at) h = h.0
-place_before byte (Literal (Int value) at) h = h.0
-place_before byte (Literal (Str bytes) at) h = h.0
 place_before byte (Literal (Truth true) at) h = h.0
-place_before byte (Literal (Truth false) at) h = h.0
-place_before byte (New at class) h = h.0
 place_before byte (Paren lparen e rparen) h = place_before byte e (before_left byte (reading e) (symbol sign.RParen rparen ∷ []) h.1)
 place_before byte (Dispatch callee lparen args rparen) h =
     callee_before byte callee (plain_args args) (before_left byte (callee_reading callee) (symbol sign.LParen lparen ∷ args_reading args)
     (before_left byte (callee_reading callee ++ symbol sign.LParen lparen ∷ args_reading args) (symbol sign.RParen rparen ∷ []) h))
-place_before byte (If at test then_at met else_at unmet fi) h = h.0
-place_before byte (While at test loop body pool) h = h.0
-place_before byte (Block lbrace firsts last semi rbrace) h = h.0
-place_before byte (Case at value of firsts last esac) h = h.0
 place_before byte (Binary left (Arith op) at right) h = (before_right byte (reading left) (_ ∷ reading right) h).0
 place_before byte (Binary left (Compare op) at right) h = (before_right byte (reading left) (_ ∷ reading right) h).0
 place_before byte (Before (Let at firsts last within) e) h =
     let inner = before_left byte (bindings_reading firsts ++ binding_reading last) (word key.In within ∷ []) (before_left byte (bindings_reading firsts ++ binding_reading last ++ word key.In within ∷ []) (reading e) h.1) in
     bindings_before byte firsts (plain_binding last (plain e)) (before_left byte (bindings_reading firsts) (binding_reading last) inner) (binding_before byte last (plain e) (before_right byte (bindings_reading firsts) (binding_reading last) inner))
-place_before byte (Before (Assign name at arrow) e) h = h.0
 place_before byte (Before (Mark Not at) e) h = h.0
-place_before byte (Before (Mark IsVoid at) e) h = h.0
-place_before byte (Before (Mark Neg at) e) h = h.0
+place_before byte _ h = h.0
 
 -- Marks that stand at the names of tokens
 

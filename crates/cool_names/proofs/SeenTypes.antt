@@ -81,11 +81,7 @@ module _ (p : List Class) (whole : IsWholeTable p) (ds : List ClassDef) (c : Cla
   seen_typed locals (trees.Assign at name e) t h = seen_typed locals e t h
   seen_typed locals (trees.Dispatch at e name es) t h = call_typed (seen_type (within p ds c attributes) locals e) (seen_type (within p ds c attributes) locals e) name t (λ r is. seen_typed locals e r is) h
   seen_typed locals (trees.StaticDispatch at e class name es) t h = call_typed (seen_type (within p ds c attributes) locals e) (type_of_name p class.name) name t (λ r is. seen_typed locals e r is) h
-  seen_typed locals (trees.If at a b d) t h = absurd (cc)
   seen_typed locals (trees.While at a b) t h = given_typed 0 t (omega arith) h
-  seen_typed locals (trees.Block at es) t h = absurd (cc)
-  seen_typed locals (trees.Let at name declared init e) t h = absurd (cc)
-  seen_typed locals (trees.Case at e cs) t h = absurd (cc)
   seen_typed locals (trees.New at class) t h = denotes_type p whole class.name t (named_denotes p whole class.name t h)
   seen_typed locals (trees.IsVoid at e) t h = given_typed 3 t (omega arith) h
   seen_typed locals (trees.Arith at op a b) t h = given_typed 2 t (omega arith) h
@@ -95,6 +91,7 @@ module _ (p : List Class) (whole : IsWholeTable p) (ds : List ClassDef) (c : Cla
   seen_typed locals (trees.Int at n) t h = given_typed 2 t (omega arith) h
   seen_typed locals (trees.Str at bytes) t h = given_typed 4 t (omega arith) h
   seen_typed locals (trees.Bool at b) t h = given_typed 3 t (omega arith) h
+  seen_typed locals _ t h = absurd (cc)
 
   -- the type of a call that the rules type
   call_type : (r w : Ty) (name : List ℕ) (given : List Ty) (t : Ty) → (class_of c w).0 < length p → IsCall p c (class_of c w) name r given t → type_of_call (within p ds c attributes) (Some r) (Some w) name ≡ Some t
@@ -123,11 +120,7 @@ module _ (p : List Class) (whole : IsWholeTable p) (ds : List ClassDef) (c : Cla
       by : (seen ≡ None) ⊎ (seen ≡ Some r) → (type_of_call (within p ds c attributes) seen (type_of_name p class.name) name ≡ None) ⊎ (type_of_call (within p ds c attributes) seen (type_of_name p class.name) name ≡ Some t)
       by (inl none) = inl (ap (λ (o : Option Ty). type_of_call (within p ds c attributes) o (type_of_name p class.name) name) none)
       by (inr some) = inr (ap₂ (λ (o w : Option Ty). type_of_call (within p ds c attributes) o w name) some (denoted p whole class.name (IsClass k) denotes) ∙ call_type r (IsClass k) name given t denotes.0 call)
-  seen_is locals scope (trees.If at a b d) t agreed h = inl refl
   seen_is locals scope (trees.While at a b) t agreed (u, has, has1, is) = inr (ap Some (sym is))
-  seen_is locals scope (trees.Block at es) t agreed h = inl refl
-  seen_is locals scope (trees.Let at name declared init e) t agreed h = inl refl
-  seen_is locals scope (trees.Case at e cs) t agreed h = inl refl
   seen_is locals scope (trees.New at class) t agreed h = inr (denoted p whole class.name t h)
   seen_is locals scope (trees.IsVoid at e) t agreed (u, has, is) = inr (ap Some (sym is))
   seen_is locals scope (trees.Arith at op a b) t agreed (has, has1, is) = inr (ap Some (sym is))
@@ -137,6 +130,7 @@ module _ (p : List Class) (whole : IsWholeTable p) (ds : List ClassDef) (c : Cla
   seen_is locals scope (trees.Int at n) t agreed h = inr (ap Some (sym h))
   seen_is locals scope (trees.Str at bytes) t agreed h = inr (ap Some (sym h))
   seen_is locals scope (trees.Bool at b) t agreed h = inr (ap Some (sym h))
+  seen_is locals scope _ t agreed h = inl refl
 
 pub seen_rightly : (p : List Class) → IsWholeTable p → IsSeenRightly p
 seen_rightly p whole ds c locals attributes scope e t less agreed h = seen_is p whole ds c less attributes locals scope e t agreed h

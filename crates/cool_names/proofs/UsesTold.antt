@@ -223,15 +223,12 @@ module _ (p : List Class) (whole : IsWholeTable p) where
           (uses_in_init p c scope bound o fits) (uses_in p c (with_name name bound scope) e t has) (told_maybe locals scope bound o agreed fits)
           (told (with_variable name declared at locals) (with_name name bound scope) e t (agreed_with p locals attributes scope name declared at bound (denoted p whole declared.name bound denotes) agreed) has)
       told locals scope (trees.Case at e cs) t agreed (u, ts, has, have, different, joined) = join p (marks_of (within p ds c attributes) locals e) (marks_of_cases (within p ds c attributes) locals cs) (uses_in p c scope e u has) (uses_in_branches p c scope cs ts have) (told locals scope e u agreed has) (told_cases locals scope cs ts agreed have)
-      told locals scope (trees.New at class) t agreed typed = tt
       told locals scope (trees.IsVoid at e) t agreed (u, has, is) = told locals scope e u agreed has
       told locals scope (trees.Arith at op a b) t agreed (has, has1, is) = join p (marks_of (within p ds c attributes) locals a) (marks_of (within p ds c attributes) locals b) (uses_in p c scope a _ has) (uses_in p c scope b _ has1) (told locals scope a _ agreed has) (told locals scope b _ agreed has1)
       told locals scope (trees.Neg at e) t agreed (has, is) = told locals scope e _ agreed has
       told locals scope (trees.Compare at op a b) t agreed (u, v, has, has1, comparable, is) = join p (marks_of (within p ds c attributes) locals a) (marks_of (within p ds c attributes) locals b) (uses_in p c scope a u has) (uses_in p c scope b v has1) (told locals scope a u agreed has) (told locals scope b v agreed has1)
       told locals scope (trees.Not at e) t agreed (has, is) = told locals scope e _ agreed has
-      told locals scope (trees.Int at value) t agreed typed = tt
-      told locals scope (trees.Str at bytes) t agreed typed = tt
-      told locals scope (trees.Bool at value) t agreed typed = tt
+      told locals scope _ t agreed typed = tt
 
       told_all : (locals : List (Bound Variable)) (scope : List Binding) (es : Trees) (ts : List Ty) → AreAgreed p locals attributes scope → (have : HaveTypes p c scope es ts)
           → AreTold p (uses_among (marks_of_all (within p ds c attributes) locals es)) (uses_in_all p c scope es ts have)

@@ -177,11 +177,8 @@ token_of (k, n) = get_or kinds k kind.Str n
 token_back : (t : TokenKind) → token_of (code_of t) ≡ t
 unfolding code_of kinds token_of
 token_back (kind.Key k) = ap kind.Key (key_back k)
-token_back (kind.TypeId n) = refl
-token_back (kind.ObjectId n) = refl
-token_back (kind.Int n) = refl
-token_back (kind.Str b) = refl
 token_back (kind.Sign s) = ap kind.Sign (sign_back s)
+token_back _ = refl
 
 pub known_kinds : Known TokenKind
 known_kinds = by_code (known_pairs known_numbers known_names) code_of token_of token_back

@@ -70,24 +70,9 @@ if_renamed f false x x' y y' here there = there
 
 module _ (f : Place → Place) where
   place_renamed : (t : Tree) → place_of (renamed_tree f t) ≡ f (place_of t)
-  place_renamed (trees.Assign at name t) = refl
-  place_renamed (trees.Dispatch at t name ts) = refl
-  place_renamed (trees.StaticDispatch at t class name ts) = refl
-  place_renamed (trees.If at t y n) = refl
-  place_renamed (trees.While at t b) = refl
-  place_renamed (trees.Block at ts) = refl
-  place_renamed (trees.Let at name declared o t) = refl
-  place_renamed (trees.Case at t cs) = refl
   place_renamed (trees.New at class) = refl
-  place_renamed (trees.IsVoid at t) = refl
-  place_renamed (trees.Arith at op a b) = refl
-  place_renamed (trees.Neg at t) = refl
-  place_renamed (trees.Compare at op a b) = refl
-  place_renamed (trees.Not at t) = refl
-  place_renamed (trees.Id at name) = refl
-  place_renamed (trees.Int at value) = refl
-  place_renamed (trees.Str at bytes) = refl
-  place_renamed (trees.Bool at value) = refl
+  place_renamed (trees.Dispatch at t name ts) = refl
+  place_renamed _ = refl
 
   unknown_renamed : (o : Option Ty) (at : Place) → or_unknown o (f at) ≡ renamed_result f (or_unknown o at)
   unknown_renamed None at = refl
@@ -255,9 +240,7 @@ module _ (f : Place → Place) where
       checked_renamed (trees.Not at t) o =
           then_renamed f (checked s o t) (checked s' o (renamed_tree f t)) _ _ (checked_renamed t o)
           (λ a. expect_renamed f a bool_type E16 at (f at) (Ok bool_type) (Ok bool_type) refl refl)
-      checked_renamed (trees.Int at value) o = refl
-      checked_renamed (trees.Str at bytes) o = refl
-      checked_renamed (trees.Bool at value) o = refl
+      checked_renamed _ o = refl
 
       all_renamed : (ts : Trees) (o : List Binding) (types : List Ty)
           → all_checked s' o types (renamed_trees f ts) ≡ renamed_result f (all_checked s o types ts)

@@ -105,24 +105,19 @@ module _ (f : Place → Place) where
 
   abbrev mutual
     pub renamed_tree : Tree → Tree
-    renamed_tree (trees.Assign at name t) = trees.Assign (f at) name (renamed_tree t)
-    renamed_tree (trees.Dispatch at t name ts) = trees.Dispatch (f at) (renamed_tree t) name (renamed_trees ts)
-    renamed_tree (trees.StaticDispatch at t class name ts) = trees.StaticDispatch (f at) (renamed_tree t) (renamed_type class) name (renamed_trees ts)
-    renamed_tree (trees.If at t y n) = trees.If (f at) (renamed_tree t) (renamed_tree y) (renamed_tree n)
-    renamed_tree (trees.While at t b) = trees.While (f at) (renamed_tree t) (renamed_tree b)
-    renamed_tree (trees.Block at ts) = trees.Block (f at) (renamed_trees ts)
-    renamed_tree (trees.Let at name declared o t) = trees.Let (f at) name (renamed_type declared) (renamed_maybe o) (renamed_tree t)
-    renamed_tree (trees.Case at t cs) = trees.Case (f at) (renamed_tree t) (renamed_cases cs)
     renamed_tree (trees.New at class) = trees.New (f at) (renamed_type class)
-    renamed_tree (trees.IsVoid at t) = trees.IsVoid (f at) (renamed_tree t)
-    renamed_tree (trees.Arith at op a b) = trees.Arith (f at) op (renamed_tree a) (renamed_tree b)
-    renamed_tree (trees.Neg at t) = trees.Neg (f at) (renamed_tree t)
-    renamed_tree (trees.Compare at op a b) = trees.Compare (f at) op (renamed_tree a) (renamed_tree b)
-    renamed_tree (trees.Not at t) = trees.Not (f at) (renamed_tree t)
     renamed_tree (trees.Id at name) = trees.Id (f at) name
     renamed_tree (trees.Int at value) = trees.Int (f at) value
     renamed_tree (trees.Str at bytes) = trees.Str (f at) bytes
     renamed_tree (trees.Bool at value) = trees.Bool (f at) value
+    renamed_tree (trees.unary at form t) = trees.unary (f at) form (renamed_tree t)
+    renamed_tree (trees.binary at form a b) = trees.binary (f at) form (renamed_tree a) (renamed_tree b)
+    renamed_tree (trees.Dispatch at t name ts) = trees.Dispatch (f at) (renamed_tree t) name (renamed_trees ts)
+    renamed_tree (trees.StaticDispatch at t class name ts) = trees.StaticDispatch (f at) (renamed_tree t) (renamed_type class) name (renamed_trees ts)
+    renamed_tree (trees.If at t y n) = trees.If (f at) (renamed_tree t) (renamed_tree y) (renamed_tree n)
+    renamed_tree (trees.Block at ts) = trees.Block (f at) (renamed_trees ts)
+    renamed_tree (trees.Let at name declared o t) = trees.Let (f at) name (renamed_type declared) (renamed_maybe o) (renamed_tree t)
+    renamed_tree (trees.Case at t cs) = trees.Case (f at) (renamed_tree t) (renamed_cases cs)
 
     pub renamed_trees : Trees → Trees
     renamed_trees Last = Last
@@ -169,10 +164,8 @@ module _ (f : Place → Place) where
   unary_renamed Neg at = refl
 
   constant_renamed : (c : Constant) (at : Place) → constant_token c (f at) ≡ renamed_token (constant_token c at)
-  constant_renamed (Int value) at = refl
-  constant_renamed (Str bytes) at = refl
   constant_renamed (Truth true) at = refl
-  constant_renamed (Truth false) at = refl
+  constant_renamed _ at = refl
 
   mutual
     reading_renamed : (e : Concrete) → reading (renamed e) ≡ map renamed_token (reading e)
@@ -249,31 +242,15 @@ module _ (f : Place → Place) where
   level_renamed (Mark op at) = refl
 
   ends_renamed : (k : ℕ) (e : Concrete) → EndsAtLeast k e → EndsAtLeast k (renamed e)
-  ends_renamed k (Name name at) h = tt
-  ends_renamed k (Literal value at) h = tt
-  ends_renamed k (New at class) h = tt
-  ends_renamed k (Paren lparen e rparen) h = tt
-  ends_renamed k (Dispatch callee lparen args rparen) h = tt
-  ends_renamed k (If at test then_at met else_at unmet fi) h = tt
-  ends_renamed k (While at test loop body pool) h = tt
-  ends_renamed k (Block lbrace firsts last semi rbrace) h = tt
-  ends_renamed k (Case at value of firsts last esac) h = tt
   ends_renamed k (Binary left op at right) (high, h) = (high, ends_renamed k right h)
   ends_renamed k (Before prefix e) (high, h) = (subst (λ (n : ℕ). k ≤ n) (sym (level_renamed prefix)) high, ends_renamed k e h)
+  ends_renamed k _ h = tt
 
   mutual
     begins_renamed : (k : ℕ) (e : Concrete) → BeginsAbove k e → BeginsAbove k (renamed e)
-    begins_renamed k (Name name at) h = tt
-    begins_renamed k (Literal value at) h = tt
-    begins_renamed k (New at class) h = tt
-    begins_renamed k (Paren lparen e rparen) h = tt
     begins_renamed k (Dispatch callee lparen args rparen) h = callee_begins_renamed k callee h
-    begins_renamed k (If at test then_at met else_at unmet fi) h = tt
-    begins_renamed k (While at test loop body pool) h = tt
-    begins_renamed k (Block lbrace firsts last semi rbrace) h = tt
-    begins_renamed k (Case at value of firsts last esac) h = tt
     begins_renamed k (Binary left op at right) (high, h) = (high, begins_renamed k left h)
-    begins_renamed k (Before prefix e) h = tt
+    begins_renamed k _ h = tt
 
     callee_begins_renamed : (k : ℕ) (c : Callee) → CalleeBeginsAbove k c → CalleeBeginsAbove k (renamed_callee c)
     callee_begins_renamed k (OfSelf name at) h = tt
@@ -281,23 +258,12 @@ module _ (f : Place → Place) where
     callee_begins_renamed k (OfClass receiver mark class dot name at) h = begins_renamed k receiver h
 
   receiver_renamed : (e : Concrete) → IsReceiver e → IsReceiver (renamed e)
-  receiver_renamed (Name name at) h = tt
-  receiver_renamed (Literal value at) h = tt
-  receiver_renamed (New at class) h = tt
-  receiver_renamed (Paren lparen e rparen) h = tt
-  receiver_renamed (Dispatch callee lparen args rparen) h = tt
-  receiver_renamed (If at test then_at met else_at unmet fi) h = tt
-  receiver_renamed (While at test loop body pool) h = tt
-  receiver_renamed (Block lbrace firsts last semi rbrace) h = tt
-  receiver_renamed (Case at value of firsts last esac) h = tt
   receiver_renamed (Binary left op at right) h = absurd h
   receiver_renamed (Before prefix e) h = absurd h
+  receiver_renamed _ h = tt
 
   mutual
     shape_renamed : (e : Concrete) → IsShaped e → IsShaped (renamed e)
-    shape_renamed (Name name at) h = tt
-    shape_renamed (Literal value at) h = tt
-    shape_renamed (New at class) h = tt
     shape_renamed (Paren lparen e rparen) h = shape_renamed e h
     shape_renamed (Dispatch callee lparen args rparen) (h, g) = (callee_shape_renamed callee h, args_shape_renamed args g)
     shape_renamed (If at test then_at met else_at unmet fi) (h, g, k) = (shape_renamed test h, shape_renamed met g, shape_renamed unmet k)
@@ -312,6 +278,7 @@ module _ (f : Place → Place) where
       subst (λ (n : ℕ). BeginsAbove n (renamed e)) (sym (level_renamed prefix)) (begins_renamed (prefix_level prefix) e begins),
       shape_renamed e g,
     )
+    shape_renamed _ h = tt
 
     callee_shape_renamed : (c : Callee) → IsShapedCallee c → IsShapedCallee (renamed_callee c)
     callee_shape_renamed (OfSelf name at) h = tt

@@ -71,19 +71,13 @@ not_one d h = ne_eqb (d + 1) 1 (λ e. absurd (omega (arith, h, e)))
 -- Expressions
 
 constant_passes : (d : ℕ) (c : Constant) (at : Place) → Passes d (constant_token c at ∷ []) d
-constant_passes d (Int value) at = step d d _ refl refl
-constant_passes d (Str bytes) at = step d d _ refl refl
 constant_passes d (Truth true) at = step d d _ refl refl
-constant_passes d (Truth false) at = step d d _ refl refl
+constant_passes d _ at = step d d _ refl refl
 
 operator_passes : (d : ℕ) (op : Operator) (at : Place) → Passes d (symbol (operator_sign op) at ∷ []) d
 operator_passes d (Arith arith_op.Add) at = step d d _ refl refl
-operator_passes d (Arith arith_op.Sub) at = step d d _ refl refl
-operator_passes d (Arith arith_op.Mul) at = step d d _ refl refl
-operator_passes d (Arith arith_op.Div) at = step d d _ refl refl
 operator_passes d (Compare compare_op.Less) at = step d d _ refl refl
-operator_passes d (Compare compare_op.LessEqual) at = step d d _ refl refl
-operator_passes d (Compare compare_op.Equal) at = step d d _ refl refl
+operator_passes d _ at = step d d _ refl refl
 
 unary_passes : (d : ℕ) (op : Unary) (at : Place) → Passes d (unary_token op at ∷ []) d
 unary_passes d Not at = step d d _ refl refl
