@@ -3,32 +3,29 @@ use Rattle.std.specs.Prelude.{List, IfSome}
 use Rattle.cool_syntax.specs.declared.file_tree.ClassDef.{ClassDef}
 use Rattle.cool_syntax.specs.declared.file_tree.Feature.{Feature}
 use Rattle.cool_syntax.specs.declared.file_tree.Feature.TheVariants.{Method, Attribute}
-use Rattle.cool_syntax.specs.Tree.{Tree, Trees, MaybeTree, Cases, Last, More, Without, With, NoCase, CaseOf}
+use Rattle.cool_syntax.specs.Tree.{Leaf, Tree, Trees, MaybeTree, Cases, Last, More, Without, With, NoCase, CaseOf}
 use Rattle.cool_syntax.specs.Tree as trees
 use Rattle.std.specs.List.{AllByRecursion}
 use Rattle.lists.specs.Bytes.{AreBytes}
 
 -- each string constant of an expression has numbers below 256
+abbrev LeafHasBytes : Leaf → Type 0
+LeafHasBytes (trees.new class) = Unit {0}
+LeafHasBytes (trees.id name) = Unit {0}
+LeafHasBytes (trees.int value) = Unit {0}
+LeafHasBytes (trees.str bytes) = AreBytes bytes
+LeafHasBytes (trees.truth value) = Unit {0}
+
 abbrev mutual
   pub HasBytes : Tree → Type 0
-  HasBytes (trees.Assign at name t) = HasBytes t
-  HasBytes (trees.Dispatch at t name ts) = HasBytes t × HaveBytes ts
-  HasBytes (trees.StaticDispatch at t class name ts) = HasBytes t × HaveBytes ts
+  HasBytes (trees.leaf at form) = LeafHasBytes form
+  HasBytes (trees.unary at form t) = HasBytes t
+  HasBytes (trees.binary at form a b) = HasBytes a × HasBytes b
+  HasBytes (trees.call at form t ts) = HasBytes t × HaveBytes ts
   HasBytes (trees.If at t y n) = HasBytes t × (HasBytes y × HasBytes n)
-  HasBytes (trees.While at t b) = HasBytes t × HasBytes b
   HasBytes (trees.Block at ts) = HaveBytes ts
   HasBytes (trees.Let at name declared o t) = MaybeHasBytes o × HasBytes t
   HasBytes (trees.Case at t cs) = HasBytes t × CasesHaveBytes cs
-  HasBytes (trees.New at class) = Unit {0}
-  HasBytes (trees.IsVoid at t) = HasBytes t
-  HasBytes (trees.Arith at op a b) = HasBytes a × HasBytes b
-  HasBytes (trees.Neg at t) = HasBytes t
-  HasBytes (trees.Compare at op a b) = HasBytes a × HasBytes b
-  HasBytes (trees.Not at t) = HasBytes t
-  HasBytes (trees.Id at name) = Unit {0}
-  HasBytes (trees.Int at value) = Unit {0}
-  HasBytes (trees.Str at bytes) = AreBytes bytes
-  HasBytes (trees.Bool at value) = Unit {0}
 
   pub HaveBytes : Trees → Type 0
   HaveBytes Last = Unit {0}

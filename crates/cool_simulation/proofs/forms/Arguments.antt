@@ -5,6 +5,7 @@ use Rattle.std.proofs.lemmas.List.Elements.{Contains-append_left, Contains-appen
 use Rattle.mips_isa.specs.Bytes.{Bytes, word, set_word}
 use Rattle.mips_isa.specs.Calls.{State as Machine}
 use Rattle.cool_syntax.specs.Tree.{Tree, Trees, Last, More, tree_size}
+use Rattle.cool_syntax.proofs.TreesHaveNodes.{one_le_size}
 use Rattle.cool_classes.specs.declared.class_id.ClassId.{ClassId}
 use Rattle.cool_classes.specs.declared.class_id.Ty.{Ty}
 use Rattle.cool_rules.specs.Scopes.{Binding}
@@ -37,7 +38,7 @@ use Rattle.cool_simulation.proofs.ground.PartsOfRuns.{run_wider}
 use Rattle.cool_simulation.proofs.ground.ReservedParts.{bind_reserved, none_spent, with_way}
 use Rattle.cool_simulation.proofs.ground.EvaluationLater.{ComesLater, CallsLater, bind_later, give_later}
 use Rattle.cool_simulation.proofs.ground.CallsLater.{held_later, all_later}
-use Rattle.cool_simulation.proofs.ground.ScenesLater.{begins_later, under_stack, fine_value, eval_works, tree_some}
+use Rattle.cool_simulation.proofs.ground.ScenesLater.{begins_later, under_stack, fine_value, eval_works}
 use Rattle.cool_simulation.proofs.ground.Passages.{passes, quiet}
 use Rattle.cool_codegen.specs.Spans.{spans}
 
@@ -75,7 +76,7 @@ module _ (l : Loading) (loaded : IsLoaded l) where
     integers = λ n there. code_at.integers n (Contains-append_right (integers_in t) (integers_in_all ts) n there);
     strings = λ bytes there. code_at.strings bytes (Contains-append_right (strings_in l.files t) (strings_in_all l.files ts) bytes there);
     within = code_at.within.1;
-    small = (let z = code_at.small in let some = tree_some t in omega arith);
+    small = (let z = code_at.small in let some = one_le_size t in omega arith);
     spans = λ x h. code_at.spans x (Contains-append_right (spans sizes (context l c f) (constants l) vs d first pc t) _ x h);
     pushes = code_at.pushes.1;
   }

@@ -20,7 +20,6 @@ use Rattle.cool_runtime.specs.Machines.{At, Pointers, Console}
 use Rattle.cool_codegen.specs.declared.variables.Base.{Base}
 use Rattle.cool_codegen.specs.declared.variables.Variable.{Variable}
 use Rattle.cool_codegen.specs.Variables.{Named, register}
-use Rattle.cool_codegen.specs.Variables as variables
 use Rattle.cool_codegen.specs.Pieces.{take_self_lines, load_lines}
 use Rattle.cool_codegen.specs.Code.{load_of}
 use Rattle.cool_meaning.specs.Values.{Value, State, Environment, location_of}

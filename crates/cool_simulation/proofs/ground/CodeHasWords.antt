@@ -2,7 +2,7 @@
 use Rattle.std.proofs.Common.{◌≡◌, ℕ, ◌+◌, ◌≤◌, List, [], ◌∷◌, ◌++◌, Bool as Truth, true, false, Option, Some, refl, sym, subst, arith}
 use Rattle.std.specs.Prelude.{bytes_eq, codes, if◌then◌else◌}
 use Rattle.mips_isa.specs.Lines.{Line}
-use Rattle.cool_syntax.specs.Tree.{Tree, Trees, MaybeTree, Cases, Last, More, Without, With, NoCase, CaseOf, tree_size, maybe_size}
+use Rattle.cool_syntax.specs.Tree.{Leaf, Tree, Trees, MaybeTree, Cases, Last, More, Without, With, NoCase, CaseOf, tree_size, maybe_size}
 use Rattle.cool_syntax.specs.Tree as trees
 use Rattle.cool_syntax.specs.WrittenTrees.{IsWritable, AreWritable, IsMaybeWritable, AreCasesWritable}
 use Rattle.cool_classes.specs.declared.class_id.ClassId.{ClassId}
@@ -27,27 +27,26 @@ use Rattle.cool_codegen.specs.Variables.{Named, bind, pushed}
 abbrev pub HasWord : List Named → List ℕ → Type 0
 HasWord vs name = 4 ≤ sizes (name_code vs name)
 
+abbrev LeafNamed : List Named → Leaf → Type 0
+LeafNamed vs (trees.new class) = Unit {0}
+LeafNamed vs (trees.id name) = HasWord vs name
+LeafNamed vs (trees.int value) = Unit {0}
+LeafNamed vs (trees.str bytes) = Unit {0}
+LeafNamed vs (trees.truth value) = Unit {0}
+
 abbrev mutual
   pub IsNamed : List Class → List Named → ℕ → Tree → Type 0
-  IsNamed p vs d (trees.Id at name) = HasWord vs name
-  IsNamed p vs d (trees.Int at value) = Unit {0}
-  IsNamed p vs d (trees.Str at bytes) = Unit {0}
-  IsNamed p vs d (trees.Bool at value) = Unit {0}
-  IsNamed p vs d (trees.New at class) = Unit {0}
-  IsNamed p vs d (trees.Assign at name t) = IsNamed p vs d t
-  IsNamed p vs d (trees.IsVoid at t) = IsNamed p vs d t
-  IsNamed p vs d (trees.Not at t) = IsNamed p vs d t
-  IsNamed p vs d (trees.Neg at t) = IsNamed p vs d t
+  IsNamed p vs d (trees.leaf at form) = LeafNamed vs form
+  IsNamed p vs d (trees.unary at form t) = IsNamed p vs d t
   IsNamed p vs d (trees.Arith at op a b) = IsNamed p vs d a × IsNamed p vs (d + 1) b
   IsNamed p vs d (trees.Compare at op a b) = IsNamed p vs d a × IsNamed p vs (d + 1) b
-  IsNamed p vs d (trees.If at t y n) = IsNamed p vs d t × IsNamed p vs d y × IsNamed p vs d n
   IsNamed p vs d (trees.While at t b) = IsNamed p vs d t × IsNamed p vs d b
+  IsNamed p vs d (trees.call at form t ts) = ArgumentsNamed p vs d ts × IsNamed p vs (d + trees_count ts) t
+  IsNamed p vs d (trees.If at t y n) = IsNamed p vs d t × IsNamed p vs d y × IsNamed p vs d n
   IsNamed p vs d (trees.Block at Last) = ⊥
   IsNamed p vs d (trees.Block at (More t ts)) = IsNamed p vs d t × ItemsNamed p vs d ts
   IsNamed p vs d (trees.Let at name declared o t) = MaybeNamed p vs d o × IsNamed p (bind d name (type_meant p declared.name) vs) (d + 1) t
   IsNamed p vs d (trees.Case at t cs) = IsNamed p vs d t × CasesNamed p vs d cs
-  IsNamed p vs d (trees.Dispatch at t name ts) = ArgumentsNamed p vs d ts × IsNamed p vs (d + trees_count ts) t
-  IsNamed p vs d (trees.StaticDispatch at t class name ts) = ArgumentsNamed p vs d ts × IsNamed p vs (d + trees_count ts) t
 
   pub ArgumentsNamed : List Class → List Named → ℕ → Trees → Type 0
   ArgumentsNamed p vs d Last = Unit {0}
@@ -96,10 +95,7 @@ module _ (p : List Class) (c : ClassId) where
   mutual
     pub named : (scope : List Binding) (vs : List Named) (d : ℕ) (t : Tree) (type : Ty) → HasType p c scope t type → Covered scope vs → IsWritable t → IsNamed p vs d t
     named scope vs d (trees.Id at name) type has h w = word_of scope vs name type h has
-    named scope vs d (trees.Int at value) type has h w = tt
-    named scope vs d (trees.Str at bytes) type has h w = tt
-    named scope vs d (trees.Bool at value) type has h w = tt
-    named scope vs d (trees.New at class) type has h w = tt
+    named scope vs d (trees.leaf at form) type has h w = tt
     named scope vs d (trees.Assign at name t) type (declared, other, has, there, conforms) h w = named scope vs d t type has h w
     named scope vs d (trees.IsVoid at t) type (u, has, is) h w = named scope vs d t u has h w
     named scope vs d (trees.Not at t) type (has, is) h w = named scope vs d t _ has h w
@@ -158,18 +154,13 @@ module _ (s : Context) (g : Constants) where
   pub has_word : (vs : List Named) (d k : ℕ) (t : Tree) → IsNamed s.table vs d t → 4 ≤ sizes (code s g vs d k t)
   unfolding take_lines
   has_word vs d k (trees.Id at name) h = h
-  has_word vs d k (trees.Int at value) h = omega arith
-  has_word vs d k (trees.Str at bytes) h = omega arith
-  has_word vs d k (trees.Bool at value) h = omega arith
   has_word vs d k (trees.New at class) h = new_long s.table (type_meant s.table class.name)
-  has_word vs d k (trees.Assign at name t) h = first_long (code s g vs d k t) _ (has_word vs d k t h)
-  has_word vs d k (trees.IsVoid at t) h = first_long (code s g vs d k t) _ (has_word vs d k t h)
+  has_word vs d k (trees.leaf at form) h = omega arith
   has_word vs d k (trees.Not at t) h = first_long (code s g vs d k t) _ (has_word vs d k t h)
-  has_word vs d k (trees.Neg at t) h = first_long (code s g vs d k t) _ (has_word vs d k t h)
-  has_word vs d k (trees.Arith at op a b) h = first_long (code s g vs d k a) _ (has_word vs d k a h.0)
-  has_word vs d k (trees.Compare at op a b) h = first_long (code s g vs d k a) _ (has_word vs d k a h.0)
-  has_word vs d k (trees.If at t y n) h = first_long (code s g vs d k t) _ (has_word vs d k t h.0)
+  has_word vs d k (trees.unary at form t) h = first_long (code s g vs d k t) _ (has_word vs d k t h)
   has_word vs d k (trees.While at t b) h = second_long _ _ (first_long (code s g vs d k t) _ (has_word vs d k t h.0))
+  has_word vs d k (trees.binary at form a b) h = first_long (code s g vs d k a) _ (has_word vs d k a h.0)
+  has_word vs d k (trees.If at t y n) h = first_long (code s g vs d k t) _ (has_word vs d k t h.0)
   has_word vs d k (trees.Block at Last) h = absurd h
   has_word vs d k (trees.Block at (More t ts)) h = first_long (code s g vs d k t) _ (has_word vs d k t h.0)
   has_word vs d k (trees.Let at name declared o t) h =
@@ -178,4 +169,4 @@ module _ (s : Context) (g : Constants) where
       second_long (initial_code s g vs d k type o) (push_lines ++ rest) (first_long push_lines rest (omega arith))
   has_word vs d k (trees.Case at t cs) h = first_long (code s g vs d k t) _ (has_word vs d k t h.0)
   has_word vs d k (trees.Dispatch at t name ts) h = second_long (arguments_code s g vs d (k + tree_size t) ts) _ (first_long (code s g vs (d + trees_count ts) k t) _ (has_word vs (d + trees_count ts) k t h.1))
-  has_word vs d k (trees.StaticDispatch at t class name ts) h = second_long (arguments_code s g vs d (k + tree_size t) ts) _ (first_long (code s g vs (d + trees_count ts) k t) _ (has_word vs (d + trees_count ts) k t h.1))
+  has_word vs d k (trees.call at form t ts) h = second_long (arguments_code s g vs d (k + tree_size t) ts) _ (first_long (code s g vs (d + trees_count ts) k t) _ (has_word vs (d + trees_count ts) k t h.1))

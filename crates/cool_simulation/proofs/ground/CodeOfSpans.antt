@@ -71,7 +71,28 @@ module _ (files : List (List ℕ)) (I : ℕ → Type 0) (X : List ℕ → Type 0
       pub spans_fit : (vs : List Named) (d k pc : ℕ) (t : Tree) → Asked (integers_in t) (strings_in files t) → IsTreeWithin (length files) t → d + tree_size t ≤ 8000
           → AllByRecursion FitSpan (spans size s g vs d k pc t)
       spans_fit vs d k pc (trees.Id at name) h w l = (record { asked = h; within = w; small = l }, tt)
+      spans_fit vs d k pc (trees.leaf at form) h w l = (record { asked = h; within = w; small = l }, tt)
       spans_fit vs d k pc (trees.Assign at name t) h w l = (record { asked = h; within = w; small = l }, spans_fit vs d k _ t h w.2 (omega arith))
+      spans_fit vs d k pc (trees.Neg at t) h w l = (record { asked = h; within = w; small = l }, spans_fit vs d k _ t (of_part (integers_in t) (strings_in files t) (file_of files at) h) w.1 (omega arith))
+      spans_fit vs d k pc (trees.unary at form t) h w l = (record { asked = h; within = w; small = l }, spans_fit vs d k _ t h w.1 (omega arith))
+      spans_fit vs d k pc (trees.Arith at op a b) h w l = (
+        record { asked = h; within = w; small = l },
+        all_append FitSpan (spans size s g vs d k pc a) _
+            (spans_fit vs d k pc a (of_front (integers_in a) _ (strings_in files a) _ h) w.1 (omega arith))
+            (spans_fit vs (d + 1) (k + tree_size a) _ b (of_part (integers_in b) (strings_in files b) (files_of files op at) (of_back (integers_in a) _ (strings_in files a) _ h)) w.2 (let one = one_le_size a in omega arith)),
+      )
+      spans_fit vs d k pc (trees.Compare at op a b) h w l = (
+        record { asked = h; within = w; small = l },
+        all_append FitSpan (spans size s g vs d k pc a) _
+            (spans_fit vs d k pc a (of_front (integers_in a) _ (strings_in files a) _ h) w.1 (omega arith))
+            (spans_fit vs (d + 1) (k + tree_size a) _ b (of_back (integers_in a) _ (strings_in files a) _ h) w.2 (let one = one_le_size a in omega arith)),
+      )
+      spans_fit vs d k pc (trees.While at t b) h w l = (
+        record { asked = h; within = w; small = l },
+        all_append FitSpan (spans size s g vs d k _ t) _
+            (spans_fit vs d k _ t (of_front (integers_in t) _ (strings_in files t) _ h) w.1 (omega arith))
+            (spans_fit vs d (k + tree_size t) _ b (of_back (integers_in t) _ (strings_in files t) _ h) w.2 (omega arith)),
+      )
       spans_fit vs d k pc (trees.Dispatch at t name ts) h w l =
           let few = count_low ts in (
             record { asked = h; within = w; small = l },
@@ -95,12 +116,6 @@ module _ (files : List (List ℕ)) (I : ℕ → Type 0) (X : List ℕ → Type 0
                 (spans_fit vs d (k + tree_size t) _ y (of_front (integers_in y) _ (strings_in files y) _ rest) w.2 (omega arith))
                 (spans_fit vs d (k + tree_size t + tree_size y) _ n (of_back (integers_in y) _ (strings_in files y) _ rest) w.3 (omega arith))),
           )
-      spans_fit vs d k pc (trees.While at t b) h w l = (
-        record { asked = h; within = w; small = l },
-        all_append FitSpan (spans size s g vs d k _ t) _
-            (spans_fit vs d k _ t (of_front (integers_in t) _ (strings_in files t) _ h) w.1 (omega arith))
-            (spans_fit vs d (k + tree_size t) _ b (of_back (integers_in t) _ (strings_in files t) _ h) w.2 (omega arith)),
-      )
       spans_fit vs d k pc (trees.Block at ts) h w l = (record { asked = h; within = w; small = l }, items_fit vs d k pc ts h w.1 (omega arith))
       spans_fit vs d k pc (trees.Let at name declared o t) h w l = (
         record { asked = h; within = w; small = l },
@@ -116,25 +131,6 @@ module _ (files : List (List ℕ)) (I : ℕ → Type 0) (X : List ℕ → Type 0
                 (along_fit (branches size s g vs d (k + tree_size t) (label_at s (codes "end") (root k (trees.Case at t cs))) [] cs) _
                 (branches_fit vs d (k + tree_size t) (label_at s (codes "end") (root k (trees.Case at t cs))) [] cs tt rest w.2 (omega arith))),
           )
-      spans_fit vs d k pc (trees.New at class) h w l = (record { asked = h; within = w; small = l }, tt)
-      spans_fit vs d k pc (trees.IsVoid at t) h w l = (record { asked = h; within = w; small = l }, spans_fit vs d k _ t h w.1 (omega arith))
-      spans_fit vs d k pc (trees.Arith at op a b) h w l = (
-        record { asked = h; within = w; small = l },
-        all_append FitSpan (spans size s g vs d k pc a) _
-            (spans_fit vs d k pc a (of_front (integers_in a) _ (strings_in files a) _ h) w.1 (omega arith))
-            (spans_fit vs (d + 1) (k + tree_size a) _ b (of_part (integers_in b) (strings_in files b) (files_of files op at) (of_back (integers_in a) _ (strings_in files a) _ h)) w.2 (let one = one_le_size a in omega arith)),
-      )
-      spans_fit vs d k pc (trees.Neg at t) h w l = (record { asked = h; within = w; small = l }, spans_fit vs d k _ t (of_part (integers_in t) (strings_in files t) (file_of files at) h) w.1 (omega arith))
-      spans_fit vs d k pc (trees.Compare at op a b) h w l = (
-        record { asked = h; within = w; small = l },
-        all_append FitSpan (spans size s g vs d k pc a) _
-            (spans_fit vs d k pc a (of_front (integers_in a) _ (strings_in files a) _ h) w.1 (omega arith))
-            (spans_fit vs (d + 1) (k + tree_size a) _ b (of_back (integers_in a) _ (strings_in files a) _ h) w.2 (let one = one_le_size a in omega arith)),
-      )
-      spans_fit vs d k pc (trees.Not at t) h w l = (record { asked = h; within = w; small = l }, spans_fit vs d k _ t h w.1 (omega arith))
-      spans_fit vs d k pc (trees.Int at value) h w l = (record { asked = h; within = w; small = l }, tt)
-      spans_fit vs d k pc (trees.Str at bytes) h w l = (record { asked = h; within = w; small = l }, tt)
-      spans_fit vs d k pc (trees.Bool at value) h w l = (record { asked = h; within = w; small = l }, tt)
 
       arguments_fit : (vs : List Named) (d k pc : ℕ) (ts : Trees) → Asked (integers_in_all ts) (strings_in_all files ts) → AreTreesWithin (length files) ts → d + trees_size ts ≤ 8000
           → AllByRecursion FitSpan (arguments_spans size s g vs d k pc ts)

@@ -42,24 +42,18 @@ arms_free pc (a ∷ as') = (free _ _, free _ _, arms_free (pc + sizes a.lines) a
 
 quiet_at : (s : Context) (g : Constants) (vs : List Named) (d k pc : ℕ) (t : Tree) → IsQuietAt never s g vs d k pc t
 quiet_at s g vs d k pc (trees.Id at name) = free _ _
-quiet_at s g vs d k pc (trees.Int at value) = free _ _
-quiet_at s g vs d k pc (trees.Str at bytes) = free _ _
-quiet_at s g vs d k pc (trees.Bool at value) = free _ _
-quiet_at s g vs d k pc (trees.New at class) = free _ _
-quiet_at s g vs d k pc (trees.Assign at name t) = free _ _
-quiet_at s g vs d k pc (trees.IsVoid at t) = free _ _
+quiet_at s g vs d k pc (trees.leaf at form) = free _ _
 quiet_at s g vs d k pc (trees.Not at t) = free _ _
-quiet_at s g vs d k pc (trees.Neg at t) = free _ _
+quiet_at s g vs d k pc (trees.unary at form t) = free _ _
 quiet_at s g vs d k pc (trees.Arith at op a b) = (free _ _, free _ _)
-quiet_at s g vs d k pc (trees.Compare at op a b) = (free _ _, free _ _)
+quiet_at s g vs d k pc (trees.binary at form a b) = (free _ _, free _ _)
 quiet_at s g vs d k pc (trees.If at t y n) = (free _ _, free _ _)
-quiet_at s g vs d k pc (trees.While at t b) = (free _ _, free _ _)
 quiet_at s g vs d k pc (trees.Block at ts) = tt
 quiet_at s g vs d k pc (trees.Let at name declared Without t) = (free _ _, free _ _)
 quiet_at s g vs d k pc (trees.Let at name declared (With u) t) = (free _ _, free _ _)
 quiet_at s g vs d k pc (trees.Case at t cs) = (free _ _, arms_free _ _, free _ _)
 quiet_at s g vs d k pc (trees.Dispatch at t name ts) = (pushes_free s g vs d (k + tree_size t) pc ts, free _ _)
-quiet_at s g vs d k pc (trees.StaticDispatch at t class name ts) = (pushes_free s g vs d (k + tree_size t) pc ts, free _ _)
+quiet_at s g vs d k pc (trees.call at form t ts) = (pushes_free s g vs d (k + tree_size t) pc ts, free _ _)
 
 value_free : (s : Context) (g : Constants) (pc : ℕ) (o : Option Tree) → IfSome o (λ t. IsFree never (pc + sizes (code s g (attributes_in s.table s.class) 0 0 t)) (pc + sizes (initial_value_code s g (Some t))))
 value_free s g pc None = tt

@@ -7,18 +7,16 @@ use Rattle.mips_isa.specs.Lines.{Name, Line}
 use Rattle.cool_syntax.specs.Tree.{Tree, Trees, Cases, Last, More, Without, With, NoCase, CaseOf, tree_size}
 use Rattle.cool_syntax.specs.Tree as trees
 use Rattle.cool_syntax.specs.NodeLists.{root}
-use Rattle.cool_rules.specs.Conformance.{class_of}
 use Rattle.cool_rules.specs.Rules.{type_meant}
-use Rattle.cool_rules.specs.StaticTypes.{type_of}
 use Rattle.cool_runtime.specs.Routines.{push_lines}
 use Rattle.cool_runtime.specs.Standing.{sizes}
 use Rattle.cool_consts.specs.Constants.{Constants}
 use Rattle.cool_codegen.specs.Arms.{Arm, arms_lines}
-use Rattle.cool_codegen.specs.Code.{Context, arith_code, arguments_code, arms_code, assign_code, bool_code, code, compare_code, default_code, file_label, int_code, items_code, label_at, range_code, slot_code, static_code}
-use Rattle.cool_codegen.specs.Pieces.{case_begin_lines, case_end_lines, complement_lines, is_void_lines, mark_lines, negate_lines, pop_lines, repeat_lines, test_lines, turn_lines}
+use Rattle.cool_codegen.specs.Code.{Context, arguments_code, arms_code, code, default_code, file_label, items_code, label_at, range_code}
+use Rattle.cool_codegen.specs.Pieces.{case_begin_lines, case_end_lines, mark_lines, pop_lines, repeat_lines, test_lines, turn_lines}
 use Rattle.cool_codegen.specs.Spans.{Span, Spanned, arguments_spans, branches, items_spans, span, spans, with_branch}
 use Rattle.cool_codegen.specs.Types.{class_meant, trees_count}
-use Rattle.cool_codegen.specs.Variables.{Named, bind, scope_of}
+use Rattle.cool_codegen.specs.Variables.{Named, bind}
 use Rattle.lists.proofs.AllItems.{all_append}
 use Rattle.cool_simulation.specs.Quiet.{AreArmsFree, ArePushesFree, IsFree, IsQuiet}
 use Rattle.cool_simulation.proofs.ground.CodeHasWords.{ArgumentsNamed, CasesNamed, IsNamed, ItemsNamed, sizes_append}
@@ -148,7 +146,15 @@ module _ (marked : ℕ → Truth) where
     alone : (pc end : ℕ) (own : Span) → own.from ≡ pc → Marked pc end (own ∷ []) → IsFree marked (pc + 4) end
     alone pc end own same h = free_where (pc + 4) end [] (gone pc end (pc + 4) own [] h (omega arith) (omega arith)) (λ x there from to. absurd (let less = there.1 in omega arith))
 
-    -- two operands, and a call
+    -- one part, two operands, and a call
+    part : (vs : List Named) (d k pc : ℕ) (t : Tree) (rest : List Line) (own : Span) → own.from ≡ pc → IsNamed s.table vs d t
+        → Marked pc (pc + sizes (code s g vs d k t ++ rest)) (own ∷ spans sizes s g vs d k pc t)
+        → One pc (pc + sizes (code s g vs d k t)) (pc + sizes (code s g vs d k t ++ rest)) (spans sizes s g vs d k pc t)
+    part vs d k pc t rest own same h m =
+        let mine = code s g vs d k t in
+        let total = sizes_append mine rest in
+        one pc (pc + sizes mine) (pc + sizes (mine ++ rest)) own (span vs d k pc t) _ m (own_span sizes s g vs d k pc t) (sym same) (within s g vs d k pc t h) (omega arith) (omega arith)
+
     operands : (vs : List Named) (d k pc : ℕ) (a b : Tree) (rest : List Line) (own : Span) → own.from ≡ pc → IsNamed s.table vs d a → IsNamed s.table vs (d + 1) b
         → Marked pc (pc + sizes (code s g vs d k a ++ (push_lines ++ (code s g vs (d + 1) (k + tree_size a) b ++ rest))))
         (own ∷ spans sizes s g vs d k pc a ++ spans sizes s g vs (d + 1) (k + tree_size a) (pc + sizes (code s g vs d k a) + sizes push_lines) b)
@@ -192,38 +198,33 @@ module _ (marked : ℕ → Truth) where
     mutual
       quiet : (vs : List Named) (d k pc : ℕ) (t : Tree) → IsNamed s.table vs d t → Marked pc (pc + sizes (code s g vs d k t)) (spans sizes s g vs d k pc t) → AllQuiet (spans sizes s g vs d k pc t)
       quiet vs d k pc (trees.Id at name) h m = (alone pc _ _ refl m, tt)
-      quiet vs d k pc (trees.Int at value) h m = (alone pc _ _ refl m, tt)
-      quiet vs d k pc (trees.Str at bytes) h m = (alone pc _ _ refl m, tt)
-      quiet vs d k pc (trees.Bool at value) h m = (alone pc _ _ refl m, tt)
-      quiet vs d k pc (trees.New at class) h m = (alone pc _ _ refl m, tt)
-      quiet vs d k pc (trees.Assign at name t) h m =
-          let mine = code s g vs d k t in
-          let total = sizes_append mine (assign_code vs name) in
-          let p = one pc (pc + sizes mine) (pc + sizes (mine ++ assign_code vs name)) _ (span vs d k pc t) _ m (own_span sizes s g vs d k pc t) refl (within s g vs d k pc t h) (omega arith) (omega arith) in
-          (p.rest, quiet vs d k pc t h p.part)
-      quiet vs d k pc (trees.IsVoid at t) h m =
-          let mine = code s g vs d k t in
-          let more = is_void_lines ++ bool_code s (root k (trees.IsVoid at t)) in
-          let total = sizes_append mine more in
-          let p = one pc (pc + sizes mine) (pc + sizes (mine ++ more)) _ (span vs d k pc t) _ m (own_span sizes s g vs d k pc t) refl (within s g vs d k pc t h) (omega arith) (omega arith) in
-          (p.rest, quiet vs d k pc t h p.part)
-      quiet vs d k pc (trees.Not at t) h m =
-          let mine = code s g vs d k t in
-          let more = complement_lines ++ bool_code s (root k (trees.Not at t)) in
-          let total = sizes_append mine more in
-          let p = one pc (pc + sizes mine) (pc + sizes (mine ++ more)) _ (span vs d k pc t) _ m (own_span sizes s g vs d k pc t) refl (within s g vs d k pc t h) (omega arith) (omega arith) in
-          (p.rest, quiet vs d k pc t h p.part)
-      quiet vs d k pc (trees.Neg at t) h m =
-          let mine = code s g vs d k t in
-          let more = negate_lines ++ int_code s g at (root k (trees.Neg at t)) in
-          let total = sizes_append mine more in
-          let p = one pc (pc + sizes mine) (pc + sizes (mine ++ more)) _ (span vs d k pc t) _ m (own_span sizes s g vs d k pc t) refl (within s g vs d k pc t h) (omega arith) (omega arith) in
-          (p.rest, quiet vs d k pc t h p.part)
-      quiet vs d k pc (trees.Arith at op a b) h m =
-          let p = operands vs d k pc a b (arith_code s g op at (root k (trees.Arith at op a b))) _ refl h.0 h.1 m in
-          ((p.middle, p.rest), all_append (IsQuiet marked s g) (spans sizes s g vs d k pc a) _ (quiet vs d k pc a h.0 p.first) (quiet vs (d + 1) (k + tree_size a) _ b h.1 p.second))
-      quiet vs d k pc (trees.Compare at op a b) h m =
-          let p = operands vs d k pc a b (compare_code s op (root k (trees.Compare at op a b))) _ refl h.0 h.1 m in
+      quiet vs d k pc (trees.leaf at form) h m = (alone pc _ _ refl m, tt)
+      quiet vs d k pc (trees.Not at t) h m = let p = part vs d k pc t _ _ refl h m in (p.rest, quiet vs d k pc t h p.part)
+      quiet vs d k pc (trees.unary at form t) h m = let p = part vs d k pc t _ _ refl h m in (p.rest, quiet vs d k pc t h p.part)
+      quiet vs d k pc (trees.While at t b) h m =
+          let loop = label_at s (codes "loop") (root k (trees.While at t b)) in
+          let end = label_at s (codes "end") (root k (trees.While at t b)) in
+          let mark = mark_lines loop in
+          let lt = code s g vs d k t in
+          let lb = code s g vs d (k + tree_size t) b in
+          let r4 = repeat_lines loop end in
+          let r3 = lb ++ r4 in
+          let r2 = test_lines end ++ r3 in
+          let r1 = lt ++ r2 in
+          let a0 = sizes_append mark r1 in let a1 = sizes_append lt r2 in let a2 = sizes_append (test_lines end) r3 in let a3 = sizes_append lb r4 in let a4 = mark_sizes loop in
+          let pc0 = pc + sizes mark in
+          let pc1 = pc0 + sizes lt in
+          let pc2 = pc1 + sizes (test_lines end) in
+          let pc3 = pc2 + sizes lb in
+          let last = pc + sizes (mark ++ r1) in
+          let xt = spans sizes s g vs d k pc0 t in
+          let xb = spans sizes s g vs d (k + tree_size t) pc2 b in
+          let first = span vs d k pc0 t in
+          let m1 = below pc last (span vs d k pc (trees.While at t b)) (xt ++ xb) first m (Contains-append_left xt _ first (own_span sizes s g vs d k pc0 t)) (omega arith) in
+          let p = split pc pc0 pc1 pc2 pc3 last xt xb m1 (within s g vs d k pc0 t h.0) (within s g vs d (k + tree_size t) pc2 b h.1) (omega arith) (omega arith) (omega arith) (omega arith) (omega arith) in
+          ((p.middle, p.rest), all_append (IsQuiet marked s g) xt xb (quiet vs d k pc0 t h.0 p.first) (quiet vs d (k + tree_size t) pc2 b h.1 p.second))
+      quiet vs d k pc (trees.binary at form a b) h m =
+          let p = operands vs d k pc a b _ _ refl h.0 h.1 m in
           ((p.middle, p.rest), all_append (IsQuiet marked s g) (spans sizes s g vs d k pc a) _ (quiet vs d k pc a h.0 p.first) (quiet vs (d + 1) (k + tree_size a) _ b h.1 p.second))
       quiet vs d k pc (trees.If at t y n) h m =
           let other = label_at s (codes "else") (root k (trees.If at t y n)) in
@@ -255,28 +256,6 @@ module _ (marked : ℕ → Truth) where
             all_append (IsQuiet marked s g) xt (xy ++ xn) (quiet vs d k pc t h.0 p.first)
                 (all_append (IsQuiet marked s g) xy xn (quiet vs d (k + tree_size t) pc2 y h.1 o.first) (quiet vs d (k + tree_size t + tree_size y) pc4 n h.2 o.second)),
           )
-      quiet vs d k pc (trees.While at t b) h m =
-          let loop = label_at s (codes "loop") (root k (trees.While at t b)) in
-          let end = label_at s (codes "end") (root k (trees.While at t b)) in
-          let mark = mark_lines loop in
-          let lt = code s g vs d k t in
-          let lb = code s g vs d (k + tree_size t) b in
-          let r4 = repeat_lines loop end in
-          let r3 = lb ++ r4 in
-          let r2 = test_lines end ++ r3 in
-          let r1 = lt ++ r2 in
-          let a0 = sizes_append mark r1 in let a1 = sizes_append lt r2 in let a2 = sizes_append (test_lines end) r3 in let a3 = sizes_append lb r4 in let a4 = mark_sizes loop in
-          let pc0 = pc + sizes mark in
-          let pc1 = pc0 + sizes lt in
-          let pc2 = pc1 + sizes (test_lines end) in
-          let pc3 = pc2 + sizes lb in
-          let last = pc + sizes (mark ++ r1) in
-          let xt = spans sizes s g vs d k pc0 t in
-          let xb = spans sizes s g vs d (k + tree_size t) pc2 b in
-          let first = span vs d k pc0 t in
-          let m1 = below pc last (span vs d k pc (trees.While at t b)) (xt ++ xb) first m (Contains-append_left xt _ first (own_span sizes s g vs d k pc0 t)) (omega arith) in
-          let p = split pc pc0 pc1 pc2 pc3 last xt xb m1 (within s g vs d k pc0 t h.0) (within s g vs d (k + tree_size t) pc2 b h.1) (omega arith) (omega arith) (omega arith) (omega arith) (omega arith) in
-          ((p.middle, p.rest), all_append (IsQuiet marked s g) xt xb (quiet vs d k pc0 t h.0 p.first) (quiet vs d (k + tree_size t) pc2 b h.1 p.second))
       quiet vs d k pc (trees.Block at Last) h m = absurd h
       quiet vs d k pc (trees.Block at (More t ts)) h m =
           let last = pc + sizes (items_code s g vs d k (More t ts)) in
@@ -345,13 +324,11 @@ module _ (marked : ℕ → Truth) where
             all_append (IsQuiet marked s g) xt xb (quiet vs d k pc t h.0 p.first) q.1,
           )
       quiet vs d k pc (trees.Dispatch at t name ts) h m =
-          let lines = slot_code s g at (class_of s.class (type_of s.table s.class (scope_of vs) t)) name in
-          let p = call vs d k pc t ts lines (span vs d k pc (trees.Dispatch at t name ts)) refl h.0 h.1 m in
+          let p = call vs d k pc t ts _ _ refl h.0 h.1 m in
           let q = arguments_quiet vs d (k + tree_size t) pc ts h.0 p.first in
           ((q.0, p.rest), all_append (IsQuiet marked s g) (arguments_spans sizes s g vs d (k + tree_size t) pc ts) _ q.1 (quiet vs (d + trees_count ts) k _ t h.1 p.second))
-      quiet vs d k pc (trees.StaticDispatch at t class name ts) h m =
-          let lines = static_code s g at (class_meant s.table s.class class.name) name in
-          let p = call vs d k pc t ts lines (span vs d k pc (trees.StaticDispatch at t class name ts)) refl h.0 h.1 m in
+      quiet vs d k pc (trees.call at form t ts) h m =
+          let p = call vs d k pc t ts _ _ refl h.0 h.1 m in
           let q = arguments_quiet vs d (k + tree_size t) pc ts h.0 p.first in
           ((q.0, p.rest), all_append (IsQuiet marked s g) (arguments_spans sizes s g vs d (k + tree_size t) pc ts) _ q.1 (quiet vs (d + trees_count ts) k _ t h.1 p.second))
 

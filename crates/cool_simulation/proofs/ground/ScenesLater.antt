@@ -96,44 +96,11 @@ make_works p calls (Some c) st n v t left e =
 pub eval_works : (p : List Class) (calls : Calls) (self : Value) (env : Environment) (t : Tree) (st : State) (n : ℕ) (v : Value) (u : State) (left : ℕ) → (eval p calls self env t st n).outcome ≡ Val v u left
     → 1 ≤ (eval p calls self env t st n).work
 eval_works p calls self env (trees.New at class) st n v u left e = make_works p calls (class_made p self class.name) st n v u left e
-eval_works p calls self env (trees.Id at name) st n v u left e = omega arith
-eval_works p calls self env (trees.Int at x) st n v u left e = omega arith
-eval_works p calls self env (trees.Str at x) st n v u left e = omega arith
-eval_works p calls self env (trees.Bool at x) st n v u left e = omega arith
-eval_works p calls self env (trees.Assign at name t) st n v u left e = omega arith
-eval_works p calls self env (trees.Dispatch at t name ts) st n v u left e = omega arith
-eval_works p calls self env (trees.StaticDispatch at t class name ts) st n v u left e = omega arith
-eval_works p calls self env (trees.If at a b c) st n v u left e = omega arith
-eval_works p calls self env (trees.While at a b) st n v u left e = omega arith
-eval_works p calls self env (trees.Block at ts) st n v u left e = omega arith
-eval_works p calls self env (trees.Let at name declared o t) st n v u left e = omega arith
-eval_works p calls self env (trees.Case at t cs) st n v u left e = omega arith
-eval_works p calls self env (trees.IsVoid at t) st n v u left e = omega arith
-eval_works p calls self env (trees.Arith at op a b) st n v u left e = omega arith
-eval_works p calls self env (trees.Neg at t) st n v u left e = omega arith
-eval_works p calls self env (trees.Compare at op a b) st n v u left e = omega arith
+eval_works p calls self env (trees.leaf at form) st n v u left e = omega arith
 eval_works p calls self env (trees.Not at t) st n v u left e = omega arith
-
--- each tree has some size
-pub tree_some : (t : Tree) → 1 ≤ trees.tree_size t
-tree_some (trees.New at class) = omega arith
-tree_some (trees.Id at name) = omega arith
-tree_some (trees.Int at x) = omega arith
-tree_some (trees.Str at x) = omega arith
-tree_some (trees.Bool at x) = omega arith
-tree_some (trees.Assign at name t) = omega arith
-tree_some (trees.Dispatch at t name ts) = omega arith
-tree_some (trees.StaticDispatch at t class name ts) = omega arith
-tree_some (trees.If at a b c) = omega arith
-tree_some (trees.While at a b) = omega arith
-tree_some (trees.Block at ts) = omega arith
-tree_some (trees.Let at name declared o t) = omega arith
-tree_some (trees.Case at t cs) = omega arith
-tree_some (trees.IsVoid at t) = omega arith
-tree_some (trees.Arith at op a b) = omega arith
-tree_some (trees.Neg at t) = omega arith
-tree_some (trees.Compare at op a b) = omega arith
-tree_some (trees.Not at t) = omega arith
+eval_works p calls self env (trees.Compare at op a b) st n v u left e = omega arith
+eval_works p calls self env (trees.Dispatch at t name ts) st n v u left e = omega arith
+eval_works p calls self env t st n v u left e = omega arith
 
 -- the types in scope are types
 pub types_in_scope : (p : List Class) → IsTypedTable p → (made : fitting.World) (k : ClassId) (store : List Value) → AllFit p made store made → (scope : List Binding) (env : Environment) → Holds made k scope env

@@ -13,13 +13,11 @@ use Rattle.cool_runtime.specs.Routines.{push_lines}
 use Rattle.cool_runtime.specs.Standing.{sizes}
 use Rattle.cool_consts.specs.Constants.{Constants}
 use Rattle.cool_codegen.specs.Arms.{Arm, arms_lines, with_arm}
-use Rattle.cool_codegen.specs.Code.{Context, arith_code, arguments_code, arms_code, assign_code, bool_code, code, compare_code, file_label, initial_code, int_code, items_code, label_at, range_code, slot_code, static_code}
-use Rattle.cool_codegen.specs.Pieces.{case_begin_lines, case_end_lines, complement_lines, is_void_lines, mark_lines, negate_lines, pop_lines, repeat_lines, test_lines, try_tags_lines, turn_lines}
+use Rattle.cool_codegen.specs.Code.{Context, arguments_code, arms_code, code, file_label, initial_code, items_code, label_at, range_code}
+use Rattle.cool_codegen.specs.Pieces.{case_begin_lines, case_end_lines, mark_lines, pop_lines, repeat_lines, test_lines, try_tags_lines, turn_lines}
 use Rattle.cool_codegen.specs.Spans.{Span, Spanned, along, arguments_spans, branches, initial_spans, items_spans, spans, with_branch}
 use Rattle.cool_codegen.specs.Types.{class_meant, trees_count}
-use Rattle.cool_codegen.specs.Variables.{Named, bind, scope_of}
-use Rattle.cool_rules.specs.Conformance.{class_of}
-use Rattle.cool_rules.specs.StaticTypes.{type_of}
+use Rattle.cool_codegen.specs.Variables.{Named, bind}
 use Rattle.lists.proofs.AllItems.{all_append, all_then}
 use Rattle.cool_simulation.proofs.ground.CodeHasWords.{ArgumentsNamed, CasesNamed, IsNamed, ItemsNamed, MaybeNamed, has_word, sizes_append}
 
@@ -109,6 +107,13 @@ module _ (s : Context) (g : Constants) where
       let pc2 = pc1 + sizes push_lines in
       two pc pc1 pc2 (pc2 + sizes two') pc (pc + sizes (one ++ r1)) _ _ (omega arith) (omega arith) (omega arith) (omega arith) h h'
 
+  part_within : (vs : List Named) (d k pc : ℕ) (t : Tree) (rest : List Line) → Within pc (pc + sizes (code s g vs d k t)) (spans sizes s g vs d k pc t)
+      → Within pc (pc + sizes (code s g vs d k t ++ rest)) (spans sizes s g vs d k pc t)
+  part_within vs d k pc t rest h =
+      let one = code s g vs d k t in
+      let total = sizes_append one rest in
+      wide pc (pc + sizes one) pc (pc + sizes (one ++ rest)) _ (omega arith) (omega arith) h
+
   call_within : (vs : List Named) (d k pc : ℕ) (t : Tree) (ts : Trees) (rest : List Line) → Within pc (pc + sizes (arguments_code s g vs d (k + tree_size t) ts)) (arguments_spans sizes s g vs d (k + tree_size t) pc ts)
       → Within (pc + sizes (arguments_code s g vs d (k + tree_size t) ts)) (pc + sizes (arguments_code s g vs d (k + tree_size t) ts) + sizes (code s g vs (d + trees_count ts) k t))
       (spans sizes s g vs (d + trees_count ts) k (pc + sizes (arguments_code s g vs d (k + tree_size t) ts)) t)
@@ -124,39 +129,30 @@ module _ (s : Context) (g : Constants) where
   mutual
     pub within : (vs : List Named) (d k pc : ℕ) (t : Tree) → IsNamed s.table vs d t → Within pc (pc + sizes (code s g vs d k t)) (spans sizes s g vs d k pc t)
     within vs d k pc (trees.Id at name) h = let some = has_word s g vs d k (trees.Id at name) h in ((omega arith, omega arith), tt)
-    within vs d k pc (trees.Int at value) h = let some = has_word s g vs d k (trees.Int at value) h in ((omega arith, omega arith), tt)
-    within vs d k pc (trees.Str at bytes) h = let some = has_word s g vs d k (trees.Str at bytes) h in ((omega arith, omega arith), tt)
-    within vs d k pc (trees.Bool at value) h = let some = has_word s g vs d k (trees.Bool at value) h in ((omega arith, omega arith), tt)
-    within vs d k pc (trees.New at class) h = let some = has_word s g vs d k (trees.New at class) h in ((omega arith, omega arith), tt)
-    within vs d k pc (trees.Assign at name t) h =
-        let some = has_word s g vs d k (trees.Assign at name t) h in
-        let one = code s g vs d k t in
-        let total = sizes_append one (assign_code vs name) in
-        ((omega arith, omega arith), wide pc (pc + sizes one) pc (pc + sizes (one ++ assign_code vs name)) _ (omega arith) (omega arith) (within vs d k pc t h))
-    within vs d k pc (trees.IsVoid at t) h =
-        let some = has_word s g vs d k (trees.IsVoid at t) h in
-        let one = code s g vs d k t in
-        let rest = is_void_lines ++ bool_code s (root k (trees.IsVoid at t)) in
-        let total = sizes_append one rest in
-        ((omega arith, omega arith), wide pc (pc + sizes one) pc (pc + sizes (one ++ rest)) _ (omega arith) (omega arith) (within vs d k pc t h))
+    within vs d k pc (trees.leaf at form) h = let some = has_word s g vs d k (trees.leaf at form) h in ((omega arith, omega arith), tt)
     within vs d k pc (trees.Not at t) h =
-        let some = has_word s g vs d k (trees.Not at t) h in
+        let some = has_word s g vs d k (trees.Not at t) h in ((omega arith, omega arith), part_within vs d k pc t _ (within vs d k pc t h))
+    within vs d k pc (trees.unary at form t) h =
+        let some = has_word s g vs d k (trees.unary at form t) h in ((omega arith, omega arith), part_within vs d k pc t _ (within vs d k pc t h))
+    within vs d k pc (trees.While at t b) h =
+        let some = has_word s g vs d k (trees.While at t b) h in
+        let loop = label_at s (codes "loop") (root k (trees.While at t b)) in
+        let end = label_at s (codes "end") (root k (trees.While at t b)) in
+        let mark = mark_lines loop in
         let one = code s g vs d k t in
-        let rest = complement_lines ++ bool_code s (root k (trees.Not at t)) in
-        let total = sizes_append one rest in
-        ((omega arith, omega arith), wide pc (pc + sizes one) pc (pc + sizes (one ++ rest)) _ (omega arith) (omega arith) (within vs d k pc t h))
-    within vs d k pc (trees.Neg at t) h =
-        let some = has_word s g vs d k (trees.Neg at t) h in
-        let one = code s g vs d k t in
-        let rest = negate_lines ++ int_code s g at (root k (trees.Neg at t)) in
-        let total = sizes_append one rest in
-        ((omega arith, omega arith), wide pc (pc + sizes one) pc (pc + sizes (one ++ rest)) _ (omega arith) (omega arith) (within vs d k pc t h))
-    within vs d k pc (trees.Arith at op a b) h =
-        let some = has_word s g vs d k (trees.Arith at op a b) h in
-        ((omega arith, omega arith), operands_within vs d k pc a b (arith_code s g op at (root k (trees.Arith at op a b))) (within vs d k pc a h.0) (within vs (d + 1) (k + tree_size a) _ b h.1))
-    within vs d k pc (trees.Compare at op a b) h =
-        let some = has_word s g vs d k (trees.Compare at op a b) h in
-        ((omega arith, omega arith), operands_within vs d k pc a b (compare_code s op (root k (trees.Compare at op a b))) (within vs d k pc a h.0) (within vs (d + 1) (k + tree_size a) _ b h.1))
+        let two' = code s g vs d (k + tree_size t) b in
+        let r4 = repeat_lines loop end in
+        let r3 = two' ++ r4 in
+        let r2 = test_lines end ++ r3 in
+        let r1 = one ++ r2 in
+        let a0 = sizes_append mark r1 in let a1 = sizes_append one r2 in let a2 = sizes_append (test_lines end) r3 in let a3 = sizes_append two' r4 in
+        let pc0 = pc + sizes mark in
+        let pc1 = pc0 + sizes one in
+        let pc2 = pc1 + sizes (test_lines end) in
+        ((omega arith, omega arith), two pc0 pc1 pc2 (pc2 + sizes two') pc (pc + sizes (mark ++ r1)) _ _ (omega arith) (omega arith) (omega arith) (omega arith) (within vs d k pc0 t h.0) (within vs d (k + tree_size t) pc2 b h.1))
+    within vs d k pc (trees.binary at form a b) h =
+        let some = has_word s g vs d k (trees.binary at form a b) h in
+        ((omega arith, omega arith), operands_within vs d k pc a b _ (within vs d k pc a h.0) (within vs (d + 1) (k + tree_size a) _ b h.1))
     within vs d k pc (trees.If at t y n) h =
         let some = has_word s g vs d k (trees.If at t y n) h in
         let other = label_at s (codes "else") (root k (trees.If at t y n)) in
@@ -178,22 +174,6 @@ module _ (s : Context) (g : Constants) where
           two pc pc1 pc2 pc5 pc (pc + sizes (one ++ r1)) _ _ (omega arith) (omega arith) (omega arith) (omega arith) (within vs d k pc t h.0)
               (two pc2 pc3 pc4 pc5 pc2 pc5 _ _ (omega arith) (omega arith) (omega arith) (omega arith) (within vs d (k + tree_size t) pc2 y h.1) (within vs d (k + tree_size t + tree_size y) pc4 n h.2)),
         )
-    within vs d k pc (trees.While at t b) h =
-        let some = has_word s g vs d k (trees.While at t b) h in
-        let loop = label_at s (codes "loop") (root k (trees.While at t b)) in
-        let end = label_at s (codes "end") (root k (trees.While at t b)) in
-        let mark = mark_lines loop in
-        let one = code s g vs d k t in
-        let two' = code s g vs d (k + tree_size t) b in
-        let r4 = repeat_lines loop end in
-        let r3 = two' ++ r4 in
-        let r2 = test_lines end ++ r3 in
-        let r1 = one ++ r2 in
-        let a0 = sizes_append mark r1 in let a1 = sizes_append one r2 in let a2 = sizes_append (test_lines end) r3 in let a3 = sizes_append two' r4 in
-        let pc0 = pc + sizes mark in
-        let pc1 = pc0 + sizes one in
-        let pc2 = pc1 + sizes (test_lines end) in
-        ((omega arith, omega arith), two pc0 pc1 pc2 (pc2 + sizes two') pc (pc + sizes (mark ++ r1)) _ _ (omega arith) (omega arith) (omega arith) (omega arith) (within vs d k pc0 t h.0) (within vs d (k + tree_size t) pc2 b h.1))
     within vs d k pc (trees.Block at Last) h = absurd h
     within vs d k pc (trees.Block at (More t ts)) h =
         let some = has_word s g vs d k (trees.Block at (More t ts)) h in
@@ -232,10 +212,10 @@ module _ (s : Context) (g : Constants) where
         )
     within vs d k pc (trees.Dispatch at t name ts) h =
         let some = has_word s g vs d k (trees.Dispatch at t name ts) h in
-        ((omega arith, omega arith), call_within vs d k pc t ts (slot_code s g at (class_of s.class (type_of s.table s.class (scope_of vs) t)) name) (arguments_within vs d (k + tree_size t) pc ts h.0) (within vs (d + trees_count ts) k _ t h.1))
-    within vs d k pc (trees.StaticDispatch at t class name ts) h =
-        let some = has_word s g vs d k (trees.StaticDispatch at t class name ts) h in
-        ((omega arith, omega arith), call_within vs d k pc t ts (static_code s g at (class_meant s.table s.class class.name) name) (arguments_within vs d (k + tree_size t) pc ts h.0) (within vs (d + trees_count ts) k _ t h.1))
+        ((omega arith, omega arith), call_within vs d k pc t ts _ (arguments_within vs d (k + tree_size t) pc ts h.0) (within vs (d + trees_count ts) k _ t h.1))
+    within vs d k pc (trees.call at form t ts) h =
+        let some = has_word s g vs d k (trees.call at form t ts) h in
+        ((omega arith, omega arith), call_within vs d k pc t ts _ (arguments_within vs d (k + tree_size t) pc ts h.0) (within vs (d + trees_count ts) k _ t h.1))
 
     pub arguments_within : (vs : List Named) (d k pc : ℕ) (ts : Trees) → ArgumentsNamed s.table vs d ts → Within pc (pc + sizes (arguments_code s g vs d k ts)) (arguments_spans sizes s g vs d k pc ts)
     arguments_within vs d k pc Last h = tt

@@ -124,9 +124,7 @@ module _ (p : List Class) (c : ClassId) where
   mutual
     folded_writable : (e : Tree) (scope : List Binding) → IsWritable e → IsWritable (fold p c scope e)
     folded_writable (trees.Id at name) scope h = tt
-    folded_writable (trees.Int at n) scope h = tt
-    folded_writable (trees.Str at bytes) scope h = tt
-    folded_writable (trees.Bool at b) scope h = tt
+    folded_writable (trees.leaf at form) scope h = tt
     folded_writable (trees.Assign at name e) scope h = folded_writable e scope h
     folded_writable (trees.Dispatch at e name es) scope h =
         dispatch_row IsWritable writable_rows p (class_of c (type_of p c scope e)) at (fold p c scope e) name (fold_all p c scope es)
@@ -144,7 +142,6 @@ module _ (p : List Class) (c : ClassId) where
     folded_writable (trees.Case at e NoCase) scope h = absurd h
     folded_writable (trees.Case at e (CaseOf here name declared b cs)) scope h =
         (folded_writable e scope h.0, folded_writable b (with_name name (type_meant p declared.name) scope) h.1, cases_writable cs scope h.2)
-    folded_writable (trees.New at class) scope h = tt
     folded_writable (trees.IsVoid at e) scope h =
         void_row IsWritable writable_rows at (fold p c scope e) (constant_in (fold p c scope e)) (folded_writable e scope h)
     folded_writable (trees.Not at e) scope h =
@@ -172,10 +169,8 @@ module _ (p : List Class) (c : ClassId) where
 
   mutual
     folded_bytes : (e : Tree) (scope : List Binding) → HasBytes e → HasBytes (fold p c scope e)
-    folded_bytes (trees.Id at name) scope h = tt
-    folded_bytes (trees.Int at n) scope h = tt
     folded_bytes (trees.Str at bytes) scope h = h
-    folded_bytes (trees.Bool at b) scope h = tt
+    folded_bytes (trees.leaf at form) scope h = tt
     folded_bytes (trees.Assign at name e) scope h = folded_bytes e scope h
     folded_bytes (trees.Dispatch at e name es) scope h =
         dispatch_row HasBytes bytes_rows p (class_of c (type_of p c scope e)) at (fold p c scope e) name (fold_all p c scope es)
@@ -190,7 +185,6 @@ module _ (p : List Class) (c : ClassId) where
     folded_bytes (trees.Let at name declared o e) scope h =
         (maybe_bytes o scope h.0, folded_bytes e (with_name name (type_meant p declared.name) scope) h.1)
     folded_bytes (trees.Case at e cs) scope h = (folded_bytes e scope h.0, cases_bytes cs scope h.1)
-    folded_bytes (trees.New at class) scope h = tt
     folded_bytes (trees.IsVoid at e) scope h =
         void_row HasBytes bytes_rows at (fold p c scope e) (constant_in (fold p c scope e)) (folded_bytes e scope h)
     folded_bytes (trees.Not at e) scope h =

@@ -45,7 +45,15 @@ module _ (files : List (List ℕ)) (named : AllByRecursion IsText files) where
   -- the strings of a tree
   mutual
     strings_text : (n : ℕ) (t : Tree) → IsTreeWithin n t → HasBytes t → AllByRecursion IsText (strings_in files t)
+    strings_text n (trees.Str at bytes) h b = (text_of bytes h.1.1 b, tt)
+    strings_text n (trees.leaf at form) h b = tt
     strings_text n (trees.Assign at name t) h b = strings_text n t h.2 b
+    strings_text n (trees.Neg at t) h b = all_append IsText (strings_in files t) (file_of files at) (strings_text n t h.1 b) (file_text at)
+    strings_text n (trees.unary at form t) h b = strings_text n t h.1 b
+    strings_text n (trees.Arith at op x y) h b =
+        all_append IsText (strings_in files x) (strings_in files y ++ files_of files op at) (strings_text n x h.1 b.0)
+        (all_append IsText (strings_in files y) (files_of files op at) (strings_text n y h.2 b.1) (files_text op at))
+    strings_text n (trees.binary at form x y) h b = all_append IsText (strings_in files x) (strings_in files y) (strings_text n x h.1 b.0) (strings_text n y h.2 b.1)
     strings_text n (trees.Dispatch at t name ts) h b =
         all_append IsText (strings_in_all files ts) (strings_in files t ++ file_of files at) (all_text n ts h.3 b.1)
         (all_append IsText (strings_in files t) (file_of files at) (strings_text n t h.1 b.0) (file_text at))
@@ -55,24 +63,11 @@ module _ (files : List (List ℕ)) (named : AllByRecursion IsText files) where
     strings_text n (trees.If at t y e) h b =
         all_append IsText (strings_in files t) (strings_in files y ++ strings_in files e) (strings_text n t h.1 b.0)
         (all_append IsText (strings_in files y) (strings_in files e) (strings_text n y h.2 b.1.0) (strings_text n e h.3 b.1.1))
-    strings_text n (trees.While at t e) h b = all_append IsText (strings_in files t) (strings_in files e) (strings_text n t h.1 b.0) (strings_text n e h.2 b.1)
     strings_text n (trees.Block at ts) h b = all_text n ts h.1 b
     strings_text n (trees.Let at name declared o t) h b = all_append IsText (strings_in_maybe files o) (strings_in files t) (maybe_text n o h.3 b.0) (strings_text n t h.4 b.1)
     strings_text n (trees.Case at t cs) h b =
         all_append IsText (strings_in files t) (file_of files at ++ strings_in_cases files cs) (strings_text n t h.1 b.0)
         (all_append IsText (file_of files at) (strings_in_cases files cs) (file_text at) (cases_text n cs h.2 b.1))
-    strings_text n (trees.New at class) h b = tt
-    strings_text n (trees.IsVoid at t) h b = strings_text n t h.1 b
-    strings_text n (trees.Arith at op x y) h b =
-        all_append IsText (strings_in files x) (strings_in files y ++ files_of files op at) (strings_text n x h.1 b.0)
-        (all_append IsText (strings_in files y) (files_of files op at) (strings_text n y h.2 b.1) (files_text op at))
-    strings_text n (trees.Neg at t) h b = all_append IsText (strings_in files t) (file_of files at) (strings_text n t h.1 b) (file_text at)
-    strings_text n (trees.Compare at op x y) h b = all_append IsText (strings_in files x) (strings_in files y) (strings_text n x h.1 b.0) (strings_text n y h.2 b.1)
-    strings_text n (trees.Not at t) h b = strings_text n t h.1 b
-    strings_text n (trees.Id at name) h b = tt
-    strings_text n (trees.Int at value) h b = tt
-    strings_text n (trees.Str at bytes) h b = (text_of bytes h.1.1 b, tt)
-    strings_text n (trees.Bool at value) h b = tt
 
     all_text : (n : ℕ) (ts : Trees) → AreTreesWithin n ts → HaveBytes ts → AllByRecursion IsText (strings_in_all files ts)
     all_text n Last h b = tt
