@@ -12,7 +12,7 @@ pub found_type : (p : List Class) (bs : List Binding) (name : List ℕ) → AreT
 found_type p [] name h = tt
 found_type p (b ∷ bs) name h = by (bytes_eq b.name name) (found_type p bs name h.1)
   where
-    by : (same : Bool) → IfSome (found bs name) (IsType p) → IfSome (if same then Some b.type else found bs name) (IsType p)
+    by : (same : Bool) → IfSome (found bs name) (IsType p) → IfSome (if same then Some b.value else found bs name) (IsType p)
     by true later = h.0
     by false later = later
 

@@ -54,7 +54,7 @@ abbrev pub is_self : List ℕ → Bool
 is_self name = bytes_eq name (codes "self")
 
 abbrev pub bind : List ℕ → Ty → List Binding → List Binding
-bind name type o = record { name = name; type = type } ∷ o
+bind name type o = record { name = name; value = type } ∷ o
 
 abbrev pub conform : Context → Ty → Ty → Bool
 conform s = do_conform s.table s.class

@@ -22,4 +22,4 @@ IsCheckedWhereTyped p = (c : ClassId) (k : ℕ) (x : Feature) → c.0 < length p
 
 -- in a class, and a scope whose names have types of the table, an expression has one type at most
 abbrev pub HasOneType : List Class → Type 0
-HasOneType p = (c : ClassId) (scope : List Binding) (e : Tree) (t u : Ty) → c.0 < length p → AllByRecursion (λ b. IsType p b.type) scope → HasType p c scope e t → HasType p c scope e u → t ≡ u
+HasOneType p = (c : ClassId) (scope : List Binding) (e : Tree) (t u : Ty) → c.0 < length p → AllByRecursion (λ b. IsType p b.value) scope → HasType p c scope e t → HasType p c scope e u → t ≡ u

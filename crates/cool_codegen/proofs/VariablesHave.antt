@@ -15,11 +15,11 @@ found_in_scope [] name = refl
 found_in_scope (v ∷ vs) name = by (bytes_eq v.name name) (found_in_scope vs name)
   where
     by : (b : Bool) → scopes.found (scope_of vs) name ≡ option_map (λ (w : Variable). w.ty) (scopes.found vs name)
-        → (if b then Some v.type.ty else scopes.found (scope_of vs) name) ≡ option_map (λ (w : Variable). w.ty) (if b then Some v.type else scopes.found vs name)
+        → (if b then Some v.value.ty else scopes.found (scope_of vs) name) ≡ option_map (λ (w : Variable). w.ty) (if b then Some v.value else scopes.found vs name)
     by true same = refl
     by false same = same
 
 -- where variables have types of a table, their names in scope have them
-pub types_in_scope : (p : List Class) (vs : List Named) → HaveTypes p vs → AllByRecursion (λ (b : scopes.Binding). IsType p b.type) (scope_of vs)
+pub types_in_scope : (p : List Class) (vs : List Named) → HaveTypes p vs → AllByRecursion (λ (b : scopes.Binding). IsType p b.value) (scope_of vs)
 types_in_scope p [] h = tt
 types_in_scope p (v ∷ vs) h = (h.0, types_in_scope p vs h.1)

@@ -15,7 +15,7 @@ use Rattle.cool_codegen.specs.Code.{Context}
 
 -- all variables in scope have types of the table
 abbrev pub HaveTypes : List Class → List Named → Type 0
-HaveTypes p vs = AllByRecursion (λ v. IsType p v.type.ty) vs
+HaveTypes p vs = AllByRecursion (λ v. IsType p v.value.ty) vs
 
 abbrev pub context : CodeSetting → Context
 context s = record { table = s.table.now; class = s.class; feature = s.feature; files = map string_bytes s.names.now }

@@ -29,7 +29,7 @@ with_attributes p c [] vs = vs
 with_attributes p c (a ∷ as') vs =
     with_attributes p c as' (record {
       name = attribute_name p a;
-      type = record { base = Object; offset = pos (offset p c a); ty = type_meant p (attribute_type p a) };
+      value = record { base = Object; offset = pos (offset p c a); ty = type_meant p (attribute_type p a) };
     } ∷ vs)
 
 -- formals, entered after names: the last one is nearest to the frame
@@ -38,7 +38,7 @@ with_formals p [] vs = vs
 with_formals p (f ∷ fs) vs =
     with_formals p fs (record {
       name = f.name;
-      type = record { base = Frame; offset = pos (12 + 4 * length fs); ty = type_meant p f.declared.name };
+      value = record { base = Frame; offset = pos (12 + 4 * length fs); ty = type_meant p f.declared.name };
     } ∷ vs)
 
 -- the attributes of a class in scope

@@ -15,7 +15,7 @@ Named = Bound Variable
 -- the names with the types of their values
 abbrev pub scope_of : List Named → List Binding
 scope_of [] = []
-scope_of (v ∷ vs) = record { name = v.name; type = v.type.ty } ∷ scope_of vs
+scope_of (v ∷ vs) = record { name = v.name; value = v.value.ty } ∷ scope_of vs
 
 -- the register from which a word is addressed
 abbrev pub register : Base → ℕ
@@ -27,4 +27,4 @@ abbrev pub pushed : ℕ → Ty → Variable
 pushed depth type = record { base = Frame; offset = negsuc (4 * depth + 3); ty = type }
 
 abbrev pub bind : ℕ → List ℕ → Ty → List Named → List Named
-bind depth name type vs = record { name = name; type = pushed depth type } ∷ vs
+bind depth name type vs = record { name = name; value = pushed depth type } ∷ vs

@@ -41,7 +41,7 @@ formals_first p (f ∷ fs) vs =
 pub length_formals : (p : List Class) (fs : List Formal) → length (with_formals p fs []) ≡ length fs
 length_formals p [] = refl
 length_formals p (f ∷ fs) =
-    let e : Named = record { name = f.name; type = record { base = Frame; offset = pos (12 + 4 * length fs); ty = type_meant p f.declared.name } } in
+    let e : Named = record { name = f.name; value = record { base = Frame; offset = pos (12 + 4 * length fs); ty = type_meant p f.declared.name } } in
     let l : length (with_formals p fs (e ∷ [])) ≡ length (with_formals p fs []) + 1 = ap length (formals_first p fs (e ∷ [])) ∙ length-append (with_formals p fs []) (e ∷ []) in
     let k : length (with_formals p fs []) ≡ length fs = length_formals p fs in
     l ∙ omega (arith, k)

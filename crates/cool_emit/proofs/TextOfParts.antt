@@ -80,7 +80,7 @@ abbrev pub CanBeReached : Variable → Type 0
 CanBeReached v = (register v.base < 32) × IsSigned v.offset
 
 abbrev pub AreReached : List Named → Type 0
-AreReached vs = AllByRecursion (λ v. CanBeReached v.type) vs
+AreReached vs = AllByRecursion (λ v. CanBeReached v.value) vs
 
 -- the constants of a table that have known labels
 abbrev pub AreNumbers : (Name → Type 0) → Constants → List ℕ → Type 0
@@ -97,7 +97,7 @@ found_here false v o h k = k
 
 found_reached : (vs : List Named) (name : List ℕ) → AreReached vs → IfSome (found vs name) CanBeReached
 found_reached [] name h = tt
-found_reached (v ∷ vs) name h = found_here (bytes_eq v.name name) v.type (found vs name) h.0 (found_reached vs name h.1)
+found_reached (v ∷ vs) name h = found_here (bytes_eq v.name name) v.value (found vs name) h.0 (found_reached vs name h.1)
 
 -- a variable on the stack is reached while few words are pushed
 pub bound_reached : (d : ℕ) (name : List ℕ) (type : Ty) (vs : List Named) → d < MOST_TOKENS → AreReached vs

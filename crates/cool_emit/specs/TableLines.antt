@@ -75,7 +75,7 @@ base_text Object = codes "$s0"
 -- a name, where its word is, and its type
 abbrev pub named_text : List Class → Named → List ℕ
 named_text p v =
-    v.name ++ (codes " " ++ (signed_decimal v.type.offset ++ (codes "(" ++ (base_text v.type.base ++ (codes ") " ++ type_text p v.type.ty)))))
+    v.name ++ (codes " " ++ (signed_decimal v.value.offset ++ (codes "(" ++ (base_text v.value.base ++ (codes ") " ++ type_text p v.value.ty)))))
 
 abbrev pub place_text : Place → List ℕ
 place_text at = decimal at.file ++ (codes ":" ++ (decimal at.line ++ (codes ":" ++ decimal at.byte)))
@@ -112,7 +112,7 @@ unfolding decimals.digits
 line_of_method p = refl
 
 line_of_operand : (p : List Class)
-    → row_line p (code_row 4196208 4196212 (record { at = record { file = 0; line = 3; byte = 45 }; form = forms.Name; from = 8; to = 9; depth = 1; names = 1; latest = Some (record { name = codes "x"; type = record { base = Frame; offset = negsuc 3; ty = types.SelfType } }) }))
+    → row_line p (code_row 4196208 4196212 (record { at = record { file = 0; line = 3; byte = 45 }; form = forms.Name; from = 8; to = 9; depth = 1; names = 1; latest = Some (record { name = codes "x"; value = record { base = Frame; offset = negsuc 3; ty = types.SelfType } }) }))
     ≡ codes "code 4196208 4196212 name 0:3:45 1 1 x -4($fp) SELF_TYPE\n"
 unfolding decimals.digits
 line_of_operand p = refl

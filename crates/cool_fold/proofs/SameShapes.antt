@@ -71,13 +71,13 @@ module _ (p p' : List Class) (s : FindSame p p') where
   pub formal_scope_same : (fs : List Formal) → formals_in_scope p' fs ≡ formals_in_scope p fs
   formal_scope_same [] = refl
   formal_scope_same (f ∷ fs) =
-      ap (λ (t : Ty). record { name = f.name; type = t } ∷ formals_in_scope p' fs) (meant_same f.declared.name)
+      ap (λ (t : Ty). record { name = f.name; value = t } ∷ formals_in_scope p' fs) (meant_same f.declared.name)
       ∙ ap (λ (bs : List Binding). formal_binding p f ∷ bs) (formal_scope_same fs)
 
   attribute_same : (r : AttributeRef) → attribute_binding p' r ≡ attribute_binding p r
   attribute_same r =
-      ap (λ (n : List ℕ). record { name = n; type = type_meant p' (result_of p' (User r.owner r.index)) }) (s.attribute_names r)
-      ∙ ap (λ (t : Ty). record { name = attribute_name p r; type = t })
+      ap (λ (n : List ℕ). record { name = n; value = type_meant p' (result_of p' (User r.owner r.index)) }) (s.attribute_names r)
+      ∙ ap (λ (t : Ty). record { name = attribute_name p r; value = t })
       (ap (type_meant p') (s.results (User r.owner r.index)) ∙ meant_same (result_of p (User r.owner r.index)))
 
   attributes_scope_same : (rs : List AttributeRef) → attributes_in_scope p' rs ≡ attributes_in_scope p rs

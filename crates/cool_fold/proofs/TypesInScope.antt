@@ -18,4 +18,4 @@ module _ (p : List Class) (whole : IsWholeTable p) (c : ClassId) where
   -- with names inside of the class
   pub scope_typed : (inner : List Binding) → AreTypes p inner
       → AreTypes p (inner ++ own_scope p c)
-  scope_typed inner types = all_append (λ (b : Binding). IsType p b.type) inner (own_scope p c) types own_typed
+  scope_typed inner types = all_append (λ (b : Binding). IsType p b.value) inner (own_scope p c) types own_typed

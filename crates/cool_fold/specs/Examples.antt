@@ -38,7 +38,7 @@ shapes =
 abbrev folded : Tree → Tree
 folded t =
     fold shapes (class_number 5)
-    (record { name = codes "s"; type = IsClass (class_number 5) } ∷ record { name = codes "q"; type = IsClass (class_number 6) } ∷ []) t
+    (record { name = codes "s"; value = IsClass (class_number 5) } ∷ record { name = codes "q"; value = IsClass (class_number 6) } ∷ []) t
 
 abbrev s : Tree
 s = Id nowhere (codes "s")

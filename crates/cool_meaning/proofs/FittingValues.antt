@@ -129,12 +129,12 @@ made_last (x ∷ ds) d = made_last ds d
 abbrev pub Holds : World → ClassId → List Binding → Environment → Type 0
 Holds w k [] env = Unit {0}
 Holds w k (b ∷ scope) [] = ⊥
-Holds w k (b ∷ scope) (e ∷ env) = (b.name ≡ e.name) × (slice_get w e.location ≡ Some (class_meant k b.type)) × Holds w k scope env
+Holds w k (b ∷ scope) (e ∷ env) = (b.name ≡ e.name) × (slice_get w e.location ≡ Some (class_meant k b.value)) × Holds w k scope env
 
 pub still_holds : (w w' : World) → Grown w w' → (k : ClassId) (scope : List Binding) (env : Environment) → Holds w k scope env → Holds w' k scope env
 still_holds w w' g k [] env h = tt
 still_holds w w' g k (b ∷ scope) [] h = absurd h
-still_holds w w' g k (b ∷ scope) (e ∷ env) h = (h.0, still_made w w' g e.location (class_meant k b.type) h.1, still_holds w w' g k scope env h.2)
+still_holds w w' g k (b ∷ scope) (e ∷ env) h = (h.0, still_made w w' g e.location (class_meant k b.value) h.1, still_holds w w' g k scope env h.2)
 
 -- a name in scope has its location
 pub found_at : (w : World) (k : ClassId) (scope : List Binding) (env : Environment) (name : List ℕ) (t : Ty) → Holds w k scope env → found scope name ≡ Some t
@@ -145,9 +145,9 @@ found_at w k (b ∷ scope) (x ∷ env) name t h e =
     subst (λ (n : List ℕ). (l : ℕ) × (cond (bytes_eq n name) (Some x.location) (location_of env name) ≡ Some l) × (slice_get w l ≡ Some (class_meant k t))) h.0
     (by (bytes_eq b.name name) e (found_at w k scope env name t h.2))
   where
-    by : (c : Bool) → cond c (Some b.type) (found scope name) ≡ Some t → (found scope name ≡ Some t → (l : ℕ) × (location_of env name ≡ Some l) × (slice_get w l ≡ Some (class_meant k t)))
+    by : (c : Bool) → cond c (Some b.value) (found scope name) ≡ Some t → (found scope name ≡ Some t → (l : ℕ) × (location_of env name ≡ Some l) × (slice_get w l ≡ Some (class_meant k t)))
         → (l : ℕ) × (cond c (Some x.location) (location_of env name) ≡ Some l) × (slice_get w l ≡ Some (class_meant k t))
-    by true e more = let same : b.type ≡ t = cc in (x.location, refl, h.1 ∙ ap (λ (y : Ty). Some (class_meant k y)) same)
+    by true e more = let same : b.value ≡ t = cc in (x.location, refl, h.1 ∙ ap (λ (y : Ty). Some (class_meant k y)) same)
     by false e more = more e
 
 module _ (p : List Class) (typed : IsTypedTable p) where

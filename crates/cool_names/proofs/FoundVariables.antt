@@ -11,6 +11,6 @@ found_variable [] name = refl
 found_variable (b ∷ scope) name = by (bytes_eq b.name name) (found_variable scope name)
   where
     by : (same : Bool) → option_map variable_of (found scope name) ≡ found (variables scope) name
-        → option_map variable_of (if same then Some b.type else found scope name) ≡ (if same then Some (variable_of b.type) else found (variables scope) name)
+        → option_map variable_of (if same then Some b.value else found scope name) ≡ (if same then Some (variable_of b.value) else found (variables scope) name)
     by true is = refl
     by false is = is

@@ -89,7 +89,7 @@ abbrev AreMatched : List Class → List (Bound Variable) → List Binding → Ty
 AreMatched p [] [] = Unit {0}
 AreMatched p [] (b ∷ bs) = ⊥
 AreMatched p (v ∷ vs) [] = ⊥
-AreMatched p (v ∷ vs) (b ∷ bs) = ((v.name ≡ b.name) × (type_of_name p v.type.declared ≡ Some b.type)) × AreMatched p vs bs
+AreMatched p (v ∷ vs) (b ∷ bs) = ((v.name ≡ b.name) × (type_of_name p v.value.declared ≡ Some b.value)) × AreMatched p vs bs
 
 matched_entered : (p : List Class) (vs os : List (Bound Variable)) (bs scope : List Binding) → AreMatched p vs bs → AreMatched p os scope → AreMatched p (entered vs os) (entered bs scope)
 matched_entered p [] os [] scope h k = k
@@ -105,7 +105,7 @@ matched_agreed p [] (v ∷ attributes) [] [] h k name = absurd k
 matched_agreed p [] (v ∷ attributes) [] (b ∷ outer) h k name =
     by (bytes_eq v.name name) (bytes_eq b.name name) (ap (λ (n : List ℕ). bytes_eq n name) k.0.0) (matched_agreed p [] attributes [] outer tt k.1 name)
   where
-    by : (x y : Bool) → x ≡ y → type_declared p (found attributes name) ≡ found outer name → type_declared p (if x then Some v.type else found attributes name) ≡ (if y then Some b.type else found outer name)
+    by : (x y : Bool) → x ≡ y → type_declared p (found attributes name) ≡ found outer name → type_declared p (if x then Some v.value else found attributes name) ≡ (if y then Some b.value else found outer name)
     by true true e more = k.0.1
     by true false e more = absurd (cc)
     by false true e more = absurd (cc)
@@ -116,7 +116,7 @@ matched_agreed p (v ∷ locals) attributes (b ∷ inner) outer h k name =
     by (bytes_eq v.name name) (bytes_eq b.name name) (ap (λ (n : List ℕ). bytes_eq n name) h.0.0) (matched_agreed p locals attributes inner outer h.1 k name)
   where
     by : (x y : Bool) → x ≡ y → type_declared p (option_or (found locals name) (found attributes name)) ≡ found (inner ++ outer) name
-        → type_declared p (option_or (if x then Some v.type else found locals name) (found attributes name)) ≡ (if y then Some b.type else found (inner ++ outer) name)
+        → type_declared p (option_or (if x then Some v.value else found locals name) (found attributes name)) ≡ (if y then Some b.value else found (inner ++ outer) name)
     by true true e more = h.0.1
     by true false e more = absurd (cc)
     by false true e more = absurd (cc)
@@ -135,7 +135,7 @@ module _ (p : List Class) (whole : IsWholeTable p) where
   formals_matched (f ∷ fs) h = ((refl, meant_named f.declared.name (class_is_type f.declared.name h.0)), formals_matched fs h.1)
 
   attribute_matched : (o : Option Feature) → IsAttribute o → ((x : Feature) → o ≡ Some x → IsTyped p x)
-      → ((variable_there o).name ≡ name_in o) × (type_of_name p (variable_there o).type.declared ≡ Some (type_meant p (result_in o)))
+      → ((variable_there o).name ≡ name_in o) × (type_of_name p (variable_there o).value.declared ≡ Some (type_meant p (result_in o)))
   attribute_matched None h types = absurd h
   attribute_matched (Some (Method m)) h types = absurd h
   attribute_matched (Some (Attribute a)) h types = (refl, meant_named a.declared.name (types (Attribute a) refl))

@@ -45,7 +45,7 @@ abbrev pub declared_marks : List Class → List ClassDef → Role → Place → 
 declared_marks p ds kind at name declared = mark at kind name (record { declared = declared.name; target = At at }) ∷ type_mark p ds declared ∷ []
 
 abbrev pub with_variable : List ℕ → TypeRef → Place → List (Bound Variable) → List (Bound Variable)
-with_variable name declared at scope = record { name = name; type = record { declared = declared.name; at = at } } ∷ scope
+with_variable name declared at scope = record { name = name; value = record { declared = declared.name; at = at } } ∷ scope
 
 -- The rules type a whole feature or nothing of it, and what is being edited is often not typed yet. So a call's method is found by the type
 -- that its receiver has at first sight; where the rules give the receiver a type, it is that one (`law_seen_type`).

@@ -23,9 +23,9 @@ use Rattle.cool_names.specs.Marks.{Context, mark, type_mark, declared_marks, mar
 -- Variables of features
 
 abbrev pub variable_there : Option Feature → Bound Variable
-variable_there None = record { name = []; type = record { declared = []; at = nowhere } }
-variable_there (Some (Method m)) = record { name = []; type = record { declared = []; at = nowhere } }
-variable_there (Some (Attribute a)) = record { name = a.name; type = record { declared = a.declared.name; at = a.at } }
+variable_there None = record { name = []; value = record { declared = []; at = nowhere } }
+variable_there (Some (Method m)) = record { name = []; value = record { declared = []; at = nowhere } }
+variable_there (Some (Attribute a)) = record { name = a.name; value = record { declared = a.declared.name; at = a.at } }
 
 abbrev pub attribute_variable : List Class → AttributeRef → Bound Variable
 attribute_variable p r = variable_there (slice_get (features_of p r.owner) r.index)
@@ -35,7 +35,7 @@ abbrev pub attributes_in_scope : List Class → ClassId → List (Bound Variable
 attributes_in_scope p c = entered (map (attribute_variable p) (attributes_of p (chain p c))) []
 
 abbrev pub formal_variable : Formal → Bound Variable
-formal_variable f = record { name = f.name; type = record { declared = f.declared.name; at = f.at } }
+formal_variable f = record { name = f.name; value = record { declared = f.declared.name; at = f.at } }
 
 -- the formals of a method, the latest first
 abbrev pub formals_in_scope : List Formal → List (Bound Variable)

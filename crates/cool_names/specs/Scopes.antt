@@ -14,9 +14,9 @@ abbrev pub variable_of : Declaration → Variable
 variable_of d = record { declared = d.declared.now; at = d.at }
 
 abbrev pub variables : List (Bound Declaration) → List (Bound Variable)
-variables scope = map (λ b. record { name = b.name; type = variable_of b.type }) scope
+variables scope = map (λ b. record { name = b.name; value = variable_of b.value }) scope
 
 -- Worked example: a name that is bound twice means its later variable.
-shadowed : (p q : Place) → found {T = Variable} (record { name = codes "x"; type = record { declared = codes "Int"; at = p } } ∷ record { name = codes "x"; type = record { declared = codes "Bool"; at = q } } ∷ []) (codes "x")
+shadowed : (p q : Place) → found {T = Variable} (record { name = codes "x"; value = record { declared = codes "Int"; at = p } } ∷ record { name = codes "x"; value = record { declared = codes "Bool"; at = q } } ∷ []) (codes "x")
     ≡ Some (record { declared = codes "Int"; at = p })
 shadowed p q = refl

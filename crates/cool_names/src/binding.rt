@@ -93,7 +93,7 @@ fn add_within<'a>(
 ) -> Result<(), AllocError>
     requires ready { IsReady setting.now body.0 }
     ensures scope { OnOk result (locals.new ≡ locals.old) }
-    ensures marks { OnOk result (marks.new.items ≡ marks.old.items ++ marks_of (context setting.now) (record { name = name.now; type = variable_of variable.entry } ∷ variables locals.old) (tree_at setting.now.body.now body)) }
+    ensures marks { OnOk result (marks.new.items ≡ marks.old.items ++ marks_of (context setting.now) (record { name = name.now; value = variable_of variable.entry } ∷ variables locals.old) (tree_at setting.now.body.now body)) }
 {
     locals.enter(name, variable)?;
     add_marks(setting, locals, marks, body)?;

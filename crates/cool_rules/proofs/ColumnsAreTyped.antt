@@ -161,7 +161,7 @@ module _ (p : List Class) (whole : IsWholeTable p) (c : ClassId) (within : c.0 <
   declared_typed inner e declared types f id less =
       let same : f.chain ≡ chain p c = chain_unique p (Some c) f.chain (chain p c) f.is_chain (chain_is p c whole.table within) in
       entry_typed e (inner ++ own_scope p c) f.type
-      (all_append (λ (b : Binding). IsType p b.type) inner (own_scope p c) types (attributes_are_types p whole (attributes_of p (chain p c))))
+      (all_append (λ (b : Binding). IsType p b.value) inner (own_scope p c) types (attributes_are_types p whole (attributes_of p (chain p c))))
       (subst (λ (ds : List ClassId). HasType p c (inner ++ attributes_in_scope p (attributes_of p ds)) e f.type) same f.has) id less
 
   feature_typed : (x : Feature) (e : Tree) → IsTypedFeature p c x → expression_of x ≡ Some e → (id : NodeId) → id.0 < tree_size e → IsTypedEntry p c (feature_scope p c x) e (feature_types p c x) id

@@ -30,7 +30,7 @@ not_found : (bs : List Binding) (name : List ℕ) → AllByRecursion (λ (n : Li
 not_found [] name h = refl
 not_found (b ∷ bs) name h = by (bytes_eq b.name name) refl (not_found bs name h.1)
   where
-    by : (x : Bool) → bytes_eq b.name name ≡ x → found bs name ≡ None → cond x (Some b.type) (found bs name) ≡ None
+    by : (x : Bool) → bytes_eq b.name name ≡ x → found bs name ≡ None → cond x (Some b.value) (found bs name) ≡ None
     by true e rest = absurd (h.0 ((bytes_eq-Decides b.name name).0 e))
     by false e rest = rest
 
@@ -40,8 +40,8 @@ found_entered [] o name h = refl
 found_entered (b ∷ bs) o name h =
     found_entered bs (b ∷ o) name h.1 ∙ by (bytes_eq b.name name) refl
   where
-    by : (x : Bool) → bytes_eq b.name name ≡ x → option_or (found bs name) (cond x (Some b.type) (found o name)) ≡ option_or (cond x (Some b.type) (found bs name)) (found o name)
-    by true e = ap (λ (y : Option Ty). option_or y (Some b.type)) (not_found bs name (subst (λ (n : List ℕ). AllByRecursion (λ (m : List ℕ). m ≢ n) (map (λ (x : Binding). x.name) bs)) ((bytes_eq-Decides b.name name).0 e) h.0))
+    by : (x : Bool) → bytes_eq b.name name ≡ x → option_or (found bs name) (cond x (Some b.value) (found o name)) ≡ option_or (cond x (Some b.value) (found bs name)) (found o name)
+    by true e = ap (λ (y : Option Ty). option_or y (Some b.value)) (not_found bs name (subst (λ (n : List ℕ). AllByRecursion (λ (m : List ℕ). m ≢ n) (map (λ (x : Binding). x.name) bs)) ((bytes_eq-Decides b.name name).0 e) h.0))
     by false e = refl
 
 -- names in one scope, with those of another after them
@@ -49,7 +49,7 @@ pub found_after : (o scope : List Binding) (name : List ℕ) → option_or (foun
 found_after [] scope name = refl
 found_after (b ∷ o) scope name = by (bytes_eq b.name name) (found_after o scope name)
   where
-    by : (x : Bool) → option_or (found o name) (found scope name) ≡ found (o ++ scope) name → option_or (cond x (Some b.type) (found o name)) (found scope name) ≡ cond x (Some b.type) (found (o ++ scope) name)
+    by : (x : Bool) → option_or (found o name) (found scope name) ≡ found (o ++ scope) name → option_or (cond x (Some b.value) (found o name)) (found scope name) ≡ cond x (Some b.value) (found (o ++ scope) name)
     by true e = refl
     by false e = e
 
@@ -58,7 +58,7 @@ or_none None = refl
 or_none (Some t) = refl
 
 -- what holds of the types of names holds of them when they are entered
-pub entered_types : (P : Ty → Type 0) (bs o : List Binding) → AllByRecursion (λ (b : Binding). P b.type) bs → AllByRecursion (λ (b : Binding). P b.type) o → AllByRecursion (λ (b : Binding). P b.type) (entered bs o)
+pub entered_types : (P : Ty → Type 0) (bs o : List Binding) → AllByRecursion (λ (b : Binding). P b.value) bs → AllByRecursion (λ (b : Binding). P b.value) o → AllByRecursion (λ (b : Binding). P b.value) (entered bs o)
 entered_types P [] o h g = g
 entered_types P (b ∷ bs) o h g = entered_types P bs (b ∷ o) h.1 (h.0, g)
 

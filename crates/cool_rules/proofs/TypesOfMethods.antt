@@ -29,8 +29,8 @@ found_type : (p : List Class) (scope : List Binding) (name : List ℕ) (t : Ty) 
 found_type p [] name t h e = absurd (cc)
 found_type p (b ∷ scope) name t h e = by (bytes_eq b.name name) e (found_type p scope name t h.1)
   where
-    by : (x : Bool) → cond x (Some b.type) (found scope name) ≡ Some t → (found scope name ≡ Some t → IsType p t) → IsType p t
-    by true e more = let same : b.type ≡ t = cc in subst (IsType p) same h.0
+    by : (x : Bool) → cond x (Some b.value) (found scope name) ≡ Some t → (found scope name ≡ Some t → IsType p t) → IsType p t
+    by true e more = let same : b.value ≡ t = cc in subst (IsType p) same h.0
     by false e more = more e
 
 module _ (p : List Class) (whole : IsWholeTable p) where

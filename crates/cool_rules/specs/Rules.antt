@@ -62,7 +62,7 @@ method_of p c name = implementation p (chain p c) name
 
 -- attributes and formals as names in scope
 abbrev pub attribute_binding : List Class → AttributeRef → Binding
-attribute_binding p a = record { name = attribute_name p a; type = type_meant p (attribute_type p a) }
+attribute_binding p a = record { name = attribute_name p a; value = type_meant p (attribute_type p a) }
 
 abbrev pub formal_binding : List Class → Formal → Binding
-formal_binding p f = record { name = f.name; type = type_meant p f.declared.name }
+formal_binding p f = record { name = f.name; value = type_meant p f.declared.name }

@@ -10,7 +10,7 @@ use Rattle.cool_rules.specs.declared.scope.Entry.{Entry}
 -- a name and what it is bound to
 pub record Bound (T : Type 0) : Type 0 where
   pub name : List ℕ
-  pub type : T
+  pub value : T
 
 -- a name and its type
 abbrev pub Binding : Type 0
@@ -18,12 +18,12 @@ Binding = Bound Ty
 
 -- the types of names in scope are types of the table
 abbrev pub AreTypes : List Class → List Binding → Type 0
-AreTypes p scope = AllByRecursion (λ b. IsType p b.type) scope
+AreTypes p scope = AllByRecursion (λ b. IsType p b.value) scope
 
 -- what the latest binding of a name binds it to
 abbrev pub found : {T : Type 0} → List (Bound T) → List ℕ → Option T
 found [] name = None
-found (b ∷ bs) name = if bytes_eq b.name name then Some b.type else found bs name
+found (b ∷ bs) name = if bytes_eq b.name name then Some b.value else found bs name
 
 -- the bindings without the latest
 abbrev pub left : {B : Type 0} → List B → List B
@@ -37,12 +37,12 @@ entered (b ∷ bs) o = entered bs (b ∷ o)
 
 -- entries in the order in which they were made, seen with the latest first
 abbrev pub binding_of : {T : Type 0} → Entry T → Bound T
-binding_of e = record { name = e.name.now; type = e.value }
+binding_of e = record { name = e.name.now; value = e.value }
 
 abbrev pub latest_first : {T : Type 0} → List (Entry T) → List (Bound T)
 latest_first [] = []
 latest_first (e ∷ es) = latest_first es ++ binding_of e ∷ []
 
 -- Worked example: a name that is bound twice has its later type.
-shadowed : (a b : Ty) → found (record { name = codes "x"; type = a } ∷ record { name = codes "y"; type = SelfType } ∷ record { name = codes "x"; type = b } ∷ []) (codes "x") ≡ Some a
+shadowed : (a b : Ty) → found (record { name = codes "x"; value = a } ∷ record { name = codes "y"; value = SelfType } ∷ record { name = codes "x"; value = b } ∷ []) (codes "x") ≡ Some a
 shadowed a b = refl

@@ -49,4 +49,4 @@ abbrev mutual
 -- in a class, and a scope whose names have types of the table, an expression that the rules type has its static type
 abbrev pub IsTypeWhereTyped : List Class → Type 0
 IsTypeWhereTyped p =
-    (c : ClassId) (scope : List Binding) (e : Tree) (type : Ty) → c.0 < length p → AllByRecursion (λ b. IsType p b.type) scope → HasType p c scope e type → type_of p c scope e ≡ type
+    (c : ClassId) (scope : List Binding) (e : Tree) (type : Ty) → c.0 < length p → AllByRecursion (λ b. IsType p b.value) scope → HasType p c scope e type → type_of p c scope e ≡ type

@@ -48,7 +48,7 @@ abbrev pub IsNotSelf : List ℕ → Type 0
 IsNotSelf name = bytes_eq name (codes "self") ≡ false
 
 abbrev pub with_name : List ℕ → Ty → List Binding → List Binding
-with_name name type scope = record { name = name; type = type } ∷ scope
+with_name name type scope = record { name = name; value = type } ∷ scope
 
 -- the first class on the chain of this one that has a method of the name has this one
 abbrev pub IsImplementation : List Class → ClassId → List ℕ → MethodRef → Type 0

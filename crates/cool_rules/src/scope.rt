@@ -42,7 +42,7 @@ impl<'a, T: Copy> Scope<'a, T> {
 
     /// Adds a name, in front of an earlier one of the same name. `Err` comes only for want of memory, and leaves the scope as it is.
     pub fn enter(&mut self, name: &'a Name, value: T) -> Result<(), AllocError>
-        ensures { self.new ≡ (if is_ok result then record { name = name.now; type = value } ∷ self.old else self.old) }
+        ensures { self.new ≡ (if is_ok result then record { name = name.now; value = value } ∷ self.old else self.old) }
     {
         self.entries.push(Entry {
             name: name.as_slice(),

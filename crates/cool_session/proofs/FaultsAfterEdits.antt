@@ -45,7 +45,7 @@ use Rattle.cool_syntax.specs.Bare.{nowhere}
 module _ (f : Place → Place) (p p' : List TableClass) (same : map view p' ≡ map view p) (c : ClassId) where
   formals_renamed : (fs : List Formal) → map (formal_binding p') (map (renamed_formal f) fs) ≡ map (formal_binding p) fs
   formals_renamed [] = refl
-  formals_renamed (a ∷ fs) = λ i. record { name = a.name; type = meant_same p p' same a.declared.name i } ∷ formals_renamed fs i
+  formals_renamed (a ∷ fs) = λ i. record { name = a.name; value = meant_same p p' same a.declared.name i } ∷ formals_renamed fs i
 
   declared_conforms : (found : Ty) (name : List ℕ)
       → conform (class_context p' c) found (type_meant p' name) ≡ conform (class_context p c) found (type_meant p name)

@@ -196,8 +196,8 @@ module _ (p p' : List Class) (same : map view p' ≡ map view p) where
 
   attribute_same : (r : AttributeRef) → attribute_binding p' r ≡ attribute_binding p r
   attribute_same r =
-      (λ i. record { name = attribute_name_same r i; type = type_meant p' (results_same (User r.owner r.index) i) })
-      ∙ ap (λ (t : Ty). record { name = attribute_name p r; type = t }) (meant_same (result_of p (User r.owner r.index)))
+      (λ i. record { name = attribute_name_same r i; value = type_meant p' (results_same (User r.owner r.index) i) })
+      ∙ ap (λ (t : Ty). record { name = attribute_name p r; value = t }) (meant_same (result_of p (User r.owner r.index)))
 
   bindings_same : (rs : List AttributeRef) → map (attribute_binding p') rs ≡ map (attribute_binding p) rs
   bindings_same [] = refl

@@ -38,8 +38,8 @@ found_past : (xs vs : List Named) (x : Named) (name : List ℕ) → AllByRecursi
 found_past [] vs x name h = refl
 found_past (y ∷ xs) vs x name h = by (bytes_eq y.name name) (bytes_eq x.name name) refl refl (found_past xs vs x name h.1)
   where
-    by : (a b : Truth) → bytes_eq y.name name ≡ a → bytes_eq x.name name ≡ b → scopes.found (xs ++ x ∷ vs) name ≡ cond b (Some x.type) (scopes.found (xs ++ vs) name)
-        → cond a (Some y.type) (scopes.found (xs ++ x ∷ vs) name) ≡ cond b (Some x.type) (cond a (Some y.type) (scopes.found (xs ++ vs) name))
+    by : (a b : Truth) → bytes_eq y.name name ≡ a → bytes_eq x.name name ≡ b → scopes.found (xs ++ x ∷ vs) name ≡ cond b (Some x.value) (scopes.found (xs ++ vs) name)
+        → cond a (Some y.value) (scopes.found (xs ++ x ∷ vs) name) ≡ cond b (Some x.value) (cond a (Some y.value) (scopes.found (xs ++ vs) name))
     by true true e f more = absurd (h.0 ((bytes_eq-Decides y.name name).0 e ∙ sym ((bytes_eq-Decides x.name name).0 f)))
     by true false e f more = refl
     by false b e f more = more
@@ -50,10 +50,10 @@ found_entered (x ∷ xs) vs name h = found_entered xs (x ∷ vs) name h.1 ∙ fo
 
 abbrev pub formals_named : List Class → List Formal → List Named
 formals_named p [] = []
-formals_named p (f ∷ fs) = record { name = f.name; type = record { base = Frame; offset = pos (12 + 4 * length fs); ty = type_meant p f.declared.name } } ∷ formals_named p fs
+formals_named p (f ∷ fs) = record { name = f.name; value = record { base = Frame; offset = pos (12 + 4 * length fs); ty = type_meant p f.declared.name } } ∷ formals_named p fs
 
 abbrev pub attribute_named : List Class → ClassId → AttributeRef → Named
-attribute_named p c a = record { name = attribute_name p a; type = record { base = Object; offset = pos (offset p c a); ty = type_meant p (attribute_type p a) } }
+attribute_named p c a = record { name = attribute_name p a; value = record { base = Object; offset = pos (offset p c a); ty = type_meant p (attribute_type p a) } }
 
 abbrev pub attributes_named : List Class → ClassId → List AttributeRef → List Named
 attributes_named p c rs = each (attribute_named p c) rs
@@ -76,7 +76,7 @@ names_of_attributes p c (a ∷ rs) = ap (λ (ns : List (List ℕ)). attribute_na
 
 found_both : (xs ys vs : List Named) (name : List ℕ) → scopes.found ys name ≡ scopes.found vs name → scopes.found (xs ++ ys) name ≡ scopes.found (xs ++ vs) name
 found_both [] ys vs name h = h
-found_both (x ∷ xs) ys vs name h = ap (λ (o : Option Variable). cond (bytes_eq x.name name) (Some x.type) o) (found_both xs ys vs name h)
+found_both (x ∷ xs) ys vs name h = ap (λ (o : Option Variable). cond (bytes_eq x.name name) (Some x.value) o) (found_both xs ys vs name h)
 
 -- the variable of a name in the body of a method, with formals and attributes in textual order
 pub found_in_order : (p : List Class) (c : ClassId) (fs : List Formal) (rs : List AttributeRef) (name : List ℕ) → AreDifferent (each (λ (f : Formal). f.name) fs) → AreDifferent (each (attribute_name p) rs)
@@ -97,7 +97,7 @@ AllMatched map q [] (x ∷ xs) env = ⊥
 AllMatched map q (b ∷ scope) [] env = ⊥
 AllMatched map q (b ∷ scope) (x ∷ xs) [] = ⊥
 AllMatched map q (b ∷ scope) (x ∷ xs) (e ∷ env) =
-    (b.name ≡ x.name) × (x.name ≡ e.name) × (x.type.ty ≡ b.type) × (0 < map.home e.location) × IsVariableAt q x.type (map.home e.location) × AllMatched map q scope xs env
+    (b.name ≡ x.name) × (x.name ≡ e.name) × (x.value.ty ≡ b.value) × (0 < map.home e.location) × IsVariableAt q x.value (map.home e.location) × AllMatched map q scope xs env
 
 pub typed_by : (map : Map) (q : Pointers) (scope : List Binding) (xs : List Named) (env : Environment) → AllMatched map q scope xs env
     → (name : List ℕ) (t : Ty) → scopes.found scope name ≡ Some t → (v : Variable) × (scopes.found xs name ≡ Some v) × (v.ty ≡ t)
@@ -105,11 +105,11 @@ typed_by map q [] xs env h name t e = absurd (cc)
 typed_by map q (b ∷ scope) [] env h name t e = absurd h
 typed_by map q (b ∷ scope) (x ∷ xs) [] h name t e = absurd h
 typed_by map q (b ∷ scope) (x ∷ xs) (y ∷ env) h name t e =
-    by (bytes_eq x.name name) (subst (λ (n : List ℕ). cond (bytes_eq n name) (Some b.type) (scopes.found scope name) ≡ Some t) h.0 e) (typed_by map q scope xs env h.5 name t)
+    by (bytes_eq x.name name) (subst (λ (n : List ℕ). cond (bytes_eq n name) (Some b.value) (scopes.found scope name) ≡ Some t) h.0 e) (typed_by map q scope xs env h.5 name t)
   where
-    by : (a : Truth) → cond a (Some b.type) (scopes.found scope name) ≡ Some t → (scopes.found scope name ≡ Some t → (v : Variable) × (scopes.found xs name ≡ Some v) × (v.ty ≡ t))
-        → (v : Variable) × (cond a (Some x.type) (scopes.found xs name) ≡ Some v) × (v.ty ≡ t)
-    by true f more = let same : b.type ≡ t = cc in (x.type, refl, h.2 ∙ same)
+    by : (a : Truth) → cond a (Some b.value) (scopes.found scope name) ≡ Some t → (scopes.found scope name ≡ Some t → (v : Variable) × (scopes.found xs name ≡ Some v) × (v.ty ≡ t))
+        → (v : Variable) × (cond a (Some x.value) (scopes.found xs name) ≡ Some v) × (v.ty ≡ t)
+    by true f more = let same : b.value ≡ t = cc in (x.value, refl, h.2 ∙ same)
     by false f more = more f
 
 pub homes_by : (map : Map) (q : Pointers) (scope : List Binding) (xs : List Named) (env : Environment) → AllMatched map q scope xs env
@@ -119,12 +119,12 @@ homes_by map q [] (x ∷ xs) env h name v e = absurd h
 homes_by map q (b ∷ scope) [] env h name v e = absurd h
 homes_by map q (b ∷ scope) (x ∷ xs) [] h name v e = absurd h
 homes_by map q (b ∷ scope) (x ∷ xs) (y ∷ env) h name v e =
-    by (bytes_eq y.name name) (subst (λ (n : List ℕ). cond (bytes_eq n name) (Some x.type) (scopes.found xs name) ≡ Some v) h.1 e) (homes_by map q scope xs env h.5 name v)
+    by (bytes_eq y.name name) (subst (λ (n : List ℕ). cond (bytes_eq n name) (Some x.value) (scopes.found xs name) ≡ Some v) h.1 e) (homes_by map q scope xs env h.5 name v)
   where
-    by : (a : Truth) → cond a (Some x.type) (scopes.found xs name) ≡ Some v
+    by : (a : Truth) → cond a (Some x.value) (scopes.found xs name) ≡ Some v
         → (scopes.found xs name ≡ Some v → (l : ℕ) × (location_of env name ≡ Some l) × (0 < map.home l) × IsVariableAt q v (map.home l))
         → (l : ℕ) × (cond a (Some y.location) (location_of env name) ≡ Some l) × (0 < map.home l) × IsVariableAt q v (map.home l)
-    by true f more = let same : x.type ≡ v = cc in (y.location, refl, h.3, subst (λ (u : Variable). IsVariableAt q u (map.home y.location)) same h.4)
+    by true f more = let same : x.value ≡ v = cc in (y.location, refl, h.3, subst (λ (u : Variable). IsVariableAt q u (map.home y.location)) same h.4)
     by false f more = more f
 
 pub matched_both : (map : Map) (q : Pointers) (scope scope' : List Binding) (xs xs' : List Named) (env env' : Environment) → AllMatched map q scope xs env → length scope ≡ length env → AllMatched map q scope' xs' env'

@@ -104,12 +104,12 @@ eval_works p calls self env t st n v u left e = omega arith
 
 -- the types in scope are types
 pub types_in_scope : (p : List Class) → IsTypedTable p → (made : fitting.World) (k : ClassId) (store : List Value) → AllFit p made store made → (scope : List Binding) (env : Environment) → Holds made k scope env
-    → AllByRecursion (λ (b : Binding). IsType p b.type) scope
+    → AllByRecursion (λ (b : Binding). IsType p b.value) scope
 types_in_scope p typed made k store fits [] env h = tt
 types_in_scope p typed made k store fits (b ∷ scope) [] h = absurd h
 types_in_scope p typed made k store fits (b ∷ scope) (e ∷ env) h =
-    let (v, there, fit) = fit_at p made store made e.location (class_meant k b.type) fits h.1 in
-    (of_type b.type (within v (class_meant k b.type) fit), types_in_scope p typed made k store fits scope env h.2)
+    let (v, there, fit) = fit_at p made store made e.location (class_meant k b.value) fits h.1 in
+    (of_type b.value (within v (class_meant k b.value) fit), types_in_scope p typed made k store fits scope env h.2)
   where
     of_type : (t : Ty) → (class_meant k t).0 < length p → IsType p t
     of_type (IsClass a) h = h

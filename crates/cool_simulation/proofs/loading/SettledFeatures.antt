@@ -41,12 +41,12 @@ HasName vs name = (v : Variable) × (found vs name ≡ Some v)
 kept : (v : Named) (vs : List Named) (name : List ℕ) → HasName vs name → HasName (v ∷ vs) name
 kept v vs name (w, is) = by (bytes_eq v.name name)
   where
-    by : (b : Truth) → (u : Variable) × ((if b then Some v.type else found vs name) ≡ Some u)
-    by true = (v.type, refl)
+    by : (b : Truth) → (u : Variable) × ((if b then Some v.value else found vs name) ≡ Some u)
+    by true = (v.value, refl)
     by false = (w, is)
 
 entered_first : (v : Named) (vs : List Named) (name : List ℕ) → bytes_eq v.name name ≡ true → HasName (v ∷ vs) name
-entered_first v vs name e = (v.type, ap (λ (b : Truth). if b then Some v.type else found vs name) e)
+entered_first v vs name e = (v.value, ap (λ (b : Truth). if b then Some v.value else found vs name) e)
 
 module _ (p : List Class) where
   formals_keep : (fs : List Formal) (vs : List Named) (name : List ℕ) → HasName vs name → HasName (with_formals p fs vs) name

@@ -26,7 +26,7 @@ loop-attribute-preserved c =
     let has = subst (AllByRecursion (HasAttribute p)) step c.loop-attribute.invariant.has in
     let name = c.attribute_name.ensures in
     let type : c.attribute_type.result ≡ type_meant p (attribute_type p a) = type_meant_is p (attribute_type p a) c.attribute_type.result c.requires.table c.attribute_type.ensures in
-    let entry : c.enter.new.self ≡ attribute_binding p a ∷ c.loop-attribute.scope = c.in_ok-enter.ensures ∙ (λ i. record { name = name i; type = type i } ∷ c.loop-attribute.scope) in
+    let entry : c.enter.new.self ≡ attribute_binding p a ∷ c.loop-attribute.scope = c.in_ok-enter.ensures ∙ (λ i. record { name = name i; value = type i } ∷ c.loop-attribute.scope) in
     record {
       types = search rules;
       has = has.1;

@@ -6,5 +6,5 @@ use Rattle.cool_rules.proofs.scope.Scope.enter.Goals as goal
 
 pub returns : goal.returns
 returns g c =
-    let name = ap (λ (n : List ℕ). record { name = n; type = c.args.value } ∷ latest_first c.self.inside.entries.items) c.as_slice.ensures in
-    ap latest_first c.in_ok-push.ensures.items ∙ latest_more c.self.inside.entries.items _ ∙ name ∙ ap (λ (bs : List (Bound _)). record { name = c.args.name.now; type = c.args.value } ∷ bs) c.self.view_is
+    let name = ap (λ (n : List ℕ). record { name = n; value = c.args.value } ∷ latest_first c.self.inside.entries.items) c.as_slice.ensures in
+    ap latest_first c.in_ok-push.ensures.items ∙ latest_more c.self.inside.entries.items _ ∙ name ∙ ap (λ (bs : List (Bound _)). record { name = c.args.name.now; value = c.args.value } ∷ bs) c.self.view_is
