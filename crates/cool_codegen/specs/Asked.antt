@@ -4,7 +4,7 @@ use Rattle.std.specs.Prelude.{ℕ, ◌<◌, ◌≤◌, List, [], ◌∷◌, ◌+
 use Rattle.cool_syntax.specs.declared.place.Place.{Place}
 use Rattle.cool_syntax.specs.declared.operator.ArithOp.{ArithOp}
 use Rattle.cool_syntax.specs.declared.operator.ArithOp.TheVariants as arith
-use Rattle.cool_syntax.specs.Tree.{Leaf, Tree, Trees, MaybeTree, Cases, Last, More, Without, With, NoCase, CaseOf}
+use Rattle.cool_syntax.specs.Tree.{Tree, Trees, MaybeTree, Cases, Last, More, Without, With, NoCase, CaseOf, integer_or, string_or}
 use Rattle.cool_syntax.specs.Tree as trees
 use Rattle.cool_consts.specs.Constants.{Constants, with_integer, with_string}
 
@@ -29,24 +29,9 @@ pub record Keeps (table more : Constants) : Type 0 where
   pub integers : (k : ℕ) → k < length table.integers → slice_get more.integers k ≡ slice_get table.integers k
   pub strings : (k : ℕ) → k < length table.strings → slice_get more.strings k ≡ slice_get table.strings k
 
--- the integers and the strings of a form without parts
-abbrev leaf_integers : Leaf → List ℕ
-leaf_integers (trees.new class) = []
-leaf_integers (trees.id name) = []
-leaf_integers (trees.int value) = value ∷ []
-leaf_integers (trees.str bytes) = []
-leaf_integers (trees.truth value) = []
-
-abbrev leaf_strings : Leaf → List (List ℕ)
-leaf_strings (trees.new class) = []
-leaf_strings (trees.id name) = []
-leaf_strings (trees.int value) = []
-leaf_strings (trees.str bytes) = bytes ∷ []
-leaf_strings (trees.truth value) = []
-
 abbrev mutual
   pub integers_in : Tree → List ℕ
-  integers_in (trees.leaf at form) = leaf_integers form
+  integers_in (trees.leaf at form) = integer_or [] (λ value. value ∷ []) form
   integers_in (trees.unary at form t) = integers_in t
   integers_in (trees.binary at form a b) = integers_in a ++ integers_in b
   integers_in (trees.call at form t ts) = integers_in_all ts ++ integers_in t
@@ -80,7 +65,7 @@ files_of files arith.Div at = file_of files at ++ file_of files at
 
 abbrev mutual
   pub strings_in : List (List ℕ) → Tree → List (List ℕ)
-  strings_in files (trees.leaf at form) = leaf_strings form
+  strings_in files (trees.leaf at form) = string_or [] (λ bytes. bytes ∷ []) form
   strings_in files (trees.Assign at name t) = strings_in files t
   strings_in files (trees.IsVoid at t) = strings_in files t
   strings_in files (trees.Neg at t) = strings_in files t ++ file_of files at

@@ -4,11 +4,11 @@ use Rattle.cool_syntax.specs.declared.node.Node.{Node}
 use Rattle.cool_syntax.specs.declared.node.Node.TheVariants as node
 use Rattle.cool_syntax.specs.declared.node.NodeId.{NodeId}
 use Rattle.cool_syntax.specs.declared.place.Place.{Place}
-use Rattle.cool_syntax.specs.Tree.{Leaf, Unary, Binary, Call, Tree, Trees, MaybeTree, Cases, Last, More, Without, With, NoCase, CaseOf, tree_size, maybe_size}
+use Rattle.cool_syntax.specs.Tree.{Leaf, Unary, Binary, Call, Tree, Trees, MaybeTree, Cases, Last, More, Without, With, NoCase, CaseOf, string_or, tree_size, maybe_size}
 use Rattle.cool_syntax.specs.Tree as trees
 use Rattle.cool_syntax.specs.NodeLists.{leaf_node, unary_node, binary_node, call_node, root, root_of_maybe, roots, branch_roots, nodes, nodes_of_all, nodes_of_maybe, nodes_of_cases, tree_of, IsPostorder}
 use Rattle.cool_syntax.specs.FeatureSizes.{branches_in}
-use Rattle.cool_syntax.specs.Weights.{own_text, text_in, text_in_all, text_in_maybe, text_in_cases}
+use Rattle.cool_syntax.specs.Weights.{text_in, text_in_all, text_in_maybe, text_in_cases}
 use Rattle.cool_syntax.proofs.TreesOfLists.{tree_of-nodes}
 use Rattle.cool_parser.proofs.WeightsOfNodes.{node_weight, weight, weight-placed, body_weight}
 
@@ -43,7 +43,7 @@ after_three : (a b c : List Node) (n : Node) (x y z : ℕ) → node_text n ≡ 0
 after_three a b c n x y z w e f g = omega (arith, w, e, f, g, texts-placed (a ++ b ++ c) n, texts-append (a ++ b) c, texts-append a b)
 
 -- the node of a form without parts has the bytes of the form, and that of the others none
-leaf_text : (at : Place) (form : Leaf) → node_text (leaf_node at form) ≡ own_text form
+leaf_text : (at : Place) (form : Leaf) → node_text (leaf_node at form) ≡ string_or 0 (λ bytes. length bytes) form
 leaf_text at (trees.new class) = refl
 leaf_text at _ = refl
 

@@ -8,32 +8,25 @@ use Rattle.cool_syntax.specs.declared.type_ref.TypeRef.{TypeRef}
 use Rattle.cool_syntax.specs.declared.file_tree.ClassDef.{ClassDef}
 use Rattle.cool_syntax.specs.declared.file_tree.Feature.{Feature}
 use Rattle.cool_syntax.specs.declared.file_tree.Feature.TheVariants.{Method, Attribute}
-use Rattle.cool_syntax.specs.Tree.{Tree, Trees, MaybeTree, Cases, Last, More, Without, With, NoCase, CaseOf, tree_size}
+use Rattle.cool_syntax.specs.Tree.{Tree, Trees, MaybeTree, Cases, NoCase, CaseOf, tree_size}
 use Rattle.cool_syntax.specs.Tree as trees
+use Rattle.cool_syntax.specs.Gatherings.{Gathering, gathered, gathered_all, gathered_maybe, gathered_cases}
 
 -- how many branches the cases of a tree have
-abbrev mutual
-  pub branches_in : Tree → ℕ
-  branches_in (trees.leaf at form) = 0
-  branches_in (trees.unary at form t) = branches_in t
-  branches_in (trees.binary at form a b) = branches_in a + branches_in b
-  branches_in (trees.call at form t ts) = branches_in t + branches_in_all ts
-  branches_in (trees.If at t y n) = branches_in t + branches_in y + branches_in n
-  branches_in (trees.Block at ts) = branches_in_all ts
-  branches_in (trees.Let at name declared o t) = branches_in_maybe o + branches_in t
-  branches_in (trees.Case at t cs) = branches_in t + branches_of cs
+abbrev branches : Gathering ℕ
+branches = record { none = 0; both = ◌+◌; form = λ form. 0; branch = λ body. 1 + body }
 
-  pub branches_in_all : Trees → ℕ
-  branches_in_all Last = 0
-  branches_in_all (More t ts) = branches_in t + branches_in_all ts
+abbrev pub branches_in : Tree → ℕ
+branches_in = gathered branches
 
-  pub branches_in_maybe : MaybeTree → ℕ
-  branches_in_maybe Without = 0
-  branches_in_maybe (With t) = branches_in t
+abbrev pub branches_in_all : Trees → ℕ
+branches_in_all = gathered_all branches
 
-  pub branches_of : Cases → ℕ
-  branches_of NoCase = 0
-  branches_of (CaseOf at name declared t cs) = 1 + branches_in t + branches_of cs
+abbrev pub branches_in_maybe : MaybeTree → ℕ
+branches_in_maybe = gathered_maybe branches
+
+abbrev pub branches_of : Cases → ℕ
+branches_of = gathered_cases branches
 
 abbrev pub value_size : Option Tree → ℕ
 value_size None = 0

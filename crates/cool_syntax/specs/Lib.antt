@@ -2,6 +2,7 @@ pub mod Bare
 pub mod ConcreteTrees
 pub mod FaultOrder
 pub mod FeatureSizes
+pub mod Gatherings
 pub mod Grammar
 pub mod Lexemes
 pub mod LexicalStructure

@@ -105,6 +105,21 @@ pub record Twig : Type 0 where
   pub declared : TypeRef
   pub body : Tree
 
+-- what a form without parts comes to by its integer, and by its string; none where it has no such constant
+abbrev pub integer_or {ℓ} : {R : Type ℓ} → R → (ℕ → R) → Leaf → R
+integer_or none f (new class) = none
+integer_or none f (id name) = none
+integer_or none f (int value) = f value
+integer_or none f (str bytes) = none
+integer_or none f (truth value) = none
+
+abbrev pub string_or {ℓ} : {R : Type ℓ} → R → (List ℕ → R) → Leaf → R
+string_or none f (new class) = none
+string_or none f (id name) = none
+string_or none f (int value) = none
+string_or none f (str bytes) = f bytes
+string_or none f (truth value) = none
+
 -- the place of a tree's own mark
 abbrev pub place_of : Tree → Place
 place_of (leaf at form) = at

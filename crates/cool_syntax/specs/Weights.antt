@@ -5,41 +5,26 @@ use Rattle.cool_syntax.specs.declared.type_ref.TypeRef.{TypeRef}
 use Rattle.cool_syntax.specs.declared.file_tree.ClassDef.{ClassDef}
 use Rattle.cool_syntax.specs.declared.file_tree.Feature.{Feature}
 use Rattle.cool_syntax.specs.declared.file_tree.Feature.TheVariants.{Method, Attribute}
-use Rattle.cool_syntax.specs.Tree.{Leaf, Tree, Trees, MaybeTree, Cases, Last, More, Without, With, NoCase, CaseOf}
+use Rattle.cool_syntax.specs.Tree.{Tree, Trees, MaybeTree, Cases, string_or}
 use Rattle.cool_syntax.specs.Tree as trees
+use Rattle.cool_syntax.specs.Gatherings.{Gathering, gathered, gathered_all, gathered_maybe, gathered_cases}
 use Rattle.cool_syntax.specs.FeatureSizes.{feature_size}
 
--- how many bytes a form without parts has as a string constant
-abbrev pub own_text : Leaf → ℕ
-own_text (trees.new class) = 0
-own_text (trees.id name) = 0
-own_text (trees.int value) = 0
-own_text (trees.str bytes) = length bytes
-own_text (trees.truth value) = 0
-
 -- how many bytes the string constants of a tree have
-abbrev mutual
-  pub text_in : Tree → ℕ
-  text_in (trees.leaf at form) = own_text form
-  text_in (trees.unary at form t) = text_in t
-  text_in (trees.binary at form a b) = text_in a + text_in b
-  text_in (trees.call at form t ts) = text_in t + text_in_all ts
-  text_in (trees.If at t y n) = text_in t + text_in y + text_in n
-  text_in (trees.Block at ts) = text_in_all ts
-  text_in (trees.Let at name declared o t) = text_in_maybe o + text_in t
-  text_in (trees.Case at t cs) = text_in t + text_in_cases cs
+abbrev texts : Gathering ℕ
+texts = record { none = 0; both = ◌+◌; form = string_or 0 (λ bytes. length bytes); branch = λ body. body }
 
-  pub text_in_all : Trees → ℕ
-  text_in_all Last = 0
-  text_in_all (More t ts) = text_in t + text_in_all ts
+abbrev pub text_in : Tree → ℕ
+text_in = gathered texts
 
-  pub text_in_maybe : MaybeTree → ℕ
-  text_in_maybe Without = 0
-  text_in_maybe (With t) = text_in t
+abbrev pub text_in_all : Trees → ℕ
+text_in_all = gathered_all texts
 
-  pub text_in_cases : Cases → ℕ
-  text_in_cases NoCase = 0
-  text_in_cases (CaseOf at name declared t cs) = text_in t + text_in_cases cs
+abbrev pub text_in_maybe : MaybeTree → ℕ
+text_in_maybe = gathered_maybe texts
+
+abbrev pub text_in_cases : Cases → ℕ
+text_in_cases = gathered_cases texts
 
 abbrev pub text_of_value : Option Tree → ℕ
 text_of_value None = 0

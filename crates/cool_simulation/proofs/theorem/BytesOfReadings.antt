@@ -57,7 +57,7 @@ mutual
       let c : List Token = word key.Else else_at ∷ reading unmet in
       let abc : AreByteTokens ((a ++ b) ++ c) = front_of ((a ++ b) ++ c) (word key.Fi fi ∷ []) h in
       let ab : AreByteTokens (a ++ b) = front_of (a ++ b) c abc in
-      (plain_bytes test (front_of a b ab).1, (plain_bytes met (back_of a b ab).1, plain_bytes unmet (back_of (a ++ b) c abc).1))
+      ((plain_bytes test (front_of a b ab).1, plain_bytes met (back_of a b ab).1), plain_bytes unmet (back_of (a ++ b) c abc).1)
   plain_bytes (While at test loop body pool) h =
       let a : List Token = word key.While at ∷ reading test in
       let b : List Token = word key.Loop loop ∷ reading body in

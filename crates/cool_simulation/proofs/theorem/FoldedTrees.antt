@@ -117,7 +117,7 @@ bytes_rows = record {
   number = λ at n. tt;
   truth = λ at b. tt;
   direct = λ at e class name es g. g;
-  parts = λ at t y n g. g.1;
+  parts = λ at t y n g. (g.0.1, g.1);
 }
 
 module _ (p : List Class) (c : ClassId) where
@@ -179,7 +179,7 @@ module _ (p : List Class) (c : ClassId) where
     folded_bytes (trees.If at t y n) scope h =
         if_row HasBytes bytes_rows p c scope at (fold p c scope t) (fold p c scope y) (fold p c scope n)
         (truth_in (constant_in (fold p c scope t)))
-        (folded_bytes t scope h.0, (folded_bytes y scope h.1.0, folded_bytes n scope h.1.1))
+        ((folded_bytes t scope h.0.0, folded_bytes y scope h.0.1), folded_bytes n scope h.1)
     folded_bytes (trees.While at t b) scope h = (folded_bytes t scope h.0, folded_bytes b scope h.1)
     folded_bytes (trees.Block at es) scope h = all_bytes es scope h
     folded_bytes (trees.Let at name declared o e) scope h =

@@ -61,8 +61,8 @@ module _ (files : List (List ℕ)) (named : AllByRecursion IsText files) where
         all_append IsText (strings_in_all files ts) (strings_in files t ++ file_of files at) (all_text n ts h.4 b.1)
         (all_append IsText (strings_in files t) (file_of files at) (strings_text n t h.1 b.0) (file_text at))
     strings_text n (trees.If at t y e) h b =
-        all_append IsText (strings_in files t) (strings_in files y ++ strings_in files e) (strings_text n t h.1 b.0)
-        (all_append IsText (strings_in files y) (strings_in files e) (strings_text n y h.2 b.1.0) (strings_text n e h.3 b.1.1))
+        all_append IsText (strings_in files t) (strings_in files y ++ strings_in files e) (strings_text n t h.1 b.0.0)
+        (all_append IsText (strings_in files y) (strings_in files e) (strings_text n y h.2 b.0.1) (strings_text n e h.3 b.1))
     strings_text n (trees.Block at ts) h b = all_text n ts h.1 b
     strings_text n (trees.Let at name declared o t) h b = all_append IsText (strings_in_maybe files o) (strings_in files t) (maybe_text n o h.3 b.0) (strings_text n t h.4 b.1)
     strings_text n (trees.Case at t cs) h b =
