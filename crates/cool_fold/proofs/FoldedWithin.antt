@@ -24,10 +24,10 @@ use Rattle.cool_rules.proofs.RulesOfTables.{meant_is}
 use Rattle.cool_rules.proofs.RulesDecided.{denotes_type}
 use Rattle.cool_rules.proofs.TypesOfMethods.{expression_type}
 use Rattle.cool_meaning.specs.Values.{Value}
-use Rattle.cool_meaning.specs.Numbers.{fits, is_zero}
+use Rattle.cool_meaning.specs.Numbers.{fits, is_zero, word_of}
 use Rattle.cool_meaning.specs.Evaluation.{same}
 use Rattle.cool_rules.specs.StaticTypes.{type_of}
-use Rattle.cool_fold.specs.Folding.{constant_in, number_in, truth_in, one_sort, word_of, exactly, result, number_or, arith_by, neg_by, less_by, equal_by, compare_by, not_by, is_void_by, taken_by, if_by, is_redefined, dispatch_by, fold, fold_all, fold_maybe, fold_cases}
+use Rattle.cool_fold.specs.Folding.{constant_in, number_in, truth_in, one_sort, exactly, result, number_or, arith_by, neg_by, less_by, equal_by, compare_by, not_by, is_void_by, taken_by, if_by, is_redefined, dispatch_by, fold, fold_all, fold_maybe, fold_cases}
 use Rattle.cool_rules.proofs.StaticTypesAreGiven.{type_is, class_there}
 use Rattle.std.proofs.lemmas.Bool.{ltb-true}
 

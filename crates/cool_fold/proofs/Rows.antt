@@ -16,10 +16,10 @@ use Rattle.cool_rules.specs.Scopes.{Binding}
 use Rattle.cool_meaning.specs.Values.{Value, Int, Bool, Str, State, Environment}
 use Rattle.cool_meaning.specs.Meters.{Val, Overflow, DivisionByZero, Metered, Computation, join, seq, ◌>>=◌, rule, give, stop}
 use Rattle.cool_meaning.specs.BasicMethods.{as_number, as_truth, new_number}
-use Rattle.cool_meaning.specs.Numbers.{fits, is_zero, signed}
+use Rattle.cool_meaning.specs.Numbers.{fits, is_zero, signed, word_of}
 use Rattle.cool_meaning.specs.Evaluation.{Calls, eval, exact, arithmetic, compare, same, is_void}
 use Rattle.cool_rules.specs.StaticTypes.{type_of}
-use Rattle.cool_fold.specs.Folding.{constant_in, number_in, truth_in, one_sort, word_of, exactly, result, number_or, arith_by, neg_by, less_by, equal_by, compare_by, not_by, is_void_by, taken_by, if_by}
+use Rattle.cool_fold.specs.Folding.{constant_in, number_in, truth_in, one_sort, exactly, result, number_or, arith_by, neg_by, less_by, equal_by, compare_by, not_by, is_void_by, taken_by, if_by}
 use Rattle.cool_fold.proofs.NoMoreMeters.{NoMore, Always, no_more_same}
 use Rattle.std.proofs.lemmas.Bool.{ltb-true}
 use Rattle.std.proofs.lemmas.Option.{same_Some}

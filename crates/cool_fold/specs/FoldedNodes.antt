@@ -10,6 +10,7 @@ use Rattle.cool_syntax.specs.Tree.{Tree, Trees, MaybeTree, Cases}
 use Rattle.cool_syntax.specs.NodeLists.{nodes, nodes_of_all, nodes_of_maybe, nodes_of_cases, root, roots, root_of_maybe, branch_roots, tree_at, cases_of, maybe_tree_of, tree_of_node, trees_of}
 use Rattle.cool_classes.specs.declared.class_id.Ty.{Ty}
 use Rattle.cool_meaning.specs.Values.{Value, Int, Bool, Str}
+use Rattle.cool_meaning.specs.Numbers.{word_of}
 use Rattle.cool_rules.specs.NodeTypes.{node_types, types_of_all, types_of_maybe, types_of_cases}
 use Rattle.cool_rules.specs.Scopes.{AreTypes, Binding}
 use Rattle.cool_rules.specs.TypedParts.{AreBranches, AreParts, IsPart, MayBePart}
@@ -18,7 +19,7 @@ use Rattle.cool_fold.specs.declared.constant.Constant.TheVariants.{Number, Text,
 use Rattle.cool_fold.specs.declared.place.Found.{Found}
 use Rattle.cool_fold.specs.declared.place.Placed.{Placed}
 use Rattle.cool_fold.specs.declared.folding_setting.FoldingSetting.{FoldingSetting}
-use Rattle.cool_fold.specs.Folding.{constant_in, word_of}
+use Rattle.cool_fold.specs.Folding.{constant_in}
 use Rattle.cool_fold.specs.FoldingSettings.{typed_body, IsStanding}
 use Rattle.cool_fold.specs.Shrinking.{shrunk, shrunk_all, shrunk_maybe, shrunk_cases}
 

@@ -1,6 +1,6 @@
 -- Folding: what becomes of each form of expression, bottom up. A constant is a number, a string or a truth of the source. What has no value
 -- by the rules of running is left, with its place. `Examples.antt` has an example of each row.
-use Rattle.std.specs.Prelude.{ℕ, zero, suc, ◌+◌, ◌-◌, ℤ, pos, negsuc, ◌+ℤ◌, ◌-ℤ◌, ◌*ℤ◌, neg_ℤ, int_div, int_lt, int_le, Bool as Truth, true, false, not, ◌&&◌, if◌then◌else◌, List, [], ◌∷◌, ◌++◌, map, length, Option, Some, None, is_some}
+use Rattle.std.specs.Prelude.{ℕ, zero, suc, ◌+◌, ℤ, ◌+ℤ◌, ◌-ℤ◌, ◌*ℤ◌, neg_ℤ, int_div, int_lt, int_le, Bool as Truth, true, false, not, ◌&&◌, if◌then◌else◌, List, [], ◌∷◌, ◌++◌, map, length, Option, Some, None, is_some}
 use Rattle.std.specs.List.{list_any}
 use Rattle.cool_syntax.specs.declared.place.Place.{Place}
 use Rattle.cool_syntax.specs.declared.operator.ArithOp.{ArithOp}
@@ -22,7 +22,7 @@ use Rattle.cool_rules.specs.Rules.{is_among, same_type, type_meant}
 use Rattle.cool_rules.specs.Scopes.{Binding}
 use Rattle.cool_rules.specs.Typing.{with_name, formals_in_scope}
 use Rattle.cool_meaning.specs.Values.{Value, Int, Bool, Str}
-use Rattle.cool_meaning.specs.Numbers.{fits, is_zero, signed}
+use Rattle.cool_meaning.specs.Numbers.{fits, is_zero, signed, word_of}
 use Rattle.cool_meaning.specs.Evaluation.{same, is_void}
 use Rattle.cool_rules.specs.StaticTypes.{type_of}
 
@@ -50,11 +50,6 @@ one_sort (Int m) (Int n) = true
 one_sort (Bool a) (Bool b) = true
 one_sort (Str xs) (Str ys) = true
 one_sort _ _ = false
-
--- a number of 32 bits as a word
-abbrev pub word_of : ℤ → ℕ
-word_of (pos n) = n
-word_of (negsuc n) = 4294967295 - n
 
 -- a result where it has 32 bits
 abbrev pub exactly : ℤ → Option ℤ

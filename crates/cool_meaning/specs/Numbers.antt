@@ -15,6 +15,11 @@ is_zero (negsuc n) = false
 abbrev pub signed : ℕ → ℤ
 signed n = if nat_lt (n % 2 ^ 32) (2 ^ 31) then pos (n % 2 ^ 32) else negsuc (2 ^ 32 - 1 - n % 2 ^ 32)
 
+-- a number of 32 bits as a word
+abbrev pub word_of : ℤ → ℕ
+word_of (pos n) = n
+word_of (negsuc n) = 2 ^ 32 - 1 - n
+
 -- a number at the front of a line: blanks and tabs, an optional minus sign, digits
 
 abbrev pub is_blank : ℕ → Bool

@@ -1,6 +1,6 @@
 -- How the end of a machine's run accords with the runs of the source, within limits of heap, stack and instructions; and that an image
 -- means a program.
-use Rattle.std.specs.Prelude.{◌≡◌, ℕ, ◌+◌, ◌*◌, ◌%◌, ◌<◌, ◌≤◌, ◌⊎◌, List}
+use Rattle.std.specs.Prelude.{◌≡◌, ℕ, ◌+◌, ◌*◌, ◌%◌, ◌^◌, ◌<◌, ◌≤◌, ◌⊎◌, List}
 use Rattle.mips_isa.specs.ImageBounds.{ImageParts}
 use Rattle.mips_isa.specs.Calls.{Outcome, Running, Exited, Trapped}
 use Rattle.mips_isa.specs.Run.{run_image}
@@ -20,10 +20,10 @@ pub record Limits : Type 0 where
 pub record AreLimits (limits : Limits) : Type 0 where
   pub heap_unit : limits.heap % 1024 ≡ 0
   pub heap_least : 4096 ≤ limits.heap
-  pub heap_most : limits.heap ≤ 268435456
+  pub heap_most : limits.heap ≤ 2 ^ 28
   pub stack_unit : limits.stack % 1024 ≡ 0
   pub stack_least : 4096 ≤ limits.stack
-  pub stack_most : limits.stack ≤ 67108864
+  pub stack_most : limits.stack ≤ 2 ^ 26
 
 -- the meters of a run are within the limits
 pub record Inside (limits : Limits) (r : Run) : Type 0 where

@@ -1,5 +1,5 @@
 -- A program in a machine: what stands in text and data once its image is loaded.
-use Rattle.std.specs.Prelude.{◌≡◌, ℕ, ◌+◌, ◌*◌, ◌%◌, ◌<◌, ◌≤◌, List, [], length, map, codes, slice_get, Option, Some, None, Contains, Bool as Truth, true, false}
+use Rattle.std.specs.Prelude.{◌≡◌, ℕ, ◌+◌, ◌*◌, ◌^◌, ◌%◌, ◌<◌, ◌≤◌, List, [], length, map, codes, slice_get, Option, Some, None, Contains, Bool as Truth, true, false}
 use Rattle.mips_isa.specs.declared.address_map.TheConstants.{DATA_START, HEAP_START, TEXT_START}
 use Rattle.mips_isa.specs.Assembly.{start_name}
 use Rattle.mips_isa.specs.Bytes.{Bytes, word}
@@ -29,7 +29,8 @@ use Rattle.cool_codegen.specs.Code.{Context, truth_label}
 use Rattle.cool_codegen.specs.Features.{method_code}
 use Rattle.cool_emit.specs.Programs.{IsBuildable, initializer_code, program_constants}
 use Rattle.cool_emit.specs.SpansOfPrograms.{context_of}
-use Rattle.cool_simulation.specs.Pictures.{bit, word_of as number_word}
+use Rattle.cool_meaning.specs.Numbers.{word_of as number_word}
+use Rattle.cool_simulation.specs.Pictures.{bit}
 use Rattle.cool_simulation.specs.Quiet.{IsQuietInitializer, IsQuietMethod}
 use Rattle.cool_simulation.specs.Visits.{Visit, program_begun}
 
@@ -145,7 +146,7 @@ pub record IsLoaded (l : Loading) : Type 0 where
   pub slots_in : (c : ClassId) (name : List ℕ) (k : ℕ) → c.0 < length l.table → slot l.table c name ≡ Some k → InData l.world (l.world.place (dispatch_table l.table c) + 4 * k) 1
   pub slots : (c : ClassId) (name : List ℕ) (k : ℕ) → c.0 < length l.table → slot l.table c name ≡ Some k
       → word l.memory (l.world.place (dispatch_table l.table c) + 4 * k) ≡ l.world.place (method_label l.table (method l.table c name))
-  pub tables_fit : (c : ClassId) → c.0 < length l.table → (l.world.place (dispatch_table l.table c) % 4 ≡ 0) × (l.world.place (dispatch_table l.table c) < 4294967296)
+  pub tables_fit : (c : ClassId) → c.0 < length l.table → (l.world.place (dispatch_table l.table c) % 4 ≡ 0) × (l.world.place (dispatch_table l.table c) < 2 ^ 32)
   pub end_text : TextAt l.world l.memory (l.world.place end_text) (codes "COOL program successfully executed\n")
   pub abort_text : TextAt l.world l.memory (l.world.place abort_text) (codes "Abort called from class ")
   pub newline_text : TextAt l.world l.memory (l.world.place newline_text) (codes "\n")

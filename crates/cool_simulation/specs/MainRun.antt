@@ -1,5 +1,5 @@
 -- What the run of a whole program in a machine comes to, for a run of the source with so many steps.
-use Rattle.std.specs.Prelude.{◌≡◌, ℕ, ◌+◌, ◌-◌, ◌*◌, ◌<◌, ◌≤◌, false, List, None}
+use Rattle.std.specs.Prelude.{◌≡◌, ℕ, ◌+◌, ◌-◌, ◌*◌, ◌^◌, ◌<◌, ◌≤◌, false, List, None}
 use Rattle.mips_isa.specs.declared.address_map.TheConstants.{HEAP_START, STACK_END}
 use Rattle.mips_isa.specs.Assembly.{start_name}
 use Rattle.mips_isa.specs.Calls.{State as Machine}
@@ -20,8 +20,8 @@ pub record Starts (l : Loading) (input : List ℕ) (q : Pointers) (map : Map) (c
   pub pc : q.pc ≡ l.world.place start_name
   pub gp : q.gp ≡ HEAP_START
   pub sp : q.sp ≡ STACK_END
-  pub fp_fits : q.fp < 4294967296
-  pub own_fits : q.self < 4294967296
+  pub fp_fits : q.fp < 2 ^ 32
+  pub own_fits : q.self < 2 ^ 32
   pub shows : Shows (start input) console
   pub pictures : Pictures l.table l.world l.memory l.memory map (start input) q.gp q.sp
   pub homeless : (k : ℕ) → map.home k ≡ 0

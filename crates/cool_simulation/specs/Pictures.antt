@@ -1,5 +1,5 @@
 -- How memory pictures a state of the source: where objects and variables are, and which words may change.
-use Rattle.std.specs.Prelude.{◌≡◌, ℕ, ◌+◌, ◌-◌, ◌*◌, ◌/◌, ◌%◌, ◌<◌, ◌≤◌, ◌⊎◌, ℤ, pos, negsuc, Bool as Truth, true, false, List, [], length, get_or, slice_get, Some}
+use Rattle.std.specs.Prelude.{◌≡◌, ℕ, ◌+◌, ◌*◌, ◌/◌, ◌%◌, ◌<◌, ◌≤◌, ◌⊎◌, Bool as Truth, true, false, List, [], length, get_or, slice_get, Some}
 use Rattle.mips_isa.specs.declared.address_map.TheConstants.{HEAP_START, STACK_END}
 use Rattle.mips_isa.specs.Bytes.{Bytes, word}
 use Rattle.cool_classes.specs.declared.class_id.ClassId.{ClassId}
@@ -12,7 +12,7 @@ use Rattle.cool_layout.specs.Preorder.{tag}
 use Rattle.cool_layout.specs.Labels.{dispatch_table}
 use Rattle.cool_meaning.specs.Values.{Value, Void, Int, Bool, Str, Obj, State}
 use Rattle.cool_meaning.specs.Lookups.{attributes}
-use Rattle.cool_meaning.specs.Numbers.{fits}
+use Rattle.cool_meaning.specs.Numbers.{fits, word_of}
 use Rattle.lists.specs.Bytes.{AreBytes}
 
 -- Where a run's objects and variables are. An identity has the address, the class and the locations of its object; a location has a
@@ -23,11 +23,6 @@ pub record Map : Type 0 where
   pub locations : ℕ → List ℕ
   pub home : ℕ → ℕ
   pub marked : ℕ → Truth
-
--- a number of 32 bits as a word
-abbrev pub word_of : ℤ → ℕ
-word_of (pos n) = n
-word_of (negsuc n) = 4294967295 - n
 
 abbrev pub bit : Truth → ℕ
 bit true = 1

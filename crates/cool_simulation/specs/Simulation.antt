@@ -1,6 +1,6 @@
 -- What the code of an expression, of a call and of a run is to do: it leads from a state of the machine that pictures the source's to one
 -- that pictures what evaluation comes to, within so many instructions, heap and stack for its meters.
-use Rattle.std.specs.Prelude.{◌≡◌, ℕ, ◌+◌, ◌-◌, ◌*◌, ◌<◌, ◌≤◌, ◌⊎◌, ℤ, pos, negsuc, suc, true, false, List, [], ◌++◌, length, map as each, slice_get, Some, Contains}
+use Rattle.std.specs.Prelude.{◌≡◌, ℕ, ◌+◌, ◌-◌, ◌*◌, ◌^◌, ◌<◌, ◌≤◌, ◌⊎◌, ℤ, pos, negsuc, suc, true, false, List, [], ◌++◌, length, map as each, slice_get, Some, Contains}
 use Rattle.mips_isa.specs.declared.address_map.TheConstants.{STACK_END}
 use Rattle.mips_isa.specs.Bytes.{Bytes, word}
 use Rattle.mips_isa.specs.Calls.{State as Machine, Running}
@@ -233,7 +233,7 @@ pub record Called (l : Loading) (k : ClassId) (self : Value) (vs : List Value) (
   pub pictures : Pictures l.table l.world l.memory m map st q.gp q.sp
   pub self_is : Pic l.world m map st.drawn q.gp self q.acc
   pub room : q.sp + 4 * length vs ≤ STACK_END
-  pub saved : (q.ra < 4294967296) × (q.fp < 4294967296) × (q.self < 4294967296)
+  pub saved : (q.ra < 2 ^ 32) × (q.fp < 2 ^ 32) × (q.self < 2 ^ 32)
   pub values : (j : ℕ) (v : Value) → slice_get vs j ≡ Some v → Pic l.world m map st.drawn q.gp v (word m (q.sp + 4 * (length vs - (j + 1))))
   pub unmarked : (i : ℕ) → q.sp ≤ 4 * i → 4 * i < q.sp + 4 * length vs → map.marked i ≡ false
   pub class : class_of self ≡ Some k

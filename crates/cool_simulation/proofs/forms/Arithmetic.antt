@@ -24,8 +24,9 @@ use Rattle.cool_meaning.specs.Meters.{◌>>=◌}
 use Rattle.cool_meaning.specs.BasicMethods.{as_number}
 use Rattle.cool_meaning.specs.Evaluation.{Call, Calls, eval, arithmetic}
 use Rattle.cool_meaning.proofs.SoundParts.{AllCallsSound}
+use Rattle.cool_meaning.specs.Numbers.{word_of}
 use Rattle.cool_simulation.specs.Loadings.{Loading, IsLoaded, constants, context, whole}
-use Rattle.cool_simulation.specs.Pictures.{Map, Pic, Pictures, word_of}
+use Rattle.cool_simulation.specs.Pictures.{Map, Pic, Pictures}
 use Rattle.cool_simulation.specs.Simulation.{Done, Correct, Way}
 use Rattle.cool_simulation.specs.Visits.{Visits}
 use Rattle.cool_simulation.proofs.ground.OperatorWalks.{Both, values}

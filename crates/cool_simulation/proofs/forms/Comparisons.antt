@@ -20,11 +20,11 @@ use Rattle.cool_codegen.specs.Asked.{integers_in, strings_in}
 use Rattle.cool_codegen.specs.Code.{code, bool_code, truth_label}
 use Rattle.cool_meaning.specs.Values.{Bool, State}
 use Rattle.cool_meaning.specs.Meters.{give}
-use Rattle.cool_meaning.specs.Numbers.{fits}
+use Rattle.cool_meaning.specs.Numbers.{fits, word_of}
 use Rattle.cool_meaning.specs.Evaluation.{Call, Calls, eval, compare}
 use Rattle.cool_meaning.proofs.SoundParts.{AllCallsSound}
 use Rattle.cool_simulation.specs.Loadings.{Loading, IsLoaded, constants, context, whole}
-use Rattle.cool_simulation.specs.Pictures.{Map, Pic, Pictures, Shows, word_of}
+use Rattle.cool_simulation.specs.Pictures.{Map, Pic, Pictures, Shows}
 use Rattle.cool_simulation.specs.Simulation.{Done, Correct}
 use Rattle.cool_simulation.specs.Visits.{Visits}
 use Rattle.cool_simulation.proofs.ground.Sums.{raised_fits}

@@ -28,11 +28,11 @@ use Rattle.cool_codegen.specs.Pieces.{ends_where_lines}
 use Rattle.cool_meaning.specs.Values.{Int, State}
 use Rattle.cool_meaning.specs.Meters.{Error, Overflow, DivisionByZero, stop}
 use Rattle.cool_meaning.specs.SourceRun.{error_text}
-use Rattle.cool_meaning.specs.Numbers.{fits}
+use Rattle.cool_meaning.specs.Numbers.{fits, word_of}
 use Rattle.cool_meaning.specs.BasicMethods.{new_number}
 use Rattle.cool_meaning.specs.Evaluation.{exact}
 use Rattle.cool_simulation.specs.Loadings.{Loading, IsLoaded, constants}
-use Rattle.cool_simulation.specs.Pictures.{Map, Pictures, Shows, word_of}
+use Rattle.cool_simulation.specs.Pictures.{Map, Pictures, Shows}
 use Rattle.cool_simulation.specs.Simulation.{Done, Runs, Stopped, Way}
 use Rattle.cool_simulation.proofs.ground.Sums.{raised_fits}
 use Rattle.cool_simulation.proofs.ground.OperatorWalks.{Result, Flagged}

@@ -16,11 +16,11 @@ use Rattle.cool_codegen.specs.Asked.{integers_in, strings_in, file_of}
 use Rattle.cool_codegen.specs.Code.{code, int_code, label_at}
 use Rattle.cool_meaning.specs.Meters.{◌>>=◌}
 use Rattle.cool_meaning.specs.BasicMethods.{as_number}
-use Rattle.cool_meaning.specs.Numbers.{fits}
+use Rattle.cool_meaning.specs.Numbers.{fits, word_of}
 use Rattle.cool_meaning.specs.Evaluation.{Call, Calls, eval, exact}
 use Rattle.cool_meaning.proofs.SoundParts.{AllCallsSound}
 use Rattle.cool_simulation.specs.Loadings.{Loading, IsLoaded, constants, context, whole}
-use Rattle.cool_simulation.specs.Pictures.{Pic, word_of}
+use Rattle.cool_simulation.specs.Pictures.{Pic}
 use Rattle.cool_simulation.specs.Simulation.{Done, Correct}
 use Rattle.cool_simulation.specs.Visits.{Visits}
 use Rattle.cool_simulation.proofs.ground.Sums.{raised, raised_fits, raised_over, raised_negated, difference_flag, difference_numbers}

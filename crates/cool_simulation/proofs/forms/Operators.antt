@@ -19,10 +19,10 @@ use Rattle.cool_codegen.specs.Pieces.{add_lines, subtract_lines, multiply_lines,
 use Rattle.cool_codegen.specs.Code.{operation_code, int_code, label_at, file_label}
 use Rattle.cool_meaning.specs.Values.{Value, State}
 use Rattle.cool_meaning.specs.Meters.{DivisionByZero, Metered, stop}
-use Rattle.cool_meaning.specs.Numbers.{fits, is_zero}
+use Rattle.cool_meaning.specs.Numbers.{fits, is_zero, word_of}
 use Rattle.cool_meaning.specs.Evaluation.{exact, arithmetic}
 use Rattle.cool_simulation.specs.Loadings.{Loading, IsLoaded, constants, context}
-use Rattle.cool_simulation.specs.Pictures.{Map, Pictures, Shows, word_of}
+use Rattle.cool_simulation.specs.Pictures.{Map, Pictures, Shows}
 use Rattle.cool_simulation.specs.Simulation.{Done, Runs, Way}
 use Rattle.cool_simulation.proofs.ground.Sums.{raised, raised_fits, raised_over, raised_sum, raised_difference, sum_flag, sum_numbers, difference_flag, difference_numbers}
 use Rattle.cool_simulation.proofs.ground.Products.{product_flag, product_flags}

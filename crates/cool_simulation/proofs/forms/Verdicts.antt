@@ -8,10 +8,10 @@ use Rattle.cool_runtime.specs.Reaches.{World}
 use Rattle.cool_runtime.specs.Contents.{StringAt}
 use Rattle.cool_runtime.specs.Comparison.{Verdict, Identical, WithVoid, OtherTags, ByValue, ByBytes, ByIdentity, ValueAt}
 use Rattle.cool_meaning.specs.Values.{Value, Void, Int, Bool, Str, Obj, State}
-use Rattle.cool_meaning.specs.Numbers.{fits}
+use Rattle.cool_meaning.specs.Numbers.{fits, word_of}
 use Rattle.cool_meaning.specs.Evaluation.{same, same_number}
 use Rattle.cool_simulation.specs.Loadings.{Loading, IsLoaded}
-use Rattle.cool_simulation.specs.Pictures.{Map, Pic, Pictures, bit, word_of}
+use Rattle.cool_simulation.specs.Pictures.{Map, Pic, Pictures, bit}
 use Rattle.cool_simulation.proofs.ground.KindsOfValues.{kind, tag_of, number_of, first_bytes, second_bytes, other_kinds, int_kind, bool_kind, string_kind, tagged, value_at, some_address}
 use Rattle.std.proofs.lemmas.Bool.{eq-eqb, ne_eqb}
 use Rattle.cool_simulation.proofs.ground.Sums.{small_of}

@@ -24,9 +24,9 @@ use Rattle.cool_consts.specs.Labels.{int_constant, string_constant}
 use Rattle.cool_codegen.specs.Code.{truth_label}
 use Rattle.cool_meaning.specs.Values.{Value, Void, Int, Bool, Str, State, default_of}
 use Rattle.cool_meaning.specs.Lookups.{default_values}
-use Rattle.cool_meaning.specs.Numbers.{signed}
+use Rattle.cool_meaning.specs.Numbers.{signed, word_of}
 use Rattle.cool_simulation.specs.Loadings.{Loading, IsLoaded, constants, item_word}
-use Rattle.cool_simulation.specs.Pictures.{Map, Pic, Pictures, bit, word_of, Unmarked}
+use Rattle.cool_simulation.specs.Pictures.{Map, Pic, Pictures, bit, Unmarked}
 use Rattle.cool_simulation.proofs.ground.WordsOfNumbers.{signed_word}
 use Rattle.cool_simulation.proofs.ground.MovedContents.{lies_less, data_word, int_moved, bool_moved, string_moved, object_moved, zero_byte}
 use Rattle.std.proofs.lemmas.Bool.{ne_eqb}

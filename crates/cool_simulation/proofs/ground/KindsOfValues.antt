@@ -13,8 +13,9 @@ use Rattle.cool_layout.proofs.TagRanges.{are_tags}
 use Rattle.cool_meaning.specs.Values.{Value, Void, Int, Bool, Str, Obj, State}
 use Rattle.cool_meaning.specs.Evaluation.{same}
 use Rattle.cool_meaning.proofs.BasicClasses.{basic_within}
+use Rattle.cool_meaning.specs.Numbers.{word_of}
 use Rattle.cool_simulation.specs.Loadings.{Loading, IsLoaded}
-use Rattle.cool_simulation.specs.Pictures.{Map, Pic, Pictures, ObjectStands, bit, word_of}
+use Rattle.cool_simulation.specs.Pictures.{Map, Pic, Pictures, ObjectStands, bit}
 use Rattle.cool_emit.proofs.RootedTables.{rooted}
 use Rattle.cool_simulation.proofs.ground.DataHere.{prototypes_here}
 use Rattle.cool_simulation.proofs.ground.MovedContents.{lies_less}

@@ -16,8 +16,8 @@ use Rattle.cool_runtime.proofs.Cutting.{cut_string}
 use Rattle.cool_runtime.proofs.ReadingStrings.{read_string}
 use Rattle.cool_runtime.proofs.CopiedObjects.{copied_word, copied_object, copied_int, copied_string, copy_same}
 use Rattle.cool_meaning.specs.Values.{Value, Int, Bool, Str, State}
-use Rattle.cool_meaning.specs.Numbers.{fits}
-use Rattle.cool_simulation.specs.Pictures.{Map, Pic, Pictures, word_of, bit, Unmarked}
+use Rattle.cool_meaning.specs.Numbers.{fits, word_of}
+use Rattle.cool_simulation.specs.Pictures.{Map, Pic, Pictures, bit, Unmarked}
 
 -- a number that fits has a word of 32 bits
 pub fits_word : (n : ℤ) → fits n ≡ true → word_of n < 4294967296

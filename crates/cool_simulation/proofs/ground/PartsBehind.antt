@@ -11,9 +11,9 @@ use Rattle.cool_runtime.specs.Machines.{At, Pointers, Console, with_int}
 use Rattle.cool_runtime.proofs.Words.{byte_other, word_equal}
 use Rattle.cool_runtime.proofs.Objects.{made_int}
 use Rattle.cool_meaning.specs.Values.{Value, Void, Int, Bool, Str, Obj, State}
-use Rattle.cool_meaning.specs.Numbers.{fits}
+use Rattle.cool_meaning.specs.Numbers.{fits, word_of}
 use Rattle.cool_simulation.specs.Loadings.{Loading}
-use Rattle.cool_simulation.specs.Pictures.{Map, Pic, Pictures, Kept, Grown, Shows, word_of}
+use Rattle.cool_simulation.specs.Pictures.{Map, Pic, Pictures, Kept, Grown, Shows}
 use Rattle.cool_simulation.specs.Simulation.{Done}
 use Rattle.cool_simulation.proofs.ground.PicturesStay.{pic_stays, staying_of, kept_same, kept_then, not_grown, grown_then}
 

@@ -2,8 +2,7 @@
 use Rattle.std.proofs.Common.{◌≡◌, ℕ, zero, suc, ◌+◌, ◌-◌, ◌*◌, ◌/◌, ◌%◌, ◌<◌, ◌≤◌, ◌⊎◌, inl, inr, ℤ, pos, negsuc, ◌*ℤ◌, neg_ℤ, true, false, refl, ap, ◌∙◌, arith}
 use Rattle.std.specs.Prelude.{nat_lt, if◌then◌else◌}
 use Rattle.mips_isa.specs.Machine.{wrap, flag, lifted, long, is_negative}
-use Rattle.cool_meaning.specs.Numbers.{fits}
-use Rattle.cool_simulation.specs.Pictures.{word_of}
+use Rattle.cool_meaning.specs.Numbers.{fits, word_of}
 use Rattle.cool_simulation.proofs.ground.Sums.{flag_cases, small_of}
 
 pub big_of : (n : ℕ) → nat_lt n 2147483648 ≡ false → 2147483648 ≤ n

@@ -3,8 +3,7 @@ use Rattle.std.proofs.Common.{◌≡◌, ℕ, zero, suc, ◌+◌, ◌-◌, ◌*�
 use Rattle.std.specs.Prelude.{nat_lt, if◌then◌else◌, int_div}
 use Rattle.std.proofs.Math.Nat.{div-le_self}
 use Rattle.mips_isa.specs.Machine.{wrap, flag, is_negative, magnitude, with_sign, signed_quotient}
-use Rattle.cool_meaning.specs.Numbers.{fits, is_zero}
-use Rattle.cool_simulation.specs.Pictures.{word_of}
+use Rattle.cool_meaning.specs.Numbers.{fits, is_zero, word_of}
 use Rattle.cool_simulation.proofs.ground.Sums.{flag_cases, small_of}
 use Rattle.cool_simulation.proofs.ground.Products.{big_of, low_sign, high_sign}
 

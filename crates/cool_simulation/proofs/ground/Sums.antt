@@ -2,8 +2,7 @@
 use Rattle.std.proofs.Common.{◌≡◌, ℕ, zero, suc, ◌+◌, ◌-◌, ◌<◌, ◌≤◌, ◌⊎◌, inl, inr, ℤ, pos, negsuc, ◌+ℤ◌, ◌-ℤ◌, neg_ℤ, Bool, true, false, refl, arith}
 use Rattle.std.specs.Prelude.{nat_lt}
 use Rattle.mips_isa.specs.Machine.{wrap, flag, lifted}
-use Rattle.cool_meaning.specs.Numbers.{fits}
-use Rattle.cool_simulation.specs.Pictures.{word_of}
+use Rattle.cool_meaning.specs.Numbers.{fits, word_of}
 
 -- a number moved up by 2 ^ 32
 abbrev pub raised : ℤ → ℕ

@@ -2,8 +2,7 @@
 use Rattle.std.proofs.Common.{◌≡◌, ℕ, ◌+◌, ◌-◌, ◌*◌, ◌%◌, ◌<◌, ℤ, Bool, true, false, List, [], ◌∷◌, ◌++◌, refl, sym, ◌∙◌, ap, arith}
 use Rattle.std.specs.Prelude.{pos, negsuc, nat_lt, nat_le, ◌==◌, if◌then◌else◌}
 use Rattle.mips_isa.specs.Calls as machine
-use Rattle.cool_meaning.specs.Numbers.{fits, signed, digits_from, is_digit, is_blank, skip_blanks, negated, number_after_blanks, number_of}
-use Rattle.cool_simulation.specs.Pictures.{word_of}
+use Rattle.cool_meaning.specs.Numbers.{fits, signed, digits_from, is_digit, is_blank, skip_blanks, negated, number_after_blanks, number_of, word_of}
 use Rattle.lists.proofs.Numbers.{digit_same}
 
 -- a number of 32 bits is below 2 ^ 32 as a word, and the machine reads it back

@@ -21,8 +21,9 @@ use Rattle.cool_rules.specs.Scopes.{Binding}
 use Rattle.cool_rules.specs.Typing.{with_name, formals_in_scope}
 use Rattle.cool_meaning.specs.Values.{Value}
 use Rattle.cool_meaning.specs.Evaluation.{same}
+use Rattle.cool_meaning.specs.Numbers.{word_of}
 use Rattle.cool_rules.specs.StaticTypes.{type_of}
-use Rattle.cool_fold.specs.Folding.{constant_in, number_in, truth_in, one_sort, word_of, exactly, result, number_or, arith_by, neg_by, less_by, equal_by, compare_by, not_by, is_void_by, taken_by, if_by, is_redefined, dispatch_by, fold, fold_all, fold_maybe, fold_cases, fold_option, fold_feature, fold_table}
+use Rattle.cool_fold.specs.Folding.{constant_in, number_in, truth_in, one_sort, exactly, result, number_or, arith_by, neg_by, less_by, equal_by, compare_by, not_by, is_void_by, taken_by, if_by, is_redefined, dispatch_by, fold, fold_all, fold_maybe, fold_cases, fold_option, fold_feature, fold_table}
 use Rattle.cool_fold.proofs.FoldedTables.{feature_at}
 use Rattle.cool_simulation.specs.ByteStrings.{HasBytes, HaveBytes, MaybeHasBytes, CasesHaveBytes, FeatureHasBytes}
 
