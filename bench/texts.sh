@@ -1,4 +1,4 @@
-# Texts of any size that bench/run and bench/instructions measure: functions that write to standard output, to be read by `.` of a shell.
+# Generates texts of any size for bench/run and bench/instructions: shell functions that write to standard output; source this file.
 
 # So many KiB of Cool: classes of five methods, and Main.
 cool_text() {

@@ -1,4 +1,4 @@
-"""Cool programs by chance, for compare/random-cases. Each is legal and ends: a loop turns a few times, and a method calls only those with a lower number.
+"""Random Cool programs, for compare/random-cases. Each is legal and ends: a loop turns a few times, and a method calls only those with a lower number.
 Most come to their end text, some to an error of running.
 """
 import random

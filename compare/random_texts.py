@@ -1,4 +1,4 @@
-"""Texts of assembly by chance, for compare/random-cases. A text goes through all instructions, directives and system calls, and prints its registers, HI, LO,
+"""Random assembly texts, for compare/random-cases. A text goes through all instructions, directives and system calls, and prints its registers, HI, LO,
 its data and some of its stack at the end. It keeps away from what SPIM does otherwise (docs/spim.md): no instruction traps, and what holds an address is
 made a difference of two.
 """

@@ -1,4 +1,4 @@
-"""What the tools of this folder have in common: their words, the program of the repository, and how they end."""
+"""Shared by the tools of this folder: their options, the program of the repository, and how they end."""
 
 import os
 import re

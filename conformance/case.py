@@ -1,4 +1,4 @@
-"""A case of the folder cases/: what is run, what is expected of it, and how what came differs."""
+"""A case of the folder cases/: its command, its expected results, and the differences of the actual ones."""
 
 import os
 import re

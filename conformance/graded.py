@@ -1,4 +1,4 @@
-"""The cases that `grade` takes, the columns in which it counts them, and files that are written whole or not at all."""
+"""The cases that `grade` uses, the columns in which it counts them, and files that are written completely or not at all."""
 
 import contextlib
 import os

@@ -1,4 +1,4 @@
-"""Runs cases by a command, and says of each why it failed."""
+"""Runs cases with a command, and says why each failed."""
 
 import concurrent.futures
 

@@ -1,4 +1,4 @@
-"""The order in which the page loads its scripts: which of them uses a name that one behind it gives. Read by `tidy`, by forms alone.
+"""The order in which the page loads its scripts: finds scripts that use a name of a later one. Read by `tidy`, by forms alone.
 
 All scripts of the page are plain ones, whose names are those of the whole page. A name that a script also binds within, as a parameter does, is not looked for.
 """

@@ -1,4 +1,4 @@
-"""What `map` and `tidy` read of the repository: the files that git has, first sentences, and what definitions rest on."""
+"""Shared by `map` and `tidy`: the files in git, their first sentences, and what definitions depend on."""
 import pathlib
 import re
 import subprocess

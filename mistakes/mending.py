@@ -1,4 +1,4 @@
-"""Applies the mends that `cool_explain` tells to a program, one after the other, for mistakes/mends."""
+"""Applies the fixes of `cool_explain` to a program, one after the other, for mistakes/mends."""
 import os
 import re
 import resource

@@ -1,4 +1,4 @@
-// The adapter: a session of one client, its launches and moves, and which events come of them.
+// The adapter: the session of one client, its launches and steps, and the events that it sends.
 "use strict";
 const fs = require("fs");
 const { Breakpoints } = require("./breakpoints.js");

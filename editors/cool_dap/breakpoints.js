@@ -1,4 +1,4 @@
-// Breaks at lines of files and at methods, as the client asks for them, and as the places and addresses at which a run stops.
+// Breakpoints at lines and methods: as the client sets them, and as the addresses at which a run stops.
 "use strict";
 const { Unread, readConditions } = require("./conditions.js");
 const { NotTold } = require("./frames.js");

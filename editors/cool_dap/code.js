@@ -1,4 +1,4 @@
-// The code and the words of memory, as the protocol has them.
+// Disassembly and memory, in the form of the protocol.
 "use strict";
 
 const WORD = 4;

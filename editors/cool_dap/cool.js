@@ -1,4 +1,4 @@
-// The program `cool`, and `cool_editor`, which tells the table of code: where they are, and their runs.
+// Finds and runs the programs `cool` and `cool_editor`, which prints the table of code.
 "use strict";
 const { execFileSync, spawn } = require("child_process");
 const fs = require("fs");

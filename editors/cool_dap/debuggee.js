@@ -1,4 +1,4 @@
-// The program that is debugged: where it stands, and its moves. A state is a number of instructions, so it goes back as exactly as on.
+// The debugged program: its current state, and its steps. A state is a number of instructions, so it goes back as exactly as on.
 "use strict";
 const { StringDecoder } = require("string_decoder");
 const { Cool } = require("./cool.js");

@@ -1,4 +1,4 @@
-// The stack, what stands in its frames, and the parts of objects, as the protocol has them. What is told is of one state: a reference to it is
+// The call stack, the variables of its frames, and the attributes of objects, in the form of the protocol. What is told is of one state: a reference to it is
 // forgotten with the next.
 "use strict";
 

@@ -1,4 +1,4 @@
-// What the program reads, line by line.
+// The input of the debugged program, line by line.
 "use strict";
 
 class Input {

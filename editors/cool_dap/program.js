@@ -1,4 +1,4 @@
-// What is debugged: the files of a program as they were at launch. They are kept in a folder of their own, since each look runs them anew, and they
+// The debugged files, as they were at the launch. They are kept in a folder of their own, since each look runs them anew, and they
 // may be edited meanwhile.
 "use strict";
 const { execFileSync } = require("child_process");

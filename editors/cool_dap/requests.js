@@ -1,4 +1,4 @@
-// The requests of a client, and what an adapter (`this`) answers.
+// The requests of a client, and the answers of an adapter (`this`).
 "use strict";
 const { disassembled, memory } = require("./code.js");
 

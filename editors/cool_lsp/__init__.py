@@ -1,4 +1,4 @@
-"""The rooms of cool-lsp, the lowest first. Each uses those above it in this list, and none below.
+"""The modules of cool-lsp, the lowest first. Each uses those above it in this list, and none below.
 
     protocol      messages from bytes, and bytes from messages
     lexemes       where the comments and strings of a file stand

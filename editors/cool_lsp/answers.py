@@ -1,4 +1,4 @@
-"""What is answered about a fault or a file: only what is right for every program, without another parser than the program's own."""
+"""Answers about an error or a file: only what is right for every program, without another parser than the program's own."""
 from .diagnostics import ERROR, is_unchecked
 from .files import to_path
 from .lexemes import bare

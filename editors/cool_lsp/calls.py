@@ -1,4 +1,4 @@
-"""What is answered about the call that is being written: its signature, and which argument the cursor is in (signature help)."""
+"""Answers about the call that is being written: its signature, and the argument at the cursor (signature help)."""
 import re
 
 from .answers import position

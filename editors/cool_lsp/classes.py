@@ -1,4 +1,4 @@
-"""What is answered about a class: where it is defined and named, a new name for it, and names that begin as a word does.
+"""Answers about a class: its definition and references, renaming, and completion.
 
 A type identifier names the class of that name wherever it stands, so this needs no types and no tree.
 """

@@ -1,4 +1,4 @@
-"""What is told of each open file: the faults of its programs, what is likely a mistake, and what keeps faults from being told."""
+"""The diagnostics of each open file: the errors of its programs, warnings, and reasons why there are no diagnostics."""
 import os
 from collections import namedtuple
 

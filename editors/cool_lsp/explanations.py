@@ -1,4 +1,4 @@
-"""What is told of each fault of a program, and of what is legal but likely a mistake: the lines of `cool_explain --lines` (docs/explain.md)."""
+"""The explanation of each error of a program, and warnings: the lines of `cool_explain --lines` (docs/explain.md)."""
 import re
 from collections import namedtuple
 

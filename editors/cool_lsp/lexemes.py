@@ -1,4 +1,4 @@
-"""Where the comments and strings of a file stand, so that its names can be told from what only looks so (docs/language.md)."""
+"""The positions of comments and strings in a file, to distinguish names from text that only looks like one (docs/language.md)."""
 import re
 
 STRING = rb'"(?:[^"\\\n\0]|\\[^\0])*'

@@ -1,4 +1,4 @@
-"""Where the names of a program stand, what each is and which definition it means: the lines of `cool_editor` (docs/editor.md)."""
+"""The positions of names in a program, the role of each and the definition that it refers to: the lines of `cool_editor` (docs/editor.md)."""
 import re
 from collections import namedtuple
 

@@ -1,4 +1,4 @@
-"""A large file in pieces, so that a session is sent the piece that was edited and no more.
+"""Splits a large file into pieces, so that only the edited piece is sent to the session.
 
 The session takes each piece for a file, and tells the faults of the one file all the same. A piece begins with a class at the beginning of a line, and
 all before it is balanced: its braces, `case` and `esac` are closed, no comment or string is open, and it ends with `};`. So the tokens of the pieces

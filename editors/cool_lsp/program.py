@@ -1,4 +1,4 @@
-"""Which program is asked."""
+"""Finds the program to use."""
 import os
 import shutil
 import signal

@@ -1,4 +1,4 @@
-"""What each message of an editor does. One thread reads; another checks, tells what it found, and then answers what asks about that; a third has faults
+"""Handles the messages of an editor. One thread reads; another checks, tells what it found, and then answers what asks about that; a third has faults
 explained (explainer), and then the second one tells them with their ranges."""
 import queue
 import threading

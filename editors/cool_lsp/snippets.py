@@ -1,4 +1,4 @@
-"""What completes the beginning of a keyword: the whole form, with places to go to."""
+"""Snippets: the whole form for the beginning of a keyword, with tab stops."""
 import re
 
 from .answers import position

@@ -1,4 +1,4 @@
-// The list of the faults below the editor, with what is known of each, and of the notices.
+// The list of errors and warnings below the editor, with the explanation of each.
 "use strict";
 
 // Words with what stands between ` as code.

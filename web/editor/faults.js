@@ -1,4 +1,4 @@
-// The faults of the program, found as one types.
+// Finds the errors of the program while the user types.
 "use strict";
 
 const checker = new Runner(), session = new Session();

@@ -1,4 +1,4 @@
-// The program is kept in the browser's own storage. Where that is refused, as in a private window, nothing is kept, and all else goes on.
+// Stores the program in the browser's own storage. Where that is refused, as in a private window, nothing is kept, and all else goes on.
 "use strict";
 
 // As many as a command takes.

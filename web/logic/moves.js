@@ -1,4 +1,4 @@
-// Moves of the debugger. A run is the same each time, so a state of the machine is a number: how many instructions were executed since the start.
+// Steps of the debugger. A run is the same each time, so a state of the machine is a number: how many instructions were executed since the start.
 // Each look, and each move, runs the program anew by `debug` up to there, with a script of its own; so it can go back, too.
 //
 // What uses this file gives it a function debug(lines, wanted, { seen, budget }): it runs a script of these lines, and answers { notes, output }, the notes

@@ -1,4 +1,4 @@
-// The lines of the methods in the program's text, which the table of code has not. It is for the eye alone and counts on a program without faults; of
+// The lines of the methods in the program's text, which are not in the table of code. It is for the eye alone and counts on a program without faults; of
 // another one it finds what it can.
 "use strict";
 

@@ -1,4 +1,4 @@
-// What a debugged program reads, line by line. A read is known by how many instructions were executed before it: each call of IO.in_int or IO.in_string
+// The input of a debugged program, line by line. A read is known by how many instructions were executed before it: each call of IO.in_int or IO.in_string
 // takes one line. So it is known before a read whether its line was given.
 "use strict";
 

@@ -1,4 +1,4 @@
-// Where a run stops: at lines of the source, at breaks and at errors; and the moves on to there.
+// The stops of a run (source lines, breakpoints, errors), and the steps to them.
 //
 // The table of code tells the address at which each line begins (table.js), and `debug` stops at addresses. So a stop at a line is the state at which the
 // code of the line begins, with nothing of it done.

@@ -1,4 +1,4 @@
-// Breaks, at lines of the files and at labels of the assembly.
+// Breakpoints, at lines of the files and at labels of the assembly.
 "use strict";
 
 // Where each break of a line of a file stops: { line, places }, or undefined.

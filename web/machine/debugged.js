@@ -1,4 +1,4 @@
-// The debugger's runs in the page: scripts for `debug`, and the notes that come.
+// The debugger's runs in the page: scripts for `debug`, and their output.
 "use strict";
 
 const debugged = new Runner();

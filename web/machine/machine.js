@@ -1,4 +1,4 @@
-// The debugger: what it shows, and how it goes from one state to another.
+// The debugger: the state on display, and the change to another state.
 "use strict";
 
 let here;

@@ -1,4 +1,4 @@
-// What the machine has at hand: what is made ready of the program as it is, and what the user set.
+// The data of the debugger: what is computed from the current program, and what the user has set.
 "use strict";
 
 const CHANGED = "The program changed: the next move begins anew.";

@@ -1,4 +1,4 @@
-// Files in pieces, so that a session is sent the piece that was edited and no more (session.js). A piece begins at the beginning of a line, so no line
+// Splits files into pieces, so that only the edited piece is sent to the session (session.js). A piece begins at the beginning of a line, so no line
 // comment goes on in the next. So where each piece parses alone no token and no class reaches over its end, and the files have the classes of their
 // pieces, in the same order. Where one does not parse nothing follows of the files.
 "use strict";

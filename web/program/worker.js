@@ -1,4 +1,4 @@
-// What a worker of the page does: runs the program as a message says, and posts what comes. It stands in one function that uses
+// The code of a worker of the page: it runs the program as a message says, and posts the results. It stands in one function that uses
 // nothing from outside itself but `coolProgram`, so that the page can make a worker from the texts of both.
 "use strict";
 

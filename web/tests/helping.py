@@ -3,8 +3,8 @@ import re
 
 from page import ROOT, example, same, test
 
-FAULTS = "faults", "Faults of source files"
-SECTIONS = ("quickstart", "The language on a page"), FAULTS, ("faults", "Errors of a running program"), ("quickstart", "What surprises")
+FAULTS = "faults", "Compile-time errors"
+SECTIONS = ("quickstart", "The language on a page"), FAULTS, ("faults", "Run-time errors"), ("quickstart", "Common surprises")
 REGISTERS = "runtime", "Registers"
 ROWS = "[...at('%s').querySelectorAll('tr')].map((it) => [...it.cells].map((cell) => cell.textContent).join('|'))"
 
