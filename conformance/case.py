@@ -12,12 +12,12 @@ MOST_SHOWN = 65536
 
 
 class Case:
-    """The case of a name. All that is expected is read here, so no program that is run later changes it."""
+    """The case of a name, of this folder of cases or of another. All that is expected is read here, so no program that is run later changes it."""
 
-    def __init__(self, name):
+    def __init__(self, name, cases=CASES):
         self.name = name
         self.kind = name.partition("-")[0]
-        self.folder = os.path.join(CASES, name)
+        self.folder = os.path.join(cases, name)
         if name in ("", ".", "..") or "/" in name or not os.path.isdir(self.folder):
             raise Refusal(f"no case: {name}")
         self.about = self._read("about", b"").decode("utf-8", "surrogateescape").removesuffix("\n")
