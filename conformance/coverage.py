@@ -12,8 +12,8 @@ import tempfile
 from call import HERE
 from differences import KINDS, LIMITS, error_of
 
-sys.path.insert(0, os.path.join(HERE, "..", "editors"))
-from cool_lsp.lexemes import bare, hidden  # noqa: E402
+sys.path.append(os.path.join(HERE, "..", "mistakes"))
+from lexemes import bare, hidden  # noqa: E402
 
 OPERATORS = ("+", "-", "*", "/", "~", "<", "<=", "=")
 # The rules of each group: a name, and the section of the Cool manual. Those of `run` are forms that a run comes to, the others stand in the text.

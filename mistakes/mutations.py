@@ -3,13 +3,11 @@ import glob
 import os
 import random
 import re
-import sys
+
+from lexemes import KEYWORDS, bare, hidden
+from mistakes import KINDS
 
 ROOT = os.path.dirname(os.path.dirname(os.path.realpath(__file__)))
-sys.path.insert(0, os.path.join(ROOT, "editors"))
-from cool_lsp.lexemes import bare, hidden  # noqa: E402
-from cool_lsp.names import KEYWORDS  # noqa: E402
-from mistakes import KINDS  # noqa: E402
 
 WORDS = re.compile(rb"[A-Za-z][A-Za-z0-9_]*|[0-9]+|<-|<=|=>|[{}();:,.@~*/+\-<=]")
 

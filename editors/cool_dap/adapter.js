@@ -2,11 +2,11 @@
 "use strict";
 const fs = require("fs");
 const { Breakpoints } = require("./breakpoints.js");
-const { coolOf } = require("./cool.js");
+const { programsFor } = require("./cool.js");
 const { Debuggee } = require("./debuggee.js");
 const { Frames, NotTold } = require("./frames.js");
 const { Input } = require("./input.js");
-const { Messages, written } = require("./messages.js");
+const { Messages, written } = require("../node/messages.js");
 const { Program, LaunchFailed } = require("./program.js");
 const { REQUESTS, Refused, THREAD } = require("./requests.js");
 
@@ -61,13 +61,13 @@ class Adapter {
 
     async launch(settings) {
         this.settings = settings;
-        const command = coolOf(settings.cool), { inputFile, input: text = "", inputEnds = false } = settings;
+        const programs = await programsFor(settings.cool), { inputFile, input: text = "", inputEnds = false } = settings;
         const input = inputFile ? new Input(inputOf(inputFile, settings.cwd), true) : new Input(text, inputEnds);
         const client = {
             output: (text) => this.output("stdout", text), say: (text, isWrong) => this.output(isWrong ? "stderr" : "console", text),
             askForLine: () => this.output("console", "The program reads a line: type it here, or ^D for the end of the input.\n"),
         };
-        this.debuggee = new Debuggee(command, new Program(settings), input, settings, client, this.sink);
+        this.debuggee = new Debuggee(programs, new Program(settings), input, settings, client, this.sink);
         this.frames = new Frames(this.debuggee);
         const faults = settings.noDebug ? undefined : await this.debuggee.prepare().catch((error) => (this.debuggee.end(), Promise.reject(error)));
         if (faults === undefined) return;

@@ -1,64 +1,40 @@
 // Finds and runs the programs `cool` and `cool_editor`, which prints the table of code.
 "use strict";
-const { execFileSync, spawn } = require("child_process");
+const { spawn } = require("child_process");
 const fs = require("fs");
-const path = require("path");
-const { MODULE, spawnModule } = require("./module.js");
-const { EDITORS, LaunchFailed } = require("./program.js");
+const { spawnModule } = require("../node/module.js");
+const { Missing, find, findBeside } = require("../node/program.js");
+const { LaunchFailed } = require("./program.js");
 
 const USUAL_STEPS = 1_000_000_000;
 // The note of a line of a script that the program does not have, with its number.
 const REFUSED = /:(\d+): B\d: /;
-// The script that tells a repository's program, and how long it may take.
-const TOP = path.join(EDITORS, ".."), PICKS = path.join(TOP, "release", "program"), MOST_MILLISECONDS = 10_000;
+// How long one may take to be found.
+const MOST_SECONDS = 10;
 
-// As the language server has it: the one that is named, or COOL, the one installed beside, that of the repository, or the one on PATH. Where there is none
-// it is the page's module, which "module" names.
-function coolOf(named) {
-    const given = named || process.env.COOL;
-    if (given) return given;
-    const found = fs.existsSync(PICKS) ? ofRepository("cool") : path.join(TOP, "cool");
-    if (found && fs.existsSync(found)) return found;
-    const isOnPath = (process.env.PATH ?? "").split(path.delimiter).some((it) => fs.existsSync(path.join(it, "cool")));
-    if (isOnPath) return "cool";
-    if (fs.existsSync(MODULE)) return "module";
-    throw new LaunchFailed('There is no program `cool`: run ./install in the repository, or set "cool" in the launch to the path of one.');
-}
-
-// The program that tells the table of code of `cool`: the one that COOL_EDITOR names, or the one beside `cool`, that of the repository, or the one on PATH.
-function editorOf(cool) {
-    if (process.env.COOL_EDITOR) return process.env.COOL_EDITOR;
-    if (cool === "module") return cool;
-    if (path.basename(cool) === cool) return "cool_editor";
-    const real = fs.existsSync(cool) ? fs.realpathSync(cool) : cool;
-    const beside = path.join(path.dirname(real), path.basename(real).replace(/^cool/, "cool_editor"));
-    if (beside !== real && fs.existsSync(beside)) return beside;
-    return (fs.existsSync(PICKS) ? ofRepository("cool_editor") : undefined) ?? "cool_editor";
-}
-
-// The path of a program of the repository, if it has one for this machine.
-function ofRepository(name) {
-    const released = path.join(TOP, "release", `${name}.exe`), how = { timeout: MOST_MILLISECONDS, stdio: ["ignore", "pipe", "ignore"] };
-    if (process.platform === "win32") return released;
+// A promise of the programs by their names, as the language server finds them: `cool`, and the `cool_editor` that goes with it. Without the latter a program
+// runs all the same.
+async function programsFor(named) {
     try {
-        return execFileSync(PICKS, [name], { ...how, env: { ...process.env, COOL_BUILD: "no" } }).toString().trimEnd();
-    } catch {
-        return undefined;
+        const cool = await find("cool", named, MOST_SECONDS);
+        return { cool, cool_editor: await findBeside("cool_editor", cool, MOST_SECONDS).catch(() => "cool_editor") };
+    } catch (error) {
+        throw error instanceof Missing ? new LaunchFailed(error.message) : error;
     }
 }
 
 class Cool {
     // `input` has `bytes` and `ended`: what the program is given to read, and whether nothing comes behind it. `sink` takes what is told of output, and
     // has it wait where the client does not keep up: { isFull, drained }.
-    constructor(command, program, input, { steps = USUAL_STEPS, heap, stack }, sink) {
-        Object.assign(this, { command, program, input, steps, sink });
+    constructor(programs, program, input, { steps = USUAL_STEPS, heap, stack }, sink) {
+        Object.assign(this, { programs, command: programs.cool, program, input, steps, sink });
         this.room = [...(heap ? ["--heap", String(heap)] : []), ...(stack ? ["--stack", String(stack)] : [])];
         this.running = new Set();
     }
 
     // A process, and whether it fails to start. `comes` is called with its output, and how much came before.
     start(words, comes, fail, name = "cool") {
-        const how = { cwd: this.program.sources, stdio: "pipe" }, command = name === "cool" ? this.command : editorOf(this.command);
+        const how = { cwd: this.program.sources, stdio: "pipe" }, command = this.programs[name];
         const child = command === "module" ? spawnModule(words, how, name) : spawn(command, words, how);
         let length = 0;
         this.running.add(child);
@@ -155,4 +131,4 @@ class Cool {
 
 const stepsOf = (lines) => lines.reduce((sum, it) => sum + (it.startsWith("step ") ? Number(it.slice(5)) : 0), 0);
 
-module.exports = { Cool, coolOf };
+module.exports = { Cool, programsFor };

@@ -14,9 +14,9 @@ const FIRST_PART = 1_000_000, PART_GROWS = 4, LEAST_RATE = 1000;
 
 class Debuggee {
     // `client` takes output, what a break has to say, and that the program reads a line that was not given yet: { output, say, askForLine }.
-    constructor(command, program, input, settings, client, sink) {
+    constructor(programs, program, input, settings, client, sink) {
         Object.assign(this, { program, input, client, told: 0, decoder: new StringDecoder("utf8"), isStoppable: false, isSilent: false });
-        this.cool = new Cool(command, program, input, settings, sink);
+        this.cool = new Cool(programs, program, input, settings, sink);
         this.logic = logicWith((...all) => this.debug(...all));
         this.reads = new this.logic.Reads();
     }

@@ -5,7 +5,9 @@ const fs = require("fs");
 const path = require("path");
 const vm = require("vm");
 
-const SCRIPTS = ["bytes.js", "outline.js", "listing.js", "table.js", "moves.js", "objects.js", "stops.js", "backwards.js", "reads.js"];
+const SCRIPTS = [
+    "bytes.js", "lexemes.js", "names.js", "outline.js", "listing.js", "table.js", "moves.js", "objects.js", "stops.js", "backwards.js", "reads.js",
+];
 const NAMES = `(given) => ((debug = given), {
     DATA_START, ERRORS, MoveFailed, NO_BREAKS, Reads, State, attributesAt, attributesOf, backOver, backTo, breakOfLine, described, goOn, hex, into,
     listingOf, out, outlineOf, over, placeAt, readersOf, stackOf, tableOf, textsOf, toFirstLine, wordsIn })`;

@@ -11,6 +11,7 @@ from pathlib import Path
 HERE = Path(__file__).resolve().parent.parent
 EXAMPLES = HERE.parent / "examples"
 WITHIN = 60  # seconds in which the server answers, however busy the machine is
+MODULES = set()  # programs in the place of which the server asks their modules (--modules)
 
 
 class NotTried(Exception):
@@ -24,7 +25,7 @@ def expect(what, told, wanted):
 
 class Client:
     def __init__(self, root, program, *words, log=subprocess.DEVNULL, watches=False, command=(HERE / "cool-lsp",), explain="", completes=None):
-        call = [*command, *(["--cool", program] if program else []), *words]
+        call = [*command, *(["--cool", "module" if program in MODULES else program] if program else []), *words]
         environment = {**os.environ, "COOL": "", "COOL_EXPLAIN": explain, "TMPDIR": str(root)}  # so that nothing is left of a server that is killed
         self.server = subprocess.Popen(call, env=environment, stdin=subprocess.PIPE, stdout=subprocess.PIPE, stderr=log)
         self.told, self.versions, self.numbers, self.inbox, self.came = {}, {}, 0, queue.Queue(), None
@@ -111,7 +112,7 @@ class Client:
     def faults(self, path):
         """(line, kind, words) of each fault told of a file."""
         notes = self.told.get(path.as_uri(), (None, []))[1]
-        return [(n["range"]["start"]["line"] + 1, n["code"], n["message"]) for n in notes if n["severity"] == 1]
+        return [(n["range"]["start"]["line"] + 1, n["code"], said(n)) for n in notes if n["severity"] == 1]
 
     def notes(self, path):
         """What else is told of a file."""
@@ -132,6 +133,11 @@ class Client:
         self.notify("exit", None)
         expect("status", self.server.wait(timeout=WITHIN), 0)
         ended(processes)
+
+
+def said(note):
+    """The words of a fault as `check` has them: what was found, or the name, stands behind them once it is explained."""
+    return re.split(": found |:? `", note["message"])[0]
 
 
 def call_of(process):

@@ -7,12 +7,14 @@ import subprocess
 import xml.etree.ElementTree
 import zipfile
 
-from .client import HERE, NotTried, expect
+from .client import HERE, NotTried, check, expect
 from .debug_client import DebugClient
 from .explanations import FAULT as TOLD
 from .explanations import FAULTY, explained_by
 from .names import editor
 
+GREETED = r'greeted 0 "who? Anx\b \b\r\nhi An\r\nCOOL program successfully executed\r\n"'
+SHOWN = TOLD + ": found Bool, and due is Int"
 FACTS = "- found Bool, and due is Int  To mend it: the value is of the declared class or of one below it.  Tried, as an edit (code action): `1` for `true`."
 MENDED = 'mended:   s : String <- "ä𝒙"; t : Int <- 1;'
 SECONDS = 120
@@ -40,13 +42,13 @@ def said_in(room, words, call, **environment):
 def neovim(room, words):
     call = ["nvim", "--clean", "--headless", *VIM, "FILE", "-c", "luafile %s" % (HERE / "tests" / "neovim.lua")]
     said, version = said_in(room, words, call)
-    expect("Neovim", said, ["2:26-27 " + TOLD, "1 told", *FACTS.split("  "), "definition: 1:7", MENDED, "0 told", "laid out: true",
+    expect("Neovim", said, ["2:26-27 " + SHOWN, "1 told", *FACTS.split("  "), "definition: 1:7", MENDED, "0 told", "laid out: true",
                             "make: 2 E17: " + TOLD, "coolKeyword coolString"])
     said, _ = said_in(room, words, call, COOL="/nowhere/cool", COOL_ONCE="1")
-    expect("no program", said[0], "1:0-0 not checked: /nowhere/cool does not start: No such file or directory")
+    expect("no program", said[0], "1:0-0 not checked: /nowhere/cool does not start: no such file or directory")
     later = "lua vim.lsp.start = function(config) vim.lsp.buf_attach_client(0, vim.lsp.start_client(config)) end"  # as from 0.8 on
     said, _ = said_in(room, words, [*call[:1], "--cmd", later, *call[1:]], COOL_ONCE="1")
-    expect("by vim.lsp.start", said, ["2:26-27 " + TOLD, "1 told"])
+    expect("by vim.lsp.start", said, ["2:26-27 " + SHOWN, "1 told"])
     return version
 
 
@@ -71,7 +73,7 @@ def vim_with_ale(room, words):
         raise NotTried("vim-ale is not installed")
     said, version = said_in(room, words, ["vim", "-Nu", "NONE", "-es", "--cmd", "packadd ale", *VIM, "FILE", "-S", HERE / "tests" / "vim.vim"], COOL_ALE="1")
     # ALE takes the columns of UTF-16 for bytes, and so is at 24 behind these letters, and not at 27.
-    expect("Vim with ALE", said, ["2:24 E17: " + TOLD, "1 told", "0 told", "make: 2 E17: " + TOLD, "coolKeyword coolString"])
+    expect("Vim with ALE", said, ["2:24 E17: " + SHOWN, "1 told", "0 told", "make: 2 E17: " + TOLD, "coolKeyword coolString"])
     return version + " with ALE"
 
 
@@ -81,7 +83,7 @@ def emacs(room, words):
     if shutil.which("emacs") and subprocess.run(eglot, stderr=subprocess.DEVNULL).returncode:
         raise NotTried("eglot is not installed")
     said, version = said_in(room, words, call, COOL_MODE=str(HERE / "emacs" / "cool-mode.el"), COOL_MAKE="'%s' check m.cl" % words.cool)
-    expect("Emacs", said, ["cool-mode", "2:22-23 cool [E17]: " + TOLD, "1 told", MENDED, "0 told", "laid out:   main() : Object { 0 };",
+    expect("Emacs", said, ["cool-mode", "2:22-23 cool [E17]: " + SHOWN, "1 told", MENDED, "0 told", "laid out:   main() : Object { 0 };",
                            "definition: line 1", "outline: (Method Class Field)",
                            "font-lock-keyword-face font-lock-string-face", "next error: m.cl, line 2"])
     return version
@@ -101,11 +103,16 @@ def package(room):
 def vscode_package(room, words):
     """Its manifest, its types and what package.json names, as VS Code asks for them."""
     extension = package(room)
+    subprocess.run([HERE.parent / "install", room / "prefix"], stdout=subprocess.DEVNULL, stderr=subprocess.DEVNULL, check=True)
+    subprocess.run([room / "prefix" / "lib" / "cool" / "editors" / "vscode" / "package", room / "installed.vsix"], check=True)
+    expect("of what is installed", (room / "installed.vsix").read_bytes() == (room / "one.vsix").read_bytes(), True)
     about = json.loads((extension / "package.json").read_text())
     expect("fields", [key for key in ("name", "publisher", "version", "engines", "main") if not about.get(key)], [])
     expect("name", bool(re.fullmatch(r"[a-z0-9][a-z0-9-]*", about["name"]) and re.fullmatch(r"\d+\.\d+\.\d+", about["version"])), True)
     languages, grammars = about["contributes"]["languages"], about["contributes"]["grammars"]
-    named = [about["main"], *(language["configuration"] for language in languages), *(grammar["path"] for grammar in grammars)]
+    named = [about["main"], about["icon"], *(it["path"] for it in about["contributes"]["snippets"]),
+             *(step["media"]["markdown"] for it in about["contributes"]["walkthroughs"] for step in it["steps"]),
+             *(language["configuration"] for language in languages), *(grammar["path"] for grammar in grammars)]
     expect("files", [name for name in named if not (extension / name).is_file()], [])
     for name in extension.glob("*.json"):
         json.loads(name.read_text())
@@ -121,6 +128,31 @@ def vscode_package(room, words):
     expect("types", [str(path) for path in files if path.suffix not in known and "/" + str(path.relative_to(room / "unpacked")) not in known], [])
 
 
+DEEPER = ["class A {", "  f(x : Int) : Int {", "if a then", "if a then 1", "  else", "while a loop {", "while a loop", "case x of", "  f(", "{ {"]
+AS_DEEP = ["x <- 1;", "if a then 1 else 2 fi", "-- then", "class A { };", 'out_string("{");', "f(1, 2);", "case x of y : Int => 1; esac", "of_all <- 1;"]
+LESS_DEEP = ["};", "  } fi", "fi", "else 2", "pool;", "esac", ")"]
+
+
+def vscode_rules(room, words):
+    """What the manifest names is there, the pattern of problems is that of `check`, and lines are indented as cool-format does."""
+    about, rules = (json.loads((HERE / "vscode" / name).read_text()) for name in ("package.json", "language-configuration.json"))
+    more = about["contributes"]
+    there = {it["command"] for it in more["commands"]}
+    named = {it["command"] for its in more["menus"].values() for it in its} | set(re.findall(r"command:(cool\.\w+)", json.dumps(more["walkthroughs"])))
+    source = (HERE / "vscode" / "extension.js").read_text()
+    registered = set(re.findall(r"registerCommand\('([\w.]+)'", source))
+    expect("commands", (sorted(there - registered), sorted(named - there)), ([], []))
+    pattern = more["problemPatterns"][0]
+    said = check(words.cool, [HERE.parent / "examples" / "mistakes.cl"])
+    lines = ["%s:%d: %s: %s" % (path, *fault) for path, faults in said.items() for fault in faults]
+    found = [re.search(pattern["regexp"], line) for line in lines]
+    expect("problems", [(it[pattern["line"]], it[pattern["code"]]) for it in found], [("7", "E1"), ("8", "E18"), ("14", "E6")])
+    more_, less = (re.compile(rules["indentationRules"][name]) for name in ("increaseIndentPattern", "decreaseIndentPattern"))
+    expect("deeper", [line for line in DEEPER if not more_.search(line)], [])
+    expect("as deep", [line for line in AS_DEEP if more_.search(line) or less.search(line)], [])
+    expect("less deep", [line for line in LESS_DEEP if not less.search(line)], [])
+
+
 def vscode_extension(room, words):
     """The extension of the package, with a stand-in of VS Code's interface."""
     if not shutil.which("node"):
@@ -129,12 +161,27 @@ def vscode_extension(room, words):
     call = ["node", HERE / "tests" / "vscode.cjs", package(room), words.cool, room / "m.cl"]
     environment = {**os.environ, "COOL_EXPLAIN": explained_by(room), "COOL_EDITOR": editor()}
     said = subprocess.run(call, timeout=SECONDS, stdout=subprocess.PIPE, check=True, env=environment).stdout.decode().splitlines()
-    expect("VS Code", said, ["1:23-1:24 E17 %s 0" % TOLD, FACTS, "mend `1` for `true` quickfix true 1 1:34-1:38 1", "definition 0:6-0:10",
+    expect("VS Code", said, ["1:23-1:24 E17 %s 0" % SHOWN, FACTS, "mend `1` for `true` quickfix true 1 1:34-1:38 1", "definition 0:6-0:10",
                              "references 0:6-0:10 4:17-4:21", "Main 4 0:0-3:1 s 7 t 7 main 5", "Late 4 4:0-4:24 m 7",
                              "completion Main", "highlights 4:6-4:10 2", "rename 4:6-4:10 Later", "refused: the name of a class",
-                             "debug node editors/cool-dap true", "launch cool launch ${file} true", 'formatting 1:30-1:31 ""',
+                             "debug node editors/cool-dap true", "launch cool launch ${file} true",
+                             "run run run $cool 1 E17", GREETED, "tasks run check 6", 'formatting 1:30-1:31 ""',
                              "signature f(a : Int) : Int a : Int 0", r'form "while ${1:test} loop {\n  $0;\n} pool"', "0 told; 0 problems"])
     return "with a stand-in of its interface, on node " + subprocess.run(["node", "--version"], stdout=subprocess.PIPE).stdout.decode().strip()
+
+
+def vscode_by_modules(room, words):
+    """The extension where there is no program and no Python, as on Windows: all is asked of its modules."""
+    if not shutil.which("node"):
+        raise NotTried("node is not installed")
+    (room / "m.cl").write_text(FAULTY)
+    (room / "bin").mkdir()
+    (room / "bin" / "node").symlink_to(shutil.which("node"))
+    environment = {"PATH": str(room / "bin"), "HOME": str(room), "TMPDIR": str(room)}
+    call = [room / "bin" / "node", HERE / "tests" / "vscode.cjs", package(room), "", room / "m.cl"]
+    said = subprocess.run(call, timeout=SECONDS, stdout=subprocess.PIPE, check=True, env=environment).stdout.decode().splitlines()
+    expect("VS Code", [said[0], said[3], *said[13:15], said[-1]],
+           ["1:23-1:24 E17 %s: found Bool, where Int is due 0" % TOLD, "definition 0:6-0:10", "run run run $cool 1 E17", GREETED, "0 told; 0 problems"])
 
 
 def vscode_debugging(room, words):
@@ -163,4 +210,5 @@ def emacs_debugging(room, words):
     return version + " with dap-mode"
 
 
-TESTS = [neovim, neovim_debugging, vim_make, vim_with_ale, emacs, emacs_debugging, vscode_package, vscode_extension, vscode_debugging]
+TESTS = [neovim, neovim_debugging, vim_make, vim_with_ale, emacs, emacs_debugging, vscode_package, vscode_rules,
+         vscode_extension, vscode_by_modules, vscode_debugging]

@@ -63,14 +63,8 @@ def random_edits_agree_with_check(room, words):
     return "%d edits, %d faults" % (words.edits, compared)
 
 
-SMALL_PIECES = """
-import sys
-sys.dont_write_bytecode = True
-sys.path.insert(0, %r)
-from cool_lsp import pieces, words
-pieces.LEAST_BYTES, pieces.MOST_PIECES = 200, 60
-sys.exit(words.main(sys.argv[1:], ""))
-"""
+SMALL_PIECES = "const { main } = require(%r), { Pieces } = require(%r); main(process.argv.slice(1), '', new Pieces(200, 60));" % tuple(
+    str(HERE / "cool_lsp" / name) for name in ("words.js", "pieces.js"))
 
 
 def pieces_have_the_faults_of_the_file(room, words):
@@ -78,7 +72,7 @@ def pieces_have_the_faults_of_the_file(room, words):
     examples = [(EXAMPLES / (name + ".cl")).read_text() for name in ("bank", "interpreter", "shapes", "tree", "stack", "mistakes")]
     whole = "\n".join([re.sub(r"(?ms)^class Main.*?^};", "", text) for text in examples] + ["class Main {\n  main() : Object { 0 };\n};\n"])
     rnd, path, compared = random.Random(words.seed), room / "one.cl", 0
-    client = Client(room, words.cool, command=("python3", "-c", SMALL_PIECES % str(HERE)))
+    client = Client(room, words.cool, command=("node", "-e", SMALL_PIECES, "--"))
     client.open(path, whole)
     text = whole
     for number in range(words.edits):

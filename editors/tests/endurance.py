@@ -3,10 +3,9 @@ import os
 import shutil
 import signal
 import subprocess
-import sys
 import time
 
-from .client import HERE, WITHIN, Client, ended, expect
+from .client import HERE, WITHIN, Client, ended, expect, said
 
 FAULTY = "class Main { x : Int <- true; main() : Object { 0 }; };\n"
 FAULT = [(1, "E17", "initial value does not conform")]
@@ -32,7 +31,7 @@ def told_by(room, program, *words):
 
 
 def a_program_that_is_none(room, words):
-    expect("missing", told_by(room, "/nowhere/cool"), ["not checked: /nowhere/cool does not start: No such file or directory"])
+    expect("missing", told_by(room, "/nowhere/cool"), ["not checked: /nowhere/cool does not start: no such file or directory"])
     expect("dies", told_by(room, "/bin/false"), ["not checked: cool ended with status 1"])
     expect("dies, and says why", told_by(room, script(room / "dies", "echo no memory >&2; exit 9")), ["not checked: cool ended with status 9: no memory"])
     expect("hangs", told_by(room, script(room / "hangs", "sleep 1000"), "--seconds", "2"), ["not checked: cool did not reply within 2 seconds"])
@@ -46,8 +45,8 @@ def no_program_at_all(room, words):
     """A copy of the server that stands in no repository, with no `cool` on PATH."""
     server = copy_of_the_server(room)
     (room / "bin").mkdir()
-    for tool in ("env", "python3"):
-        (room / "bin" / tool).symlink_to(shutil.which("env") if tool == "env" else os.path.realpath(sys.executable))
+    for tool in ("env", "node"):
+        (room / "bin" / tool).symlink_to(shutil.which(tool))
     opened = b'{"jsonrpc":"2.0","method":"textDocument/didOpen","params":{"textDocument":{"uri":"file:///a.cl","version":1,"text":""}}}'
     pipes = {"stdin": subprocess.PIPE, "stdout": subprocess.PIPE, "stderr": subprocess.DEVNULL}
     server = subprocess.Popen([server], env={"PATH": str(room / "bin")}, **pipes)
@@ -59,12 +58,13 @@ def no_program_at_all(room, words):
     expect("told", "not checked: there is no program `cool`: install it by ./install" in said, True)
     server.stdin.close()
     expect("status", server.wait(timeout=WITHIN), 1)
-    expect("left behind", sorted(path.name for path in (room / "editors").rglob("*.pyc")), [])
 
 
 def copy_of_the_server(room):
     """The command of a copy that stands in no repository."""
-    shutil.copytree(HERE / "cool_lsp", room / "editors" / "cool_lsp")
+    for rooms in ("cool_lsp", "node"):
+        shutil.copytree(HERE / rooms, room / "editors" / rooms)
+    shutil.copytree(HERE.parent / "web" / "logic", room / "web" / "logic")
     shutil.copy(HERE / "cool-lsp", room / "editors")
     return room / "editors" / "cool-lsp"
 
@@ -77,7 +77,7 @@ def the_program_is_found(room, words):
         client = Client(room, None, *words, command=(server,))
         notes = client.open(room / "a.cl", FAULTY)
         client.end()
-        return [found["message"] for found in notes]
+        return [said(found) for found in notes]
 
     (room / "cool").symlink_to(words.cool)
     expect("installed", told(), [FAULT[0][2]])
@@ -98,7 +98,7 @@ def a_session_that_ends(room, words):
         old = client.sessions()
         os.kill(old[0], kind)
         client.change(room / "a.cl", "-- %s\n" % kind + FAULTY)
-        expect("told", client.told[(room / "a.cl").as_uri()][1][0]["message"], FAULT[0][2])
+        expect("told", said(client.told[(room / "a.cl").as_uri()][1][0]), FAULT[0][2])
         expect("another", client.sessions() == old, False)
     os.kill(client.sessions()[0], signal.SIGSTOP)
     client.change(room / "a.cl", FAULTY)
@@ -124,7 +124,7 @@ def an_editor_that_goes(room, words):
     server.stdin.write(b'Content-Length: 37\r\n\r\n{"id": 1, "method": "x", "params": 0}')
     server.stdin.flush()
     expect("status, where the output is closed", server.wait(timeout=WITHIN), 1)
-    expect("log", server.stderr.read(), b"cool-lsp: the editor is gone: [Errno 32] Broken pipe\n")
+    expect("log", server.stderr.read(), b"cool-lsp: the editor is gone: write EPIPE\n")
 
 
 TESTS = [a_program_that_is_none, no_program_at_all, the_program_is_found, a_session_that_ends, an_editor_that_goes]

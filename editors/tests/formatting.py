@@ -1,14 +1,10 @@
 """How files are laid out: by the rules, once and for all, and with nothing else changed, as the programs say."""
+import base64
 import os
 import random
 import re
 import subprocess
 from concurrent.futures import ThreadPoolExecutor
-
-from cool_lsp.diagnostics import MAIN
-from cool_lsp.formatting import Formatter, edited
-from cool_lsp.layout import Texts
-from cool_lsp.marks import Marks
 
 from .client import EXAMPLES, HERE, Client, expect, fill
 
@@ -85,40 +81,56 @@ def assembled(program, folder, data):
     return re.sub(rb"\tli \$t9, \d+\n", b"", came.stdout)
 
 
-def laid_out(program, data):
-    marks = Marks(60)
-    return edited(data, Formatter(program, 60).formatted("p", data, lambda it: marks.of({"p": it}) or marks.of({"p": it, "": MAIN}), "p"))
+class Layout:
+    """What the server's own scripts say of texts, in a process of their own."""
 
+    def __init__(self, program):
+        call = ["node", HERE / "tests" / "layout.cjs"]
+        self.process = subprocess.Popen(call, env={**os.environ, "COOL": program, "COOL_EDITOR": ""}, stdin=subprocess.PIPE, stdout=subprocess.PIPE)
 
-def roughly(data, rnd):
-    """A program with other blanks, line ends and comments between its tokens."""
-    parts = []
-    for token in Texts(data).tokens:
-        parts += [rnd.choice(BETWEEN), token]
-    return b"".join(parts)
+    def asked(self, what, data):
+        self.process.stdin.write(b"%s %s\n" % (what, base64.b64encode(data)))
+        self.process.stdin.flush()
+        line = self.process.stdout.readline()
+        expect("an answer", line[-1:], b"\n")
+        return [base64.b64decode(word) for word in line[:-1].split(b" ")]
+
+    def laid_out(self, data):
+        return self.asked(b"laid", data)[0]
+
+    def roughly(self, data, rnd):
+        """A program with other blanks, line ends and comments between its tokens."""
+        return b"".join(part for token in self.asked(b"tokens", data) for part in (rnd.choice(BETWEEN), token))
+
+    def end(self):
+        self.process.communicate()
 
 
 def programs_are_laid_out(room, words):
     """Each is one of the same code, and is laid out already then; so are the examples and some others with other blanks and comments."""
-    rnd, count, found = random.Random(words.seed), 0, programs(words.cool)
+    rnd, count, found, layout = random.Random(words.seed), 0, programs(words.cool), Layout(words.cool)
     some = rnd.sample([path for path in found if path.parent != EXAMPLES and path.stat().st_size < 20000], 20)
     for path in found:
         data = path.read_bytes()
-        for text in [data, roughly(data, rnd)] if path.parent == EXAMPLES or path in some else [data]:
-            new = laid_out(words.cool, text)
-            expect("%s again" % path, laid_out(words.cool, new) == new, True)
+        for text in [data, layout.roughly(data, rnd)] if path.parent == EXAMPLES or path in some else [data]:
+            new = layout.laid_out(text)
+            expect("%s again" % path, layout.laid_out(new) == new, True)
             expect("the code of %s" % path, assembled(words.cool, room, new) == assembled(words.cool, room, data), True)
             count += 1
+    layout.end()
     return "%d texts" % count
 
 
 def rules_of_layout(room, words):
-    expect("laid out", laid_out(words.cool, ROUGH.encode()).decode(), SMOOTH)
-    expect("with Windows line ends", laid_out(words.cool, ROUGH.encode().replace(b"\n", b"\r\n")), SMOOTH.encode().replace(b"\n", b"\r\n"))
-    expect("a class that others need", laid_out(words.cool, b"class A inherits B{a:C;};\n"), b"class A inherits B { a : C; };\n")
-    expect("nothing", laid_out(words.cool, b" \n\n"), b"")
+    layout = Layout(words.cool)
+    laid_out = layout.laid_out
+    expect("laid out", laid_out(ROUGH.encode()).decode(), SMOOTH)
+    expect("with Windows line ends", laid_out(ROUGH.encode().replace(b"\n", b"\r\n")), SMOOTH.encode().replace(b"\n", b"\r\n"))
+    expect("a class that others need", laid_out(b"class A inherits B{a:C;};\n"), b"class A inherits B { a : C; };\n")
+    expect("nothing", laid_out(b" \n\n"), b"")
     for path in EXAMPLES.glob("*.cl"):
-        expect("an example", (path.name, laid_out(words.cool, path.read_bytes()) == path.read_bytes()), (path.name, True))
+        expect("an example", (path.name, laid_out(path.read_bytes()) == path.read_bytes()), (path.name, True))
+    layout.end()
 
 
 def what_is_not_laid_out(room, words):
@@ -168,7 +180,7 @@ def words_of_cool_format(room, words):
     expect("in its place", there, ("class A { };\n", 0o640, True))
     expect("and nothing else", sorted(path.name for path in at.iterdir()), ["link.cl", "rough.cl", "smooth.cl"])
     expect("other words", [call(words.cool, *it)[0] for it in (["--write"], ["-x"], ["a", "b"])], [2, 2, 2])
-    expect("a missing file", call(words.cool, "--check", "none.cl", cwd=at), (1, "", "cool-format: none.cl: No such file or directory\n"))
+    expect("a missing file", call(words.cool, "--check", "none.cl", cwd=at), (1, "", "cool-format: none.cl: no such file or directory\n"))
 
 
 def edits_of_an_editor(room, words):

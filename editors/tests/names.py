@@ -16,7 +16,7 @@ class Main inherits IO {
 
 def editor():
     """The program that tells marks, or that it is not there."""
-    words = ["python3", "-Bc", "from cool_lsp.marks import Marks; print(Marks(60).find() or '')"]
+    words = ["node", "-e", "new (require('./cool_lsp/marks.js').Marks)(undefined, 60).find().then((it) => console.log(it ?? ''))"]
     found = subprocess.run(words, cwd=HERE, stdout=subprocess.PIPE).stdout.decode().strip()
     if not found:
         raise NotTried("no program cool_editor is built")

@@ -1,6 +1,7 @@
 // Runs the extension of VS Code without VS Code: node vscode.cjs EXTENSION PROGRAM FILE writes what it shows of the file, and of it after an edit.
 const Module = require('module');
 const fs = require('fs');
+const path = require('path');
 const { pathToFileURL } = require('url');
 const [extension, program, file] = process.argv.slice(2);
 
@@ -8,18 +9,21 @@ const providers = {}, handlers = {}, problems = [];
 const disposable = { dispose() {} };
 const on = (name) => (handler) => ((handlers[name] = handler), disposable);
 const document = {
-  uri: { toString: () => pathToFileURL(file).href }, languageId: 'cool', version: 1, text: fs.readFileSync(file, 'utf8'),
+  uri: { toString: () => pathToFileURL(file).href, fsPath: file }, languageId: 'cool', version: 1, text: fs.readFileSync(file, 'utf8'),
   getText() { return this.text; },
 };
 let told;
+class EventEmitter { constructor() { this.event = (hear) => ((this.hear = hear), disposable); } fire(it) { this.hear(it); } }
 class Value { constructor(...parts) { Object.assign(this, parts); } }
 const provider = (kind) => (_, given) => ((providers[kind] = Object.values(given)[0]), disposable);
 const stub = {
-  Range: Value, Location: Value, DiagnosticRelatedInformation: Value, Hover: Value, MarkdownString: Value,
+  EventEmitter, Range: Value, Location: Value, DiagnosticRelatedInformation: Value, Hover: Value, MarkdownString: Value,
   Diagnostic: class extends Value { get message() { return this[1]; } },
   DocumentSymbol: Value, CompletionItem: Value, SnippetString: Value, DocumentHighlight: Value, CodeAction: Value,
   SignatureHelp: Value, SignatureInformation: Value, ParameterInformation: Value, TextEdit: { replace: (...edit) => edit },
-  CodeActionKind: { QuickFix: 'quickfix' }, DebugAdapterExecutable: Value,
+  CodeActionKind: { QuickFix: 'quickfix' }, DebugAdapterExecutable: Value, CustomExecution: Value, Task: Value, TaskScope: { Workspace: 2 },
+  tasks: { registerTaskProvider: (type, provider) => ((providers.tasks = provider), disposable), executeTask: (task) => task },
+  commands: { registerCommand: (name, act) => ((providers[name] = act), disposable) },
   debug: {
     registerDebugAdapterDescriptorFactory: (type, factory) => ((providers.adapter = factory), disposable),
     registerDebugConfigurationProvider: (type, provider) => ((providers.launches = provider), disposable),
@@ -36,11 +40,13 @@ const stub = {
     registerDocumentFormattingEditProvider: provider('formatting'),
   },
   window: {
-    activeTextEditor: { document }, createOutputChannel: () => ({ append: (text) => problems.push(text), dispose() {} }),
+    activeTextEditor: { document }, showTextDocument: (shown) => shown.content.split('\n').length,
+    createOutputChannel: () => ({ append: (text) => problems.push(text), dispose() {} }),
     showErrorMessage: (text) => problems.push(text),
   },
   workspace: {
-    textDocuments: [document], workspaceFolders: undefined,
+    openTextDocument: (made) => made, textDocuments: [document],
+    workspaceFolders: undefined,
     getConfiguration: () => ({ get: () => program }),
     createFileSystemWatcher: () => ({ onDidChange: on('a'), onDidCreate: on('b'), onDidDelete: on('c'), dispose() {} }),
     onDidOpenTextDocument: on('open'), onDidChangeTextDocument: on('change'), onDidCloseTextDocument: on('close'),
@@ -50,6 +56,17 @@ const load = Module._load;
 Module._load = (name, ...rest) => (name === 'vscode' ? stub : load(name, ...rest));
 
 const next = (act) => new Promise((answer) => ((told = answer), act()));
+const GREETING = 'class Main inherits IO { main() : Object { { out_string("who? "); out_string("hi ".concat(in_string()).concat("\\n")); } }; };\n';
+
+// What a task writes in its terminal, into which this is typed, and its status.
+async function terminal(task, typed) {
+  const shown = await task[4][0](), said = [];
+  shown.onDidWrite((text) => (said.push(text), text.includes('?') && shown.handleInput(typed)));
+  const status = new Promise((answer) => shown.onDidClose(answer));
+  shown.open();
+  return { status: await status, said: said.join('') };
+}
+
 const span = (r) => `${r[0]}:${r[1]}-${r[2]}:${r[3]}`;
 
 (async () => {
@@ -70,9 +87,15 @@ const span = (r) => `${r[0]}:${r[1]}-${r[2]}:${r[3]}`;
   console.log('rename', ...renamed.edits.map((e) => `${span(e[1])} ${e[2]}`));
   await providers.rename(document, { line: 4, character: 8 }, 'later').catch((error) => console.log('refused:', error.message.slice(0, 19)));
   const [command, words] = Object.values(providers.adapter.createDebugAdapterDescriptor());
-  console.log('debug', command, require('path').relative(extension, words[0]), fs.existsSync(words[0]));
+  console.log('debug', command, path.relative(extension, words[0]), fs.existsSync(words[0]));
   const launch = providers.launches.resolveDebugConfiguration(undefined, {});
   console.log('launch', launch.type, launch.request, launch.program, launch.cool === program);
+  const run = await providers['cool.run'](), ran = await terminal(run, '');
+  console.log('run', run[0].task, run[2], run[5], ran.status, ran.said.split(': ').slice(-2)[0]);
+  fs.writeFileSync(file, GREETING);
+  const greeted = await terminal(providers.tasks.resolveTask({ definition: { type: 'cool', task: 'run' } }), 'Anx\x7f\r');
+  console.log('greeted', greeted.status, JSON.stringify(greeted.said));
+  console.log('tasks', ...providers.tasks.provideTasks().map((it) => it[0].task), await providers['cool.first']());
   document.version = 2;
   document.text = document.text.replace(' <- true', ' ');
   found = await next(() => handlers.change({ document }));

@@ -1,14 +1,22 @@
-// Starts cool-lsp for files of Cool, and shows what it tells and answers; and has VS Code debug them by cool-dap. It uses VS Code's own interface and no
-// package beside it.
+// Starts cool-lsp for files of Cool, and shows what it tells and answers; runs them in a terminal, and has VS Code debug them by cool-dap. It uses VS Code's
+// own interface and node, and no package beside it.
 const vscode = require('vscode');
 const { spawn } = require('child_process');
 const fs = require('fs');
 const path = require('path');
+const { StringDecoder } = require('string_decoder');
 
 // In a package the server stands in it; in a repository, or where it is installed, beside it.
 const EDITORS = [path.join(__dirname, 'editors'), path.join(fs.realpathSync(__dirname), '..')].find((it) => fs.existsSync(path.join(it, 'cool-lsp')));
 const SERVER = path.join(EDITORS, 'cool-lsp');
 const COOL = { language: 'cool' };
+const { find } = require(path.join(EDITORS, 'node', 'program.js'));
+const { programsOf } = require(path.join(EDITORS, 'node', 'programs.js'));
+// That a program may take to be found.
+const MOST_SECONDS = 10;
+// VS Code's own program is node where the environment says so.
+const AS_NODE = { ELECTRON_RUN_AS_NODE: '1' };
+const program = () => vscode.workspace.getConfiguration('cool').get('program');
 let server, faults, log, rest, number, waiting;
 
 // Messages
@@ -153,12 +161,11 @@ function providers() {
 
 function start() {
   [rest, number, waiting] = [Buffer.alloc(0), 0, new Map()];
-  const program = vscode.workspace.getConfiguration('cool').get('program');
-  const started = (server = spawn('python3', [SERVER, ...(program ? ['--cool', program] : [])]));
+  const started = (server = spawn(process.execPath, [SERVER, ...(program() ? ['--cool', program()] : [])], { env: { ...process.env, ...AS_NODE } }));
   started.stdout.on('data', read);
   started.stderr.on('data', (data) => log.append(data.toString()));
   started.stdin.on('error', () => {});
-  started.on('error', (error) => vscode.window.showErrorMessage(`Cool: python3 does not start: ${error.message}`));
+  started.on('error', (error) => vscode.window.showErrorMessage(`Cool: cool-lsp does not start: ${error.message}`));
   started.on('close', () => {
     if (server !== started) return;
     server = undefined; // the next file that is opened starts it again
@@ -188,10 +195,85 @@ const launches = {
     const shown = vscode.window.activeTextEditor && vscode.window.activeTextEditor.document;
     const isShown = !given.type && shown && shown.languageId === 'cool';
     const made = isShown ? { type: 'cool', request: 'launch', name: 'Cool', program: '${file}', stopOnEntry: true } : given;
-    const cool = vscode.workspace.getConfiguration('cool').get('program');
-    return made.type && cool && !made.cool ? { ...made, cool } : made;
+    return made.type && program() && !made.cool ? { ...made, cool: program() } : made;
   },
 };
+
+// Runs, in a terminal: by tasks, of which the buttons above a text begin one.
+
+// A terminal in which a program runs, which reads what is typed line by line.
+class Run {
+  constructor(what, file) {
+    [this.what, this.file, this.line] = [what, file, ''];
+    const [written, closed] = [new vscode.EventEmitter(), new vscode.EventEmitter()];
+    Object.assign(this, { written, closed, onDidWrite: written.event, onDidClose: closed.event });
+  }
+
+  async open() {
+    const cwd = path.dirname(this.file), words = [this.what, ...programsOf(this.file)[0].map((it) => path.relative(cwd, it))];
+    const command = await find('cool', program(), MOST_SECONDS).catch((error) => this.end(1, `${error.message}\n`));
+    if (!command) return;
+    const [own, env] = [[path.join(__dirname, 'run.js'), ...words], { ...process.env, ...AS_NODE }];
+    this.child = command === 'module' ? spawn(process.execPath, own, { cwd, env }) : spawn(command, [words[0], '--', ...words.slice(1)], { cwd });
+    for (const source of [this.child.stdout, this.child.stderr]) {
+      const decoder = new StringDecoder('utf8');
+      source.on('data', (bytes) => this.write(decoder.write(bytes)));
+    }
+    this.child.stdin.on('error', () => {});
+    this.child.on('error', (error) => this.end(1, `${error.message}\n`));
+    this.child.on('close', (status) => this.end(status === null ? 1 : status, ''));
+  }
+
+  write(text) {
+    this.written.fire(text.replace(/\n/g, '\r\n'));
+  }
+
+  end(status, words) {
+    this.write(words);
+    this.closed.fire(status);
+  }
+
+  close() {
+    if (this.child) this.child.kill('SIGKILL');
+  }
+
+  handleInput(typed) {
+    for (const it of typed.replace(/\r\n?/g, '\n')) {
+      if (it === '\x03') this.close();
+      else if (it === '\x04') this.child && this.child.stdin.end();
+      else if (it === '\x7f') this.line !== '' && ((this.line = [...this.line].slice(0, -1).join('')), this.write('\b \b'));
+      else if (it === '\n' || it >= ' ') this.write(it), (this.line += it);
+      if (it === '\n' && this.child) this.child.stdin.write(this.line), (this.line = '');
+    }
+  }
+}
+
+const shownFile = () => (vscode.window.activeTextEditor ? vscode.window.activeTextEditor.document.uri.fsPath : '');
+
+function task({ task: what, file, ...more }) {
+  const execution = new vscode.CustomExecution(async () => new Run(what, file && file !== '${file}' ? file : shownFile()));
+  return new vscode.Task({ type: 'cool', task: what, ...(file && { file }), ...more }, vscode.TaskScope.Workspace, what, 'cool', execution, '$cool');
+}
+
+const tasks = {
+  provideTasks: () => ['run', 'check'].map((what) => task({ task: what })),
+  resolveTask: (given) => task(given.definition),
+};
+
+// Does something with the file that is shown, once it is stored.
+const begin = (what) => async () => {
+  const shown = vscode.window.activeTextEditor && vscode.window.activeTextEditor.document;
+  if (!shown || shown.languageId !== 'cool') return vscode.window.showInformationMessage('Cool: open a file of Cool, with the ending .cl, to run it.');
+  if ((shown.isUntitled || shown.isDirty) && !(await shown.save())) return undefined;
+  const { document } = vscode.window.activeTextEditor;
+  return vscode.tasks.executeTask(task({ task: what, file: document.uri.fsPath }));
+};
+
+const FIRST = 'class Main inherits IO {\n  main() : Object {\n    out_string("Hello\\n")\n  };\n};\n';
+
+async function first() {
+  return vscode.window.showTextDocument(await vscode.workspace.openTextDocument({ language: 'cool', content: FIRST }));
+}
 
 function activate(context) {
   faults = vscode.languages.createDiagnosticCollection('cool');
@@ -206,6 +288,8 @@ function activate(context) {
   context.subscriptions.push(
     faults, log, files, files.onDidChange(moved), files.onDidCreate(moved), files.onDidDelete(moved), ...providers(),
     vscode.debug.registerDebugAdapterDescriptorFactory('cool', adapter), vscode.debug.registerDebugConfigurationProvider('cool', launches),
+    vscode.tasks.registerTaskProvider('cool', tasks), vscode.commands.registerCommand('cool.run', begin('run')),
+    vscode.commands.registerCommand('cool.check', begin('check')), vscode.commands.registerCommand('cool.first', first),
     vscode.workspace.onDidOpenTextDocument(opened),
     vscode.workspace.onDidChangeTextDocument((event) => change(event.document)),
     vscode.workspace.onDidCloseTextDocument(about('textDocument/didClose')));

@@ -86,6 +86,7 @@ async function run() {
     choose("console");
     at("views").scrollIntoView({ block: "nearest" });
     clearConsole();
+    at("output").dataset.begun = "";
     typedLines = "";
     busy(true);
     tell("running…");
@@ -122,7 +123,7 @@ function give(line) {
     program.give(line === null ? null : encode(line));
 }
 
-whenever("opened", () => (program.stop(), clearConsole()));
+whenever("opened", () => (program.stop(), clearConsole(), delete at("output").dataset.begun));
 at("run").onclick = run;
 at("stop").onclick = () => program.stop();
 at("ask").onsubmit = (event) => {

@@ -1,18 +1,7 @@
-// What `cool_explain --lines` says of the files, read: its faults and notices with their places in the letters of the page (docs/explain.md).
+// What `cool_explain --lines` says of the files, with places in the letters of the page.
 "use strict";
 
-// In words and texts of a line a newline is \n, and a backslash \\.
-const plainWords = (words) => words.replace(/\\([n\\])/g, (_, it) => (it === "n" ? "\n" : "\\"));
-
-// The two parts of a line around its first blank.
-function parted(line) {
-    const blank = line.indexOf(" ");
-    return blank < 0 ? [line, ""] : [line.slice(0, blank), line.slice(blank + 1)];
-}
-
-class ExplanationReader {
-    found = { faults: [], notices: [] };
-
+class ExplanationPlaces {
     constructor(files) {
         this.names = files.map((it) => it.name);
         this.bytes = files.map((it) => encode(it.text));
@@ -21,57 +10,25 @@ class ExplanationReader {
 
     // The file, line and column of a byte.
     place(file, at) {
-        const before = this.decoder.decode(this.bytes[file].subarray(0, Number(at)));
+        const before = this.decoder.decode(this.bytes[file].subarray(0, at));
         return { file: this.names[file], line: before.split("\n").length, column: before.length - before.lastIndexOf("\n") - 1 };
     }
 
-    get last() {
-        return this.found.faults.at(-1);
+    range({ file, start, end }) {
+        return { from: this.place(file, start), to: this.place(file, end) };
     }
 
-    fault(rest) {
-        const [place, all] = parted(rest);
-        const [file, line, start, end] = place.split(":");
-        this.found.faults.push({ line: Number(line), words: plainWords(all), from: this.place(file, start), to: this.place(file, end), facts: [] });
-    }
-
-    fact(rest) {
-        this.last.facts.push(plainWords(rest));
-    }
-
-    other(rest) {
-        const [file, , at] = rest.split(":");
-        this.last.other = this.place(file, at);
-    }
-
-    cure(rest) {
-        this.last.cure = plainWords(rest);
-    }
-
-    mend(rest) {
-        this.last.mend = { words: plainWords(rest) };
-    }
-
-    edit(rest) {
-        const [place, text] = parted(rest);
-        const [file, start, end] = place.split(":");
-        Object.assign(this.last.mend, { from: this.place(file, start), to: this.place(file, end), text: plainWords(text) });
-    }
-
-    notice(rest) {
-        const [place, all] = parted(rest);
-        const [file, , start, end] = place.split(":");
-        this.found.notices.push({ words: plainWords(all), from: this.place(file, start), to: this.place(file, end) });
+    fault(fault) {
+        const found = { line: fault.line, words: `${fault.kind}: ${fault.words}`, ...this.range(fault), facts: fault.facts, cure: fault.cure };
+        if (fault.other) found.other = this.place(fault.other.file, fault.other.at);
+        if (fault.mend) found.mend = { words: fault.mend.words, ...this.range(fault.mend), text: fault.mend.text };
+        return found;
     }
 }
 
 // { faults, notices } of the lines about these files; it throws where they are of no form that is known. A fault has { line, words, from, to, facts }, and may
 // have { other, cure, mend: { words, from, to, text } }.
 function explanationOf(files, lines) {
-    const reader = new ExplanationReader(files);
-    for (const line of lines.split("\n").slice(0, -1)) {
-        const [head, rest] = parted(line);
-        reader[head](rest);
-    }
-    return reader.found;
+    const { faults, notices } = explanationLines(lines), places = new ExplanationPlaces(files);
+    return { faults: faults.map((it) => places.fault(it)), notices: notices.map((it) => ({ words: it.words, ...places.range(it) })) };
 }

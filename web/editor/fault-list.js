@@ -1,6 +1,8 @@
 // The list of errors and warnings below the editor, with the explanation of each.
 "use strict";
 
+const MOST_CHANGED = 8;
+
 // Words with what stands between ` as code.
 const spoken = (words) => words.split("`").map((part, i) => (i % 2 === 1 ? element("code", {}, part) : part));
 
@@ -14,9 +16,18 @@ function detailsOf({ facts, other, cure, mend }, i) {
     if (mend) {
         const title = `${mendedLines(mend)}\n\nCtrl+Z takes it back`;
         const fix = { className: "fix", disabled: !explanation, title, onclick: () => putMend(i) };
-        items.push(element("button", fix, "Mend: ", ...spoken(mend.words)));
+        items.push(element("button", fix, "Mend: ", ...spoken(mend.words)), changedLines(mend));
     }
     return items;
+}
+
+// The lines that an edit changes, as they are and as they become.
+function changedLines(mend) {
+    const before = linesOf(fileNamed(mend.from.file)?.text ?? "").slice(mend.from.line - 1, mend.to.line), after = mendedLines(mend).split("\n");
+    const rows = (lines, sign, className) => lines.map((it, i) => element("span", { className }, `${mend.from.line + i} ${sign} ${it}\n`));
+    const all = [...rows(before, "-", "gone"), ...rows(after, "+", "come")];
+    const rest = all.length > MOST_CHANGED ? [`${all.length - MOST_CHANGED} more lines\n`] : [];
+    return element("pre", { className: "changes" }, files.length > 1 ? `${mend.from.file}\n` : "", ...all.slice(0, MOST_CHANGED), ...rest);
 }
 
 // Puts the edit that mends fault i into its file, as if it was typed.

@@ -39,11 +39,13 @@ async function programOfLink() {
 async function makeLink() {
     const link = await linkOf(programText());
     history.replaceState(null, "", link);
+    // Where the page is a file the link begins with its name on this machine.
+    const where = location.protocol === "file:" ? ": it opens on this machine alone, since the page is a file here" : "";
     try {
         await navigator.clipboard.writeText(link);
-        tell(`link copied (${link.length.toLocaleString("en")} letters)`);
+        tell(`link copied (${link.length.toLocaleString("en")} letters)${where}`);
     } catch {
-        tell("the page's address is the link: copy it from there");
+        tell(`the page's address is the link, copy it from there${where}`);
     }
 }
 

@@ -67,7 +67,7 @@ function showMachine() {
 }
 
 whenever("chosen", (view) => void (view === "machine" && showMachine()));
-whenever("failed", () => at("end").append(element("button", { onclick: lookInMachine }, "Look in the machine")));
+whenever("failed", () => at("end").append(element("button", { onclick: lookInMachine }, "Look in the debugger")));
 whenever("moved", slide);
 at("restart").onclick = () => void restart();
 at("previous").onclick = () => move(() => ({ steps: machine.earlier.pop() ?? 0, returns: true }));

@@ -85,6 +85,7 @@ def link(page):
     page.start(("a.cl", HELLO), ("é.cl", "-- ü\nclass B { };\n"), input="one\n")
     page.click("link")
     fragment = page.wait("location.hash")
+    page.wait("location.protocol !== 'file:' || at('state').textContent.includes('it opens on this machine alone')")
     page.run("localStorage.clear();")
     page.open(fragment=fragment)
     same(page.run("return [files.map((it) => [it.name, it.text]), at('input').value];"),

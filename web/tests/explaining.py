@@ -55,6 +55,10 @@ def underlined(page):
     return page.run(found)
 
 
+OLD = PROGRAM.split("\n")[1]
+CHANGES = "2 - %s\n2 + %s\n3 + %s\n" % (OLD, *OLD.replace("true", "1 +\n2").split("\n"))
+
+
 @test("shows what explains a fault, marks its range, and puts in the edit that mends it; Ctrl+Z takes it back")
 def explained(page):
     stand_in(page, LINES, ("p.cl", PROGRAM))
@@ -62,7 +66,7 @@ def explained(page):
     same(underlined(page), [[it.strip() for it in PROGRAM.split("\n")[1:3]], []])
     page.wait("explanation !== undefined")
     same(details(page, 0), [["fact", "found Bool, and due is Int"], ["other", "defined at line 3, too"], ["cure", f"To mend it: {CURE}"],
-                            ["fix", "Mend: 1 in the place of true"]])
+                            ["fix", "Mend: 1 in the place of true"], ["changes", CHANGES]])
     same(page.run("return at('faults').querySelector('.fix').title.split('\\n\\n');"),
          [PROGRAM.split("\n")[1].replace("true", "1 +\n2"), "Ctrl+Z takes it back"])
     same(underlined(page), [["n", "m"], []])

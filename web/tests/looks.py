@@ -36,6 +36,9 @@ def dark(page):
 def pictures(page, folder):
     """The views in light and dark, and on a phone."""
     folder.mkdir(parents=True, exist_ok=True)
+    page.open()
+    page.browser.size(1280, 800)
+    page.browser.picture(folder / "first.png")
     page.start(("average.cl", example("average.cl")))
     page.click("run")
     page.ended()
@@ -54,6 +57,8 @@ def pictures(page, folder):
         page.run("await new Promise((shown) => setTimeout(shown, 200));")
         page.browser.picture(folder / f"{name}.png")
     page.browser.size(1280, 800)
+    page.run("at('inside').open = true; at('machine').scrollTo(0, 400); await new Promise((shown) => setTimeout(shown, 200));")
+    page.browser.picture(folder / "machine-open.png")
     page.click("tab-assembly")
     page.wait("at('lines').textContent.length > 1000")
     page.browser.picture(folder / "assembly.png")

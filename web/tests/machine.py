@@ -30,6 +30,17 @@ def sample(page):
     debugs(page, ("average.cl", example("average.cl")))
 
 
+@test("folds the machine until it is asked for, and says by the field's words how to move")
+def folded(page):
+    sample(page)
+    same(page.run("return [at('inside').open, at('registers').checkVisibility(), at('frames').checkVisibility()];"), [False, False, True])
+    same(page.run("return [...at('go-on').parentNode.children].map((it) => it.textContent);"),
+         ["Continue", "Step over", "Step into", "Step out", "Step back", "Undo", "Restart"])
+    page.run("at('inside').firstElementChild.click();")
+    same(page.run("return [at('inside').open, at('registers').checkVisibility()];"), [True, True])
+    page.run("at('inside').open = false;")
+
+
 @test("stops at a label, with the registers and objects that docs/debugger.md tells")
 def label(page):
     sample(page)
@@ -293,7 +304,7 @@ def from_error(page):
     page.start(("average.cl", example("average.cl")))
     page.click("run")
     page.ended()
-    page.run("[...at('end').querySelectorAll('button')].find((it) => it.textContent === 'Look in the machine').click();")
+    page.run("[...at('end').querySelectorAll('button')].find((it) => it.textContent === 'Look in the debugger').click();")
     page.wait("!machine.moves && machine.state?.steps === 370")
     same(page.text("where"), "Ends by an error: division by zero, line 14 of average.cl, after 370 instructions.")
     same(page.run("return at('said').hidden;"), True)

@@ -71,7 +71,7 @@ def names(page):
 @test("goes by keyboard: each control is reached, and tabs by the arrow keys")
 def keyboard(page):
     page.open()
-    page.run("at('options').open = true; choose('machine');")
+    page.run("at('options').open = at('inside').open = true; choose('machine');")
     page.moved()
     page.run("at('run').focus();")
     reached = {"run"}

@@ -14,6 +14,7 @@ else -- before 0.8
   end
   vim.lsp.buf_attach_client(0, client)
   vim.bo.tagfunc = 'v:lua.vim.lsp.tagfunc'
+  vim.bo.omnifunc = 'v:lua.vim.lsp.omnifunc'
 end
 -- Later ones have these keys by themselves.
 if vim.fn.has('nvim-0.10') == 0 then

@@ -1,0 +1,107 @@
+// Answers about an error or a file: only what is right for every program, without another parser than the program's own.
+"use strict";
+const { toPath } = require("../node/files.js");
+const { bare } = require("../../web/logic/lexemes.js");
+const { outline } = require("../../web/logic/names.js");
+const { ERROR, isUnchecked } = require("./diagnostics.js");
+const { Text } = require("./ranges.js");
+
+// Of symbols in the protocol.
+const KINDS = { class: 5, method: 6, attribute: 8 };
+const QUICKFIX = "quickfix";
+
+// The path of the file that a request is about.
+const pathIn = (params) => toPath(params.textDocument.uri);
+
+// Of the files as they were looked at last, and of what was told of them.
+class Answers {
+    constructor(files, programs, checker, told) {
+        Object.assign(this, { files, programs, checker, told });
+    }
+
+    // What was told of a file.
+    notes(file) {
+        return this.told.get(this.files.uri(file))?.notes ?? [];
+    }
+
+    // Whether what is asked is about a fault whose explanation is still to come.
+    waits(params) {
+        const file = pathIn(params), range = params.range ?? { start: params.position, end: params.position };
+        return this.checker.waits(file) && this.notes(file).some((it) => it.severity === ERROR && meets(it.range, range));
+    }
+
+    // Of a fault: what is known of it, and what mends it.
+    hover(params) {
+        const range = { start: position(params.position), end: params.position };
+        const found = this.checker.explained(pathIn(params)).find(([, it]) => meets(it.range, range));
+        return found && { contents: { kind: "markdown", value: told(found[0]) }, range: found[1].range };
+    }
+
+    // A promise of the edits that mend the faults of a range, and those that the editor names.
+    async actions(params) {
+        const { only, diagnostics } = params.context ?? {}, { range } = params, file = pathIn(params);
+        position(range.start), position(range.end);
+        if (!(only?.length ? only : [QUICKFIX]).some((it) => it === "" || it === QUICKFIX)) return [];
+        const named = (Array.isArray(diagnostics) ? diagnostics : []).map((it) => [JSON.stringify(it.range), it.code]);
+        const isDue = ([, it]) => meets(it.range, range) || named.some(([at, code]) => at === JSON.stringify(it.range) && code === it.code);
+        const mends = this.checker.explained(file).filter(isDue).filter(([it]) => it.mend?.path).map(([fault, it]) => this.action(fault.mend, it));
+        for (const [fix, it] of this.checker.explained(file, "noticed").filter(isDue)) if (await this.isGood(fix)) mends.push(this.action(fix, it));
+        return mends;
+    }
+
+    // Whether the program with an edit is one without faults.
+    async isGood({ path, start, end, text, run }) {
+        const data = run.files.get(path);
+        const said = await this.checker.explainer.tried(new Map([...run.files, [path, data.slice(0, start) + text + data.slice(end)]]));
+        return said?.faults.length === 0;
+    }
+
+    action({ path, start, end, text, words }, note) {
+        const edit = { range: new Text(this.files.data(path)).range(start, end), newText: text };
+        const changes = { changes: { [this.files.uri(path)]: [edit] } };
+        return { title: words, kind: QUICKFIX, diagnostics: [note], isPreferred: true, edit: changes };
+    }
+
+    // The classes and features of a file that parses; of another file those of the classes before its fault. Nothing where it isn't known whether the file
+    // parses: where it was not checked, or another file has a fault of lexemes, which hides those of syntax.
+    symbols(params) {
+        const file = pathIn(params), notes = this.notes(file);
+        const others = new Set(this.programs.of(file).flat().filter((it) => it !== file));
+        if (notes.some(isUnchecked) || [...others].some((it) => this.notes(it).some((one) => kindOf(one) === "L"))) return [];
+        const text = new Text(this.files.open.get(file).data);
+        let classes = outline(bare(text.data)[0]);
+        for (const fault of notes.filter((it) => "LS".includes(kindOf(it) || " "))) {
+            const end = text.place(fault.range.start);
+            classes = classes.filter((it) => it.at < it.end && it.end <= end);
+        }
+        return classes.map((it) => symbol(text, it));
+    }
+}
+
+// An explained fault as a person reads it.
+function told({ kind, words, facts, cure, mend }) {
+    const parts = [`**${kind}: ${words}**`, facts.map((it) => `- ${it}`).join("\n"), cure ? `To mend it: ${cure}.` : ""];
+    parts.push(mend ? `Tried, as an edit (code action): ${mend.words}.` : "");
+    return parts.filter(Boolean).join("\n\n");
+}
+
+// The letter of a fault's kind, or nothing.
+const kindOf = (note) => (note.code ?? "")[0] ?? "";
+
+// A position, which has numbers.
+function position(it) {
+    if (!Number.isFinite(it.line) || !Number.isFinite(it.character)) throw new TypeError("a position has numbers");
+    return it;
+}
+
+const isUpTo = (one, other) => one.line < other.line || (one.line === other.line && one.character <= other.character);
+
+// Whether a range has a place of another, or ends at it.
+const meets = (range, other) => isUpTo(range.start, other.end) && isUpTo(other.start, range.end);
+
+function symbol(text, { name, kind, start, end, at, parts }) {
+    const places = { range: text.range(start, end), selectionRange: text.range(at, at + name.length) };
+    return { name, kind: KINDS[kind], ...places, children: parts.map((it) => symbol(text, it)) };
+}
+
+module.exports = { Answers, QUICKFIX, pathIn, position };

@@ -1,0 +1,16 @@
+// Runs or checks files by the module of `cool`, as the program does where there is one: run.js run|check FILES. The status is that of the module.
+'use strict';
+const path = require('path');
+const fs = require('fs');
+
+// In a package the scripts stand in it; in a repository, or where it is installed, beside it.
+const EDITORS = [path.join(__dirname, 'editors'), path.join(__dirname, '..')].find((it) => fs.existsSync(path.join(it, 'cool-lsp')));
+const { spawnModule } = require(path.join(EDITORS, 'node', 'module.js'));
+
+const [what, ...files] = process.argv.slice(2);
+const run = spawnModule([what, '--', ...files], { cwd: process.cwd() }, 'cool');
+run.stdout.on('data', (bytes) => process.stdout.write(bytes));
+run.stderr.on('data', (bytes) => process.stderr.write(bytes));
+process.stdin.on('data', (bytes) => run.stdin.write(bytes)).on('end', () => run.stdin.end());
+run.on('error', (error) => (console.error(`cool: ${error.message}`), process.exit(1)));
+run.on('close', (status) => process.stdout.write('', () => process.exit(status ?? 1)));
