@@ -1,12 +1,12 @@
-"""The order in which the page loads its scripts: finds scripts that use a name of a later one. Read by `tidy`, by forms alone.
+"""The order in which the pages load their scripts: finds scripts that use a name of a later one. Read by `tidy`, by forms alone.
 
-All scripts of the page are plain ones, whose names are those of the whole page. A name that a script also binds within, as a parameter does, is not looked for.
+All scripts of a page are plain ones, whose names are those of the whole page. A name that a script also binds within, as a parameter does, is not looked for.
 """
 import re
 
-from sources import read
+from sources import ROOT, read
 
-MADE = re.compile(r"(?:\w+-)?module\.js|examples\.js|help\.js")
+MADE = re.compile(r"(?:\w+-)?module\.js|examples\.js|help\.js|rules\.js")
 # What is no code: comments, strings and regular expressions; of a template what stands in braces is.
 QUOTED = re.compile(r'(?m)^ *//.*$|"(?:[^"\\\n]|\\.)*"|/(?![ */])(?:[^/\\\n\[]|\\.|\[[^\]\n]*\])+/')
 TEMPLATE = re.compile(r"`[^`]*`")
@@ -33,10 +33,15 @@ def used(code):
     return set(USED.findall(code)) - set(bound)
 
 
-def upward():
-    """Each script that uses a name of one behind it, with that one and the name."""
+def loaded():
+    """The pages of web/, with the scripts that each loads, in order."""
+    return {path.name: re.findall(r'<script src="([^"]+)"', read("web/" + path.name)) for path in sorted((ROOT / "web").glob("*.html"))}
+
+
+def upward(scripts):
+    """The scripts of a page that use a name of a later one, each with that one and the name."""
     codes = {}
-    for name in re.findall(r'<script src="([^"]+)"', read("web/index.html")):
+    for name in scripts:
         if not MADE.fullmatch(name):
             code = QUOTED.sub('""', read("web/" + name))
             codes[name] = TEMPLATE.sub(lambda it: " ".join(re.findall(r"\$\{([^`]*?)\}", it[0])), code)

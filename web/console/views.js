@@ -1,7 +1,7 @@
 // The views beside the text, of which one is shown, and their tabs.
 "use strict";
 
-const VIEWS = ["console", "machine", "assembly", "help"];
+const VIEWS = ["console", "machine", "assembly", "why", "help"];
 
 function choose(name) {
     for (const it of VIEWS) {

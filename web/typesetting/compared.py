@@ -1,0 +1,70 @@
+"""What is looked at of the tables that are written by hand: the notation and the faults, against the definitions."""
+import re
+
+import notation
+import teaching
+from terms import head_of
+
+
+def texts_of(pieces):
+    return tuple(text for kind, text in pieces if kind == "p")
+
+
+def forms_read(items, pieces_of):
+    """The signs and words of each form of an expression, as `Readings.antt` reads it, with what stands in it once."""
+    inner = {"unary_token", "callee_reading", "prefix_reading", "binding_reading", "variable_reading"}
+    found = set()
+
+    def ways(tree):
+        """The ways to read a row, each a tuple of signs and words."""
+        head, given = head_of(tree)
+        if tree[0] == "op":
+            return [a + b for a in ways(tree[2]) for b in ways(tree[3])]
+        if head in inner:
+            return [it for row in items[head].rows for it in ways(row[1])]
+        if head in ("parts_reading", "bindings_reading", "branches_reading", "reading", "args_reading", "branch_reading"):
+            return [()]
+        return [texts_of(pieces_of(tree))]
+
+    for row in items["reading"].rows:
+        found.update(ways(row[1]))
+    return found
+
+
+def forms_differ(items, pieces_of):
+    """The forms of the notation that no row of the readings has."""
+    read = forms_read(items, pieces_of)
+    told = []
+    for form, text in notation.FORMS.items():
+        if not form.startswith("trees.") or form in ("trees.Arith", "trees.Compare", "trees.Neg"):
+            continue
+        written = tuple(re.findall(r"`([^`]*)`", text.replace(" `<-` {0}", "")))
+        if form == "trees.Block":
+            written = ("{", ";", "}")
+        if written not in read:
+            told.append("%s is written %s" % (form, " ".join(written)))
+    return told
+
+
+def kinds_differ(made, typing):
+    """The forms at whose premises other kinds of faults stand than the checker's definition gives the form."""
+    told = []
+    branches = {kind for section in made for it in section["entries"] if it["kind"] == "rule" and it["name"] == "Types of branches" for x in it["premises"]
+        for kind in x.get("faults", ())}
+    for section in made:
+        for it in section["entries"]:
+            if it["kind"] == "form":
+                marked = {kind for rule in it["typing"] for x in rule["premises"] for kind in x.get("faults", ())}
+                wanted = {x["kind"] for x in it["faults"]}
+                marked |= branches if it["heading"] == "Case" else set()
+                if marked != wanted:
+                    told.append("%s: at its premises %s, by FirstFaults.antt %s" % (it["heading"], sorted(marked), sorted(wanted)))
+    everywhere = {kind for section in made for it in section["entries"] for rule in (it.get("typing", ()) or ([it] if it["kind"] == "rule" else ()))
+        for x in rule["premises"] for kind in x.get("faults", ())}
+    told += ["%s stands at no premise" % kind for kind in teaching.BREAKS if kind not in everywhere]
+    return told
+
+
+def unused(tables, used):
+    """The names of the notation that no rule has."""
+    return sorted(name for table in tables for name in table if name not in used and name not in notation.FORMS)
