@@ -11,7 +11,7 @@ use cool_syntax::{Listed, Place};
 use std::alloc::{AllocError, AllocFailed};
 
 /// A kind of typing fault. `at` is the place of the expression's own mark.
-#[derive(Clone, Copy, Debug, PartialEq, Eq, PartialOrd, Ord)]
+#[derive(Clone, Copy, PartialEq, Eq, PartialOrd, Ord)]
 pub enum TypeKind {
     /// A name that is not in scope. At the name; of an assignment at it.
     E1,
@@ -52,7 +52,7 @@ pub enum TypeKind {
 }
 
 /// A fault, the place where it stands, and what did not fit there.
-#[derive(Clone, Copy, Debug, PartialEq, Eq)]
+#[derive(Clone, Copy)]
 pub struct TypeFault {
     pub kind: TypeKind,
     pub at: Place,
@@ -79,7 +79,7 @@ impl TypeFault {
 }
 
 /// Why a feature was not found to be well typed.
-#[derive(Clone, Copy, PartialEq, Eq)]
+#[derive(Clone, Copy)]
 pub enum CheckError {
     /// Want of memory.
     Memory,

@@ -4,7 +4,7 @@
 ///
 /// The five basic classes have the first numbers (the Cool manual, section 8). The classes of the program follow in the
 /// order of files and text.
-#[derive(Clone, Copy, Debug, PartialEq, Eq, PartialOrd, Ord)]
+#[derive(Clone, Copy, PartialEq, Eq)]
 pub struct ClassId(pub u32);
 
 /// The class Object, the root of all chains of parents.
@@ -23,7 +23,7 @@ pub const BOOL: ClassId = ClassId(3);
 pub const STRING: ClassId = ClassId(4);
 
 /// A type (the Cool manual, section 4): a class, or `SELF_TYPE`.
-#[derive(Clone, Copy, Debug, PartialEq, Eq)]
+#[derive(Clone, Copy)]
 pub enum Ty {
     /// The class of this number.
     Class(ClassId),

@@ -4,7 +4,7 @@ use cool_syntax::{Listed, Place};
 use std::alloc::AllocError;
 
 /// Why there is no table.
-#[derive(Debug, Drop)]
+#[derive(Drop)]
 pub enum TableError {
     /// Want of memory.
     Memory,
@@ -24,7 +24,7 @@ impl From<AllocError> for TableError {
 }
 
 /// A fault, and the place where it stands.
-#[derive(Clone, Copy, Debug, PartialEq, Eq)]
+#[derive(Clone, Copy)]
 pub struct ClassFault {
     pub kind: ClassKind,
     pub at: Place,
@@ -32,7 +32,7 @@ pub struct ClassFault {
 
 /// A kind of fault. The faults of the classes are C1 to C7, those of their features F1 to F9. A list of faults has those of
 /// the classes alone, or where there are none those of the features.
-#[derive(Clone, Copy, Debug, PartialEq, Eq, PartialOrd, Ord)]
+#[derive(Clone, Copy, PartialEq, Eq, PartialOrd, Ord)]
 pub enum ClassKind {
     /// A class whose name is that of a basic class or of an earlier class. At its name.
     C1,

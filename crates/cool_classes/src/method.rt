@@ -3,7 +3,7 @@
 use crate::class_id::ClassId;
 
 /// A method: one of a basic class, or the one at an index among the features of its owner.
-#[derive(Clone, Copy, Debug, PartialEq, Eq)]
+#[derive(Clone, Copy)]
 pub enum MethodRef {
     /// A method of a basic class.
     Basic(BasicMethod),
@@ -12,14 +12,14 @@ pub enum MethodRef {
 }
 
 /// The attribute at an index among the features of its owner.
-#[derive(Clone, Copy, Debug, PartialEq, Eq)]
+#[derive(Clone, Copy)]
 pub struct AttributeRef {
     pub owner: ClassId,
     pub index: u32,
 }
 
 /// A method of a basic class (the Cool manual, section 8).
-#[derive(Clone, Copy, Debug, PartialEq, Eq)]
+#[derive(Clone, Copy)]
 pub enum BasicMethod {
     /// `Object.abort() : Object`
     Abort,

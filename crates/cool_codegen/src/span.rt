@@ -10,7 +10,7 @@ use cool_rules::Entry;
 use cool_syntax::{ArithOp, CompareOp, Node, Place};
 
 /// The form of an expression.
-#[derive(Clone, Copy, Debug)]
+#[derive(Clone, Copy)]
 pub enum Form {
     Name,
     Assign,

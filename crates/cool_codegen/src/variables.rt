@@ -7,7 +7,7 @@ use cool_classes::Ty;
 use mips_isa::register::{FP, S0};
 
 /// From where the word of a variable is addressed: from the frame, or from self.
-#[derive(Clone, Copy, Debug)]
+#[derive(Clone, Copy)]
 pub enum Base {
     Frame,
     Object,
@@ -28,7 +28,7 @@ impl Base {
 
 /// A variable: from where its word is addressed, the word's offset in bytes, and the type of its values, by which contracts say with which
 /// names in scope an expression has the types that it has (`scope_of` of `specs/Variables.antt`).
-#[derive(Clone, Copy, Debug)]
+#[derive(Clone, Copy)]
 pub struct Variable {
     pub base: Base,
     pub offset: i32,

@@ -7,7 +7,7 @@ ghost use Rattle.cool_driver.specs.Statuses.{code_of};
 use spim_machine::Halt;
 
 /// How a call ends.
-#[derive(Clone, Copy, Debug, PartialEq, Eq)]
+#[derive(Clone, Copy)]
 pub enum Status {
     /// The run ended well, or the files were accepted.
     Done = 0,

@@ -1,7 +1,7 @@
 //! What is written of files.
 
 /// What is written of files.
-#[derive(Clone, Copy, Debug, PartialEq, Eq)]
+#[derive(Clone, Copy)]
 pub enum Form {
     /// The marks of their names.
     Marks,

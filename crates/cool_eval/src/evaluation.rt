@@ -24,7 +24,7 @@ use cool_syntax::Name;
 use std::alloc::{AllocError, Global};
 
 /// How a run ends.
-#[derive(Clone, Copy, Debug, PartialEq, Eq)]
+#[derive(Clone, Copy)]
 pub enum EvalEnd {
     /// The program ended.
     Done,

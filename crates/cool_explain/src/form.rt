@@ -1,7 +1,7 @@
 //! In which form explanations are written.
 
 /// In which form explanations are written.
-#[derive(Clone, Copy, Debug, PartialEq, Eq)]
+#[derive(Clone, Copy)]
 pub enum Form {
     /// For readers.
     Text,

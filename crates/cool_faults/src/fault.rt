@@ -13,7 +13,7 @@ use cool_syntax::{Listed, Place};
 use std::alloc::AllocError;
 
 /// A fault of a file.
-#[derive(Clone, Copy, PartialEq, Eq)]
+#[derive(Clone, Copy)]
 pub enum Fault {
     /// A lexical fault, L1 to L8.
     Lex(LexFault),

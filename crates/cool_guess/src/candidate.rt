@@ -4,7 +4,7 @@ use crate::lexeme::{Lexeme, is_name_byte, part};
 use std::alloc::{AllocError, Global};
 
 /// Why an edit may be the one.
-#[derive(Clone, Copy, Debug, PartialEq, Eq)]
+#[derive(Clone, Copy)]
 pub enum Reason {
     /// Something is missing.
     Missing,

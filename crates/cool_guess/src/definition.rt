@@ -44,7 +44,7 @@ pub fn other_definition(
 }
 
 /// What is sought.
-#[derive(Clone, Copy, Debug, PartialEq, Eq)]
+#[derive(Clone, Copy)]
 enum Sought {
     Class,
     Method,

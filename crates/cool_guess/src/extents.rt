@@ -1,7 +1,7 @@
 //! How far the operands and expressions around a position reach, by the lexemes alone.
 
 use crate::candidate::Candidates;
-use crate::kind::{Kind, kind_of};
+use crate::kind::{Kind, is_one_of, kind_of};
 
 /// How many lexemes to each side are looked at.
 const LOOKED_WIDE: usize = 400;
@@ -113,50 +113,38 @@ impl<'a> Candidates<'a> {
     }
 }
 
+/// The words behind which an expression may begin; nothing is the begin of the file.
+static BEGINNERS: [&str; 14] = [
+    "", ";", "{", "(", ",", "<-", "=>", "then", "else", "loop", "in", "if", "while", "of",
+];
+
+/// The words that stand behind an expression.
+static ENDERS: [&str; 12] = [
+    ";", "}", ")", ",", "then", "else", "fi", "loop", "pool", "in", "of", "esac",
+];
+
+/// The words that begin what another one ends.
+static OPENING: [&str; 5] = ["(", "{", "if", "while", "case"];
+
+/// The words that end what another one begins.
+static CLOSING: [&str; 5] = [")", "}", "fi", "pool", "esac"];
+
 /// Whether an expression may begin behind a word.
 pub(crate) fn begins_expression(word: &[u8]) -> bool {
-    matches!(
-        word,
-        b"" | b";"
-            | b"{"
-            | b"("
-            | b","
-            | b"<-"
-            | b"=>"
-            | b"then"
-            | b"else"
-            | b"loop"
-            | b"in"
-            | b"if"
-            | b"while"
-            | b"of"
-    )
+    is_one_of(&BEGINNERS, word)
 }
 
 /// Whether a word stands behind an expression.
 fn ends_expression(word: &[u8]) -> bool {
-    matches!(
-        word,
-        b";" | b"}"
-            | b")"
-            | b","
-            | b"then"
-            | b"else"
-            | b"fi"
-            | b"loop"
-            | b"pool"
-            | b"in"
-            | b"of"
-            | b"esac"
-    )
+    is_one_of(&ENDERS, word)
 }
 
 /// Whether a word begins what another one ends.
-fn opens(word: &[u8]) -> bool {
-    matches!(word, b"(" | b"{" | b"if" | b"while" | b"case")
+pub(crate) fn opens(word: &[u8]) -> bool {
+    is_one_of(&OPENING, word)
 }
 
 /// Whether a word ends what another one begins.
-fn closes(word: &[u8]) -> bool {
-    matches!(word, b")" | b"}" | b"fi" | b"pool" | b"esac")
+pub(crate) fn closes(word: &[u8]) -> bool {
+    is_one_of(&CLOSING, word)
 }

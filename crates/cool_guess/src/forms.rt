@@ -1,9 +1,12 @@
 //! Forms of other languages, and those of Cool for them.
 
 use crate::candidate::{Candidates, Reason};
-use crate::kind::{Kind, kind_of};
+use crate::kind::{Kind, is_one_of, kind_of};
 use crate::lexeme::{line_length, part};
 use std::alloc::AllocError;
+
+/// The words and signs in front of a type.
+static BEFORE_TYPES: [&str; 5] = [":", "new", "@", "inherits", "class"];
 
 /// How many lexemes behind `elif` its `fi` is looked for.
 const LOOKED_AHEAD: usize = 200;
@@ -290,5 +293,5 @@ fn is_self_type(word: &[u8], class: &[u8]) -> bool {
 
 /// Whether a type stands behind a word.
 pub(crate) fn wants_type(word: &[u8]) -> bool {
-    matches!(word, b":" | b"new" | b"@" | b"inherits" | b"class")
+    is_one_of(&BEFORE_TYPES, word)
 }

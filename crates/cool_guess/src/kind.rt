@@ -7,7 +7,7 @@ pub(crate) static KEYWORDS: [&str; 19] = [
 ];
 
 /// What a lexeme is.
-#[derive(Clone, Copy, Debug, PartialEq, Eq)]
+#[derive(Clone, Copy)]
 pub(crate) enum Kind {
     /// A keyword, a sign, or nothing.
     Fixed,

@@ -8,7 +8,7 @@ use std::alloc::{AllocError, Global};
 const MOST_OPEN: usize = 8;
 
 /// From where up to where a lexeme stands.
-#[derive(Clone, Copy, Debug, PartialEq, Eq)]
+#[derive(Clone, Copy)]
 pub struct Lexeme {
     pub start: usize,
     pub end: usize,

@@ -3,7 +3,7 @@
 use crate::candidate::{Candidate, Candidates, Reason};
 use crate::definition::{is_class, parent_around};
 use crate::fitting::fitting;
-use crate::kind::{is_number, is_type_name};
+use crate::kind::{is_number, is_one_of, is_type_name};
 use crate::lexeme::Lexeme;
 use crate::names::{BASIC_CLASSES, MOST_NAMES, class_names, names_near, type_name};
 use crate::nearness::{are_near, distance};
@@ -12,6 +12,26 @@ use cool_check::{TypeFault, TypeKind};
 use cool_classes::ClassKind;
 use cool_faults::Fault;
 use std::alloc::{AllocError, Global};
+
+/// What other languages call void.
+static VOIDS: [&str; 5] = ["null", "nil", "NULL", "void", "None"];
+
+/// Methods by which other languages compare.
+static COMPARING: [&str; 3] = ["equals", "compareTo", "eq"];
+
+/// Methods that give or take a constant, each with that of the other type.
+static COUNTERPARTS: [(&str, &str); 4] = [
+    ("in_string", "in_int"),
+    ("in_int", "in_string"),
+    ("out_string", "out_int"),
+    ("out_int", "out_string"),
+];
+
+/// The methods that take a constant.
+static WRITING: [&str; 2] = ["out_string", "out_int"];
+
+/// What stands behind the second operand of a sum.
+static BEHIND_SUMS: [&str; 8] = [")", "+", ";", ",", "}", "fi", "then", "in"];
 
 /// How many lexemes of a declaration are looked at.
 const LOOKED_ALONG: usize = 64;
@@ -161,23 +181,21 @@ impl<'a> Candidates<'a> {
     /// `a = null` as `isvoid a`, and `super` as `self@Parent`.
     fn add_unknown(&mut self, index: usize) -> Result<(), AllocError> {
         let here = self.lexeme(index);
-        match self.text(here) {
-            b"null" | b"nil" | b"NULL" | b"void" | b"None"
-                if self.word_before(index, 1) == b"=".as_slice() => {
-                let sign = index.saturating_sub(1);
-                let start = self.operand_start(sign);
-                let text = self.joined(&[b"isvoid ", self.between(start, sign)])?;
-                let said = Reason::Said("there is no word for void: `isvoid x` asks for it");
-                self.put(said, self.lexeme(start).start, here.end, &text)
-            }
-            b"super" => {
-                let parent = parent_around(self.bytes, self.lexemes, index);
-                let text = self.joined(&[b"self@", parent])?;
-                let said = Reason::Said("`self@Parent.f()` calls the method of the class Parent");
-                self.put_at(said, here, &text)
-            }
-            _ => Ok(()),
+        let word = self.text(here);
+        if is_one_of(&VOIDS, word) && self.word_before(index, 1) == b"=".as_slice() {
+            let sign = index.saturating_sub(1);
+            let start = self.operand_start(sign);
+            let text = self.joined(&[b"isvoid ", self.between(start, sign)])?;
+            let said = Reason::Said("there is no word for void: `isvoid x` asks for it");
+            return self.put(said, self.lexeme(start).start, here.end, &text);
         }
+        if word == b"super".as_slice() {
+            let parent = parent_around(self.bytes, self.lexemes, index);
+            let text = self.joined(&[b"self@", parent])?;
+            let said = Reason::Said("`self@Parent.f()` calls the method of the class Parent");
+            return self.put_at(said, here, &text);
+        }
+        Ok(())
     }
 
     /// An attribute of this name, in front of the features of the class.
@@ -240,7 +258,7 @@ impl<'a> Candidates<'a> {
             let said = Reason::Said("a method stands behind its object: `a.f()`");
             return self.put(said, here.start, end, &text);
         }
-        if matches!(self.text(here), b"equals" | b"compareTo" | b"eq") {
+        if is_one_of(&COMPARING, self.text(here)) {
             let text = self.joined(&[b" = ", given])?;
             let said = Reason::Said("`=` compares");
             return self.put(said, self.before(index, 1).start, end, &text);
@@ -522,7 +540,7 @@ impl<'a> Candidates<'a> {
         }
         for back in 1..4 {
             if let Some(there) = index.checked_sub(back) {
-                if matches!(self.word(there), b"out_string" | b"out_int") {
+                if is_one_of(&WRITING, self.word(there)) {
                     self.add_constant(there)?;
                 }
             }
@@ -533,20 +551,20 @@ impl<'a> Candidates<'a> {
     /// A constant of the other type, or a method that takes or gives it.
     fn add_constant(&mut self, index: usize) -> Result<(), AllocError> {
         let there = self.lexeme(index);
-        match self.text(there) {
+        let word = self.text(there);
+        match word {
             [b'"', inner @ .., b'"'] if is_number(inner) => {
                 let said = Reason::Said("a number stands without quotes");
                 self.put_at(said, there, inner)
             }
             [b'0'..=b'9', ..] => {
-                let text = self.joined(&[b"\"", self.text(there), b"\""])?;
+                let text = self.joined(&[b"\"", word, b"\""])?;
                 self.put_at(Reason::Said("a string stands in quotes"), there, &text)
             }
-            b"in_string" => self.put_at(Reason::Other, there, b"in_int"),
-            b"in_int" => self.put_at(Reason::Other, there, b"in_string"),
-            b"out_string" => self.put_at(Reason::Other, there, b"out_int"),
-            b"out_int" => self.put_at(Reason::Other, there, b"out_string"),
-            _ => Ok(()),
+            _ => match counterpart(word) {
+                Some(other) => self.put_at(Reason::Other, there, other),
+                None => Ok(()),
+            },
         }
     }
 
@@ -557,11 +575,12 @@ impl<'a> Candidates<'a> {
         }
         let mut depth: usize = 0;
         for later in index.saturating_add(1)..self.lexemes.len() {
-            match self.word(later) {
+            let word = self.word(later);
+            if depth == 0 && is_one_of(&BEHIND_SUMS, word) {
+                return self.put_joined(index, later);
+            }
+            match word {
                 b"(" => depth = depth.saturating_add(1),
-                b")" | b"+" | b";" | b"," | b"}" | b"fi" | b"then" | b"in" if depth == 0 => {
-                    return self.put_joined(index, later);
-                }
                 b")" => depth = depth.saturating_sub(1),
                 _ => {}
             }
@@ -579,4 +598,14 @@ impl<'a> Candidates<'a> {
         let said = Reason::Said("strings are joined by `a.concat(b)`");
         self.put_two(said, first, second)
     }
+}
+
+/// The method of the other type for one that gives or takes a constant.
+fn counterpart(word: &[u8]) -> Option<&'static [u8]> {
+    for (known, other) in &COUNTERPARTS {
+        if known.as_bytes() == word {
+            return Some(other.as_bytes());
+        }
+    }
+    None
 }

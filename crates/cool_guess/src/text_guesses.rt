@@ -1,7 +1,7 @@
 //! Candidates for faults of lexemes and syntax, by the lexemes around.
 
 use crate::candidate::{Candidate, Candidates, Reason, ends_word, is_blank};
-use crate::extents::begins_expression;
+use crate::extents::{begins_expression, closes, opens};
 use crate::fitting::{fitting, is_known, words_around};
 use crate::forms::wants_type;
 use crate::kind::{KEYWORDS, Kind, is_one_of, kind_of};
@@ -9,6 +9,12 @@ use crate::lexeme::{Lexeme, line_length, part};
 use crate::nearness::are_near;
 use crate::signs::{PAIRS, TYPES, WORDS};
 use std::alloc::{AllocError, Global};
+
+/// Braces, and words that have an expression behind them.
+static OPENED: [&str; 5] = ["{", "then", "else", "loop", "in"];
+
+/// What closes a brace or the expression behind a word.
+static CLOSED: [&str; 5] = ["}", "fi", "pool", "else", ")"];
 
 /// What is tried in front of a fault and in its place, the likeliest first.
 static PIECES: [&str; 18] = [
@@ -298,13 +304,13 @@ impl<'a> Candidates<'a> {
     fn opened(&self, index: usize) -> Option<usize> {
         let mut depth: usize = 0;
         for back in 1..index.saturating_add(1) {
-            match self.word_before(index, back) {
-                b"}" | b")" | b"fi" | b"pool" | b"esac" => depth = depth.saturating_add(1),
-                b"{" | b"then" | b"else" | b"loop" | b"in" if depth == 0 => {
-                    return index.checked_sub(back);
-                }
-                b"{" | b"(" | b"if" | b"while" | b"case" => depth = depth.saturating_sub(1),
-                _ => {}
+            let word = self.word_before(index, back);
+            if closes(word) {
+                depth = depth.saturating_add(1);
+            } else if depth == 0 && is_one_of(&OPENED, word) {
+                return index.checked_sub(back);
+            } else if opens(word) {
+                depth = depth.saturating_sub(1);
             }
         }
         None
@@ -314,11 +320,13 @@ impl<'a> Candidates<'a> {
     fn closed(&self, index: usize) -> Option<usize> {
         let mut depth: usize = 0;
         for later in index..self.lexemes.len() {
-            match self.word(later) {
-                b"}" | b"fi" | b"pool" | b"else" | b")" if depth == 0 => return Some(later),
-                b"{" | b"(" | b"if" | b"while" | b"case" => depth = depth.saturating_add(1),
-                b"}" | b")" | b"fi" | b"pool" | b"esac" => depth = depth.saturating_sub(1),
-                _ => {}
+            let word = self.word(later);
+            if depth == 0 && is_one_of(&CLOSED, word) {
+                return Some(later);
+            } else if opens(word) {
+                depth = depth.saturating_add(1);
+            } else if closes(word) {
+                depth = depth.saturating_sub(1);
             }
         }
         None

@@ -7,7 +7,7 @@ use cool_syntax::{LexKind, Place};
 use std::alloc::{AllocError, AllocFailed};
 
 /// The first fault of a file, and where it stands.
-#[derive(Clone, Copy, Debug, PartialEq, Eq)]
+#[derive(Clone, Copy)]
 pub struct LexFault {
     /// What it is, `L1` to `L8`; each kind says which place it has.
     pub kind: LexKind,
@@ -16,7 +16,7 @@ pub struct LexFault {
 }
 
 /// Why a file has no tokens.
-#[derive(Clone, Copy, Debug, PartialEq, Eq)]
+#[derive(Clone, Copy)]
 pub enum LexError {
     /// Memory ran out.
     Memory,

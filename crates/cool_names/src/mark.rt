@@ -3,7 +3,7 @@
 use cool_syntax::{Bytes, Name, Place};
 
 /// What a name is where it stands.
-#[derive(Clone, Copy, Debug, PartialEq, Eq)]
+#[derive(Clone, Copy)]
 pub enum Role {
     /// The name of a class in its definition.
     Class,
@@ -28,7 +28,7 @@ pub enum Role {
 }
 
 /// Where a name is defined.
-#[derive(Clone, Copy, Debug, PartialEq, Eq)]
+#[derive(Clone, Copy)]
 pub enum Target {
     /// It is not known where, or nowhere.
     Unknown,
@@ -39,7 +39,7 @@ pub enum Target {
 }
 
 /// What a name means: the type that its definition declares, as a text, and where the definition is.
-#[derive(Debug, Drop)]
+#[derive(Drop)]
 pub struct Meaning {
     pub declared: Bytes,
     pub target: Target,

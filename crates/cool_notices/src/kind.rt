@@ -6,7 +6,7 @@ ghost use Rattle.cool_notices.specs.Notices.{words};
 use cool_syntax::Place;
 
 /// A kind of notice.
-#[derive(Clone, Copy, Debug, PartialEq, Eq)]
+#[derive(Clone, Copy)]
 pub enum NoticeKind {
     /// A comparison by `=` with a name to its left, whose value is not used. At the operator.
     Comparison,
@@ -23,7 +23,7 @@ pub enum NoticeKind {
 }
 
 /// A notice, and the place where it stands.
-#[derive(Clone, Copy, Debug, PartialEq, Eq)]
+#[derive(Clone, Copy)]
 pub struct Notice {
     pub kind: NoticeKind,
     pub at: Place,

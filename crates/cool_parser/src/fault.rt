@@ -7,13 +7,13 @@ use cool_syntax::Place;
 use std::alloc::AllocError;
 
 /// The one kind of syntax fault, S1: a token, or the end of the file, stands where no file can have it.
-#[derive(Clone, Copy, Debug, PartialEq, Eq)]
+#[derive(Clone, Copy)]
 pub struct ParseFault {
     pub at: Place,
 }
 
 /// Why there is no tree.
-#[derive(Clone, Copy, Debug, PartialEq, Eq)]
+#[derive(Clone, Copy)]
 pub enum ParseError {
     /// Memory was wanted.
     Memory,

@@ -7,14 +7,14 @@ ghost use Rattle.cool_parser.specs.ParsingMachine as machine;
 use cool_syntax::{ArithOp, CompareOp, Node, NodeId, Place, Sign, TokenKind};
 
 /// An operator between two operands.
-#[derive(Clone, Copy, PartialEq, Eq)]
+#[derive(Clone, Copy)]
 pub(crate) enum Infix {
     Arith(ArithOp),
     Compare(CompareOp),
 }
 
 /// An operator before its operand.
-#[derive(Clone, Copy, PartialEq, Eq)]
+#[derive(Clone, Copy)]
 pub(crate) enum Prefix {
     Not,
     IsVoid,

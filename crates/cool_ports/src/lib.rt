@@ -37,5 +37,5 @@ pub use sure_source::SureSource;
 pub use taking::next_byte;
 
 /// A read or a write of the outside failed.
-#[derive(Clone, Copy, Debug, PartialEq, Eq)]
+#[derive(Clone, Copy)]
 pub struct Failed;

@@ -7,7 +7,7 @@ ghost use Rattle.cool_ports.specs.ShelfFiles.{FileMap, MayHold, IsMissing, IsLon
 use std::alloc::Global;
 
 /// Why a file was not read.
-#[derive(Clone, Copy, Debug, PartialEq, Eq)]
+#[derive(Clone, Copy)]
 pub enum ShelfFault {
     /// There is no such file.
     Missing,

@@ -1,7 +1,7 @@
 //! The run-time routines that there are.
 
 /// A run-time routine.
-#[derive(Clone, Copy, Debug, PartialEq, Eq)]
+#[derive(Clone, Copy)]
 pub enum Routine {
     /// Makes the object of Main, calls `main`, writes the end text and exits with 0.
     Start,

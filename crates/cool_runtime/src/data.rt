@@ -142,7 +142,7 @@ pub fn bool_object(
 }
 
 /// The tags of the classes Int and String.
-#[derive(Clone, Copy, Debug)]
+#[derive(Clone, Copy)]
 pub struct StringTags {
     pub int: u32,
     pub string: u32,

@@ -6,7 +6,7 @@ ghost use Rattle.cool_session.specs.declared.ending.Interruption.TheVariants as 
 use std::alloc::{AllocError, AllocFailed};
 
 /// How a session ends. A number is that of the command at which it ended, the first being 1.
-#[derive(Clone, Copy, Debug, PartialEq, Eq)]
+#[derive(Clone, Copy)]
 pub enum Ending {
     /// By `quit`, or by the end of the input before a line's first byte.
     Over,
@@ -19,7 +19,7 @@ pub enum Ending {
 }
 
 /// What cuts a session short.
-#[derive(Clone, Copy, Debug, PartialEq, Eq)]
+#[derive(Clone, Copy)]
 pub enum Interruption {
     /// A take failed.
     ReadFault,

@@ -9,7 +9,7 @@ use cool_ports::{Failed, Sink};
 use std::alloc::{AllocError, AllocFailed};
 
 /// How a call ends, as for `cool`.
-#[derive(Clone, Copy, Debug, PartialEq, Eq)]
+#[derive(Clone, Copy)]
 pub enum Status {
     /// What was asked for was written.
     Done = 0,

@@ -7,7 +7,7 @@ use crate::text::Name;
 use crate::type_ref::TypeRef;
 
 /// A formal parameter of a method: `name : declared`, at the place of its name.
-#[derive(Debug, Drop)]
+#[derive(Drop)]
 pub struct Formal {
     pub name: Name,
     pub at: Place,

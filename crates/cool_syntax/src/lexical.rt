@@ -1,7 +1,7 @@
 //! The kinds of lexical faults.
 
 /// Why a text has no list of tokens.
-#[derive(Clone, Copy, Debug, PartialEq, Eq, PartialOrd, Ord)]
+#[derive(Clone, Copy)]
 pub enum LexKind {
     /// A byte begins no lexeme. Its place is the byte.
     L1,

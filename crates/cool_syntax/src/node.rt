@@ -11,11 +11,11 @@ use crate::text::{Bytes, Name};
 use crate::type_ref::TypeRef;
 
 /// The number of a node in its list, from 0.
-#[derive(Clone, Copy, Debug, PartialEq, Eq, PartialOrd, Ord)]
+#[derive(Clone, Copy)]
 pub struct NodeId(pub u32);
 
 /// A branch of a `case`: `name : declared => body;`, at the place of its name.
-#[derive(Debug, Drop)]
+#[derive(Drop)]
 pub struct NodeBranch {
     pub at: Place,
     pub name: Name,

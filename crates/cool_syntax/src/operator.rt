@@ -1,7 +1,7 @@
 //! The operators between two numbers or two values.
 
 /// An operator of arithmetic: `+`, `-`, `*` and `/`.
-#[derive(Clone, Copy, Debug, PartialEq, Eq)]
+#[derive(Clone, Copy, PartialEq, Eq)]
 pub enum ArithOp {
     Add,
     Sub,
@@ -10,7 +10,7 @@ pub enum ArithOp {
 }
 
 /// An operator of comparison: `<`, `<=` and `=`.
-#[derive(Clone, Copy, Debug, PartialEq, Eq)]
+#[derive(Clone, Copy, PartialEq, Eq)]
 pub enum CompareOp {
     Less,
     LessEqual,

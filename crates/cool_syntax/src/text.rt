@@ -8,7 +8,7 @@ use std::alloc::{AllocError, Global};
 use std::marker::Model;
 
 /// The bytes of a string constant. A contract sees the list of its bytes.
-#[derive(Debug, Drop)]
+#[derive(Drop)]
 pub struct Bytes {
     bytes: Vec<u8>,
 }
@@ -61,13 +61,13 @@ const _: () = prove!(size_of::<Name>() == 16);
 
 /// The name of a class, a feature, a formal or a variable, in 16 bytes: a name of up to `MOST_SHORT_NAME` bytes stands in them, and a longer
 /// one in a box. A contract sees the list of its bytes.
-#[derive(Debug, Drop)]
+#[derive(Drop)]
 pub struct Name {
     spelling: Spelling,
 }
 
 /// The bytes of a name.
-#[derive(Debug, Drop)]
+#[derive(Drop)]
 enum Spelling {
     /// The first bytes, this many, of these.
     Short {

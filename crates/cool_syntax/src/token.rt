@@ -25,7 +25,7 @@ pub enum TokenKind {
 }
 
 /// A keyword.
-#[derive(Clone, Copy, Debug, PartialEq, Eq)]
+#[derive(Clone, Copy, PartialEq, Eq)]
 pub enum Key {
     Class,
     Else,
@@ -49,7 +49,7 @@ pub enum Key {
 }
 
 /// A lexeme of one or two signs.
-#[derive(Clone, Copy, Debug, PartialEq, Eq)]
+#[derive(Clone, Copy, PartialEq, Eq)]
 pub enum Sign {
     LBrace,
     RBrace,

@@ -10,7 +10,7 @@ use std::alloc::{AllocError, Global};
 ///
 /// The name is that of a class or `SELF_TYPE` (the Cool manual, section 11). Whether there is such a class is not known
 /// here.
-#[derive(Debug, Drop)]
+#[derive(Drop)]
 pub struct TypeRef {
     pub name: Name,
     pub at: Place,

@@ -71,8 +71,12 @@ fn a_column_is_filled_again(rt: HostRuntime) -> Result<(), Fail> {
 #[test]
 fn a_file_is_written_as_tokens(rt: HostRuntime) -> Result<(), Fail> {
     let text = b"class A { x : Int <- 1 - 2 - 3; };".as_slice();
-    let found = lex(rt.alloc(), 0, text)?;
-    let tree = parse(rt.alloc(), 0, found.tokens.as_slice(), found.end)?;
+    let Ok(found) = lex(rt.alloc(), 0, text) else {
+        return Err(Fail::from("no tokens"));
+    };
+    let Ok(tree) = parse(rt.alloc(), 0, found.tokens.as_slice(), found.end) else {
+        return Err(Fail::from("no tree"));
+    };
     assert_eq!(rt; found.tokens.len(), 15);
     assert_eq!(rt; tokens_of(rt.alloc(), &tree)?.len(), 17);
     Ok(())

@@ -74,7 +74,9 @@ fn printed_texts(rt: HostRuntime) -> Result<(), Fail> {
     for (text, printed) in &TEXTS {
         let bytes = text.as_bytes();
         assert!(rt; bytes.len() <= 532_676_628);
-        let lines = read_asm(rt.alloc(), bytes)?;
+        let Ok(lines) = read_asm(rt.alloc(), bytes) else {
+            return Err(Fail::from("no lines"));
+        };
         let again = print_asm(rt.alloc(), &lines)?;
         assert_eq!(rt; again.as_slice(), printed.as_bytes(), "{text}");
     }

@@ -1,7 +1,7 @@
 //! What a command line asks for.
 
 /// The limits of a run.
-#[derive(Clone, Copy, Debug, PartialEq, Eq)]
+#[derive(Clone, Copy)]
 pub struct RunLimits {
     /// The most KiB of the heap.
     pub heap_kib: u32,

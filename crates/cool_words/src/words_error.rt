@@ -6,7 +6,7 @@ ghost use Rattle.cool_words.specs.declared.words_error.WordsError.TheVariants.{M
 use std::alloc::{AllocError, AllocFailed};
 
 /// Why words are no plan.
-#[derive(Clone, Copy, Debug, PartialEq, Eq)]
+#[derive(Clone, Copy)]
 pub enum WordsError {
     /// Memory ran out.
     Memory,

@@ -7,7 +7,7 @@ use crate::position::Position;
 use mips_isa::{MOST_TEXT_WORDS, Segment, TEXT_START};
 
 /// Where a label stands.
-#[derive(Clone, Copy, PartialEq, Eq)]
+#[derive(Clone, Copy)]
 pub enum Mark {
     /// At an address of the text.
     InText(u32),

@@ -10,7 +10,7 @@ use mips_isa::{
 };
 
 /// How far the segments are filled, and which one is open.
-#[derive(Clone, Copy, Debug, PartialEq, Eq)]
+#[derive(Clone, Copy)]
 pub struct Position {
     pub words: u32,
     pub bytes: u32,
@@ -18,7 +18,7 @@ pub struct Position {
 }
 
 /// What a statement needs.
-#[derive(Clone, Copy, PartialEq, Eq)]
+#[derive(Clone, Copy)]
 pub enum Need {
     /// Nothing.
     Nothing,

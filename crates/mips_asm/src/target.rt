@@ -10,7 +10,7 @@ use crate::labels::Labels;
 use mips_isa::{AsmInstr, DATA_START, Label, Place, Segment};
 
 /// Where the label is that an instruction uses.
-#[derive(Clone, Copy, Debug)]
+#[derive(Clone, Copy)]
 pub enum Target {
     /// It uses none.
     Unused,

@@ -6,7 +6,7 @@ ghost use Rattle.mips_image.specs.declared.image_error.ImageError.TheVariants.{M
 use std::alloc::{AllocError, AllocFailed};
 
 /// Why bytes are no image. The letter and number are the ones that notes print.
-#[derive(Clone, Copy, PartialEq, Eq)]
+#[derive(Clone, Copy)]
 pub enum ImageError {
     /// Memory ran out.
     Memory,

@@ -6,7 +6,7 @@ ghost use Rattle.mips_isa.specs.declared.asm_fault.AsmError.TheVariants.{Memory}
 use std::alloc::{AllocError, AllocFailed};
 
 /// What is wrong with a line. The letter and number are the ones that notes print.
-#[derive(Clone, Copy, Debug, PartialEq, Eq)]
+#[derive(Clone, Copy)]
 pub enum AsmKind {
     /// A word is unknown.
     A1,
@@ -29,14 +29,14 @@ pub enum AsmKind {
 }
 
 /// A fault of assembly, and the number of its line, from 1.
-#[derive(Clone, Copy, Debug, PartialEq, Eq)]
+#[derive(Clone, Copy)]
 pub struct AsmFault {
     pub kind: AsmKind,
     pub line: u32,
 }
 
 /// Why no lines were read, or no image was made of them.
-#[derive(Clone, Copy, Debug, PartialEq, Eq)]
+#[derive(Clone, Copy)]
 pub enum AsmError {
     /// Memory ran out.
     Memory,

@@ -7,7 +7,7 @@ use std::marker::Model;
 ///
 /// There are 1 to `MOST_TEXT_WORDS` words and at most `MOST_DATA_BYTES` bytes, and the entry is the address of a word of the
 /// text. A contract sees lists.
-#[derive(Debug, Drop)]
+#[derive(Drop)]
 pub struct Image {
     pub entry: u32,
     pub text: Vec<u32>,

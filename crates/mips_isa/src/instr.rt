@@ -3,7 +3,7 @@
 use crate::Reg;
 
 /// Three registers: `add rd, rs, rt`.
-#[derive(Clone, Copy, Debug, PartialEq, Eq)]
+#[derive(Clone, Copy)]
 pub enum ThreeOp {
     Add,
     Addu,
@@ -18,7 +18,7 @@ pub enum ThreeOp {
 }
 
 /// A shift by a number: `sll rd, rt, sh`.
-#[derive(Clone, Copy, Debug, PartialEq, Eq)]
+#[derive(Clone, Copy)]
 pub enum ShiftOp {
     Sll,
     Srl,
@@ -26,7 +26,7 @@ pub enum ShiftOp {
 }
 
 /// A shift by a register: `sllv rd, rt, rs`.
-#[derive(Clone, Copy, Debug, PartialEq, Eq)]
+#[derive(Clone, Copy)]
 pub enum ShiftRegOp {
     Sllv,
     Srlv,
@@ -34,21 +34,21 @@ pub enum ShiftRegOp {
 }
 
 /// A move from HI or LO: `mfhi rd`.
-#[derive(Clone, Copy, Debug, PartialEq, Eq)]
+#[derive(Clone, Copy)]
 pub enum FromOp {
     Mfhi,
     Mflo,
 }
 
 /// A move to HI or LO: `mthi rs`.
-#[derive(Clone, Copy, Debug, PartialEq, Eq)]
+#[derive(Clone, Copy)]
 pub enum ToOp {
     Mthi,
     Mtlo,
 }
 
 /// A product or a quotient: `mult rs, rt`.
-#[derive(Clone, Copy, Debug, PartialEq, Eq)]
+#[derive(Clone, Copy)]
 pub enum MulDivOp {
     Mult,
     Multu,
@@ -57,7 +57,7 @@ pub enum MulDivOp {
 }
 
 /// An operation with an immediate: `addi rt, rs, imm`.
-#[derive(Clone, Copy, Debug, PartialEq, Eq)]
+#[derive(Clone, Copy)]
 pub enum ImmOp {
     Addi,
     Addiu,
@@ -69,14 +69,14 @@ pub enum ImmOp {
 }
 
 /// A branch on two registers: `beq rs, rt, target`.
-#[derive(Clone, Copy, Debug, PartialEq, Eq)]
+#[derive(Clone, Copy)]
 pub enum TwoOp {
     Beq,
     Bne,
 }
 
 /// A branch on one register: `blez rs, target`.
-#[derive(Clone, Copy, Debug, PartialEq, Eq)]
+#[derive(Clone, Copy)]
 pub enum OneOp {
     Blez,
     Bgtz,
@@ -85,14 +85,14 @@ pub enum OneOp {
 }
 
 /// A jump: `j target`.
-#[derive(Clone, Copy, Debug, PartialEq, Eq)]
+#[derive(Clone, Copy)]
 pub enum JumpOp {
     J,
     Jal,
 }
 
 /// A load or a store: `lw rt, imm(rs)`.
-#[derive(Clone, Copy, Debug, PartialEq, Eq)]
+#[derive(Clone, Copy)]
 pub enum MemOp {
     Lb,
     Lh,
@@ -108,7 +108,7 @@ pub enum MemOp {
 ///
 /// Immediates of branches count instructions from the one after the branch. The index of a jump is its target divided
 /// by 4, without the upper four bits.
-#[derive(Clone, Copy, PartialEq, Eq)]
+#[derive(Clone, Copy)]
 pub enum Instr {
     Three {
         op: ThreeOp,

@@ -16,14 +16,14 @@ pub fn law_line_bytes()
 {}
 
 /// A branch on a comparison with zero, written as one line.
-#[derive(Clone, Copy, Debug, PartialEq, Eq)]
+#[derive(Clone, Copy)]
 pub enum ZeroOp {
     Beqz,
     Bnez,
 }
 
 /// A branch on an order, written as one line and assembled as two instructions.
-#[derive(Clone, Copy, Debug, PartialEq, Eq)]
+#[derive(Clone, Copy)]
 pub enum OrderOp {
     Bgt,
     Bge,

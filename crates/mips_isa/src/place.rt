@@ -1,14 +1,14 @@
 //! Where the labels of assembly are.
 
 /// A segment that assembly fills.
-#[derive(Clone, Copy, Debug, PartialEq, Eq)]
+#[derive(Clone, Copy)]
 pub enum Segment {
     Text,
     Data,
 }
 
 /// The place of a label: its segment, and its address.
-#[derive(Clone, Copy, Debug, PartialEq, Eq)]
+#[derive(Clone, Copy)]
 pub struct Place {
     pub segment: Segment,
     pub address: u32,

@@ -1,7 +1,7 @@
 //! Why a machine stops at an instruction.
 
 /// Why a machine stops at an instruction.
-#[derive(Clone, Copy, Debug, PartialEq, Eq)]
+#[derive(Clone, Copy)]
 pub enum TrapKind {
     /// An access to no segment that it may touch.
     BadAddress,
@@ -16,7 +16,7 @@ pub enum TrapKind {
 }
 
 /// A trap: its kind, the address that it is about, and the address of the instruction.
-#[derive(Clone, Copy, Debug, PartialEq, Eq)]
+#[derive(Clone, Copy)]
 pub struct Trap {
     pub kind: TrapKind,
     pub address: u32,

@@ -6,7 +6,7 @@ ghost use Rattle.mips_text.specs.Letters.{class_of, start_of};
 use crate::letters::{begins_name, is_blank};
 
 /// What word a byte begins.
-#[derive(Clone, Copy, PartialEq, Eq)]
+#[derive(Clone, Copy)]
 pub(crate) enum Start {
     Name,
     /// A number without a sign.
@@ -23,7 +23,7 @@ pub(crate) enum Start {
 }
 
 /// What stands at a byte.
-#[derive(Clone, Copy, PartialEq, Eq)]
+#[derive(Clone, Copy)]
 pub(crate) enum Class {
     Blank,
     Comment,

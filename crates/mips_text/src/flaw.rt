@@ -7,7 +7,7 @@ use mips_isa::AsmKind;
 use std::alloc::{AllocError, AllocFailed};
 
 /// Why a line was not read.
-#[derive(Clone, Copy, PartialEq, Eq)]
+#[derive(Clone, Copy)]
 pub(crate) enum Flaw {
     /// Memory ran out.
     Memory,

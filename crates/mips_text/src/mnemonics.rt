@@ -10,7 +10,7 @@ use mips_isa::{
 };
 
 /// The first word of a statement that is no directive. It decides which operands follow.
-#[derive(Clone, Copy, PartialEq, Eq)]
+#[derive(Clone, Copy)]
 pub(crate) enum Mnemonic {
     Three(ThreeOp),
     Shift(ShiftOp),

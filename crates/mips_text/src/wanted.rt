@@ -10,7 +10,7 @@ use crate::words::Word;
 use mips_isa::{AsmKind, MOST_DATA_BYTES};
 
 /// The range of a number.
-#[derive(Clone, Copy, PartialEq, Eq)]
+#[derive(Clone, Copy)]
 pub(crate) enum Range {
     /// An immediate that is extended by its sign, or the offset of a branch.
     Signed,
@@ -31,7 +31,7 @@ pub(crate) enum Range {
 }
 
 /// What is wanted at a place.
-#[derive(Clone, Copy, PartialEq, Eq)]
+#[derive(Clone, Copy)]
 pub(crate) enum Wanted {
     Register,
     Number(Range),

@@ -18,7 +18,7 @@ pub trait Breaks {
 }
 
 /// No address.
-#[derive(Clone, Copy, Debug)]
+#[derive(Clone, Copy)]
 pub struct NoBreaks;
 
 impl Breaks for NoBreaks {

@@ -3,7 +3,7 @@
 use mips_isa::Trap;
 
 /// What an instruction leads to.
-#[derive(Clone, Copy, PartialEq, Eq)]
+#[derive(Clone, Copy)]
 pub enum Step {
     /// The next instruction.
     Next,

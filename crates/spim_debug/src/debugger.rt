@@ -28,7 +28,7 @@ use spim_memory::{Limits, Memory};
 use std::alloc::{AllocError, Global};
 
 /// How a debugged run ended.
-#[derive(Clone, Copy, PartialEq, Eq)]
+#[derive(Clone, Copy)]
 pub enum DebugEnd {
     /// As the machine's run ended.
     Halt(Halt),

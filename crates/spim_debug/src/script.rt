@@ -17,7 +17,7 @@ use std::alloc::{AllocError, Global};
 pub const MOST_SCRIPT_BYTES: u64 = 65_536;
 
 /// What a line of a script asks for. Labels are the addresses of their words.
-#[derive(Clone, Copy, Debug, PartialEq, Eq)]
+#[derive(Clone, Copy)]
 pub enum DebugCommand {
     /// To stop before the instruction at this address.
     Break(u32),
@@ -40,7 +40,7 @@ pub enum DebugCommand {
 }
 
 /// What is wrong with a line of a script.
-#[derive(Clone, Copy, Debug, PartialEq, Eq)]
+#[derive(Clone, Copy)]
 pub enum ScriptKind {
     /// It is in no form.
     B1,
@@ -49,14 +49,14 @@ pub enum ScriptKind {
 }
 
 /// The first faulty line of a script, by its number from 1.
-#[derive(Clone, Copy, Debug, PartialEq, Eq)]
+#[derive(Clone, Copy)]
 pub struct ScriptFault {
     pub kind: ScriptKind,
     pub line: u32,
 }
 
 /// Why a script has no commands.
-#[derive(Clone, Copy, Debug, PartialEq, Eq)]
+#[derive(Clone, Copy)]
 pub enum ScriptError {
     Memory,
     Fault(ScriptFault),

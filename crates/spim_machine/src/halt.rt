@@ -3,7 +3,7 @@
 use mips_isa::Trap;
 
 /// How a run ends.
-#[derive(Clone, Copy, PartialEq, Eq)]
+#[derive(Clone, Copy)]
 pub enum Halt {
     /// The program exited with this code.
     Exit(u32),
@@ -18,7 +18,7 @@ pub enum Halt {
 }
 
 /// How a run up to a break address stopped.
-#[derive(Clone, Copy, PartialEq, Eq)]
+#[derive(Clone, Copy)]
 pub struct Stopped {
     /// How it ended. `StepLimit` is that of a run that may go on: its budget was spent, or it came to a break address.
     pub halt: Halt,

@@ -1,7 +1,7 @@
 //! Why an access may not be.
 
 /// Why an access may not be, with its address.
-#[derive(Clone, Copy, PartialEq, Eq)]
+#[derive(Clone, Copy)]
 pub enum MemFault {
     /// The address is no multiple of the size.
     Unaligned(u32),

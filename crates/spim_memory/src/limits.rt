@@ -1,7 +1,7 @@
 //! The sizes of heap and stack.
 
 /// The sizes of heap and stack in bytes: multiples of 1,024 from 4,096 on, up to 256 MiB and 64 MiB.
-#[derive(Clone, Copy, Debug, PartialEq, Eq)]
+#[derive(Clone, Copy)]
 pub struct Limits {
     pub heap: u32,
     pub stack: u32,

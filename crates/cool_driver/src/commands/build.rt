@@ -25,7 +25,7 @@ use mips_text::print_asm;
 use std::alloc::Global;
 
 /// The form in which a compiled program is written.
-#[derive(Clone, Copy, Debug, PartialEq, Eq)]
+#[derive(Clone, Copy)]
 pub enum Form {
     /// Assembly text.
     Text,
