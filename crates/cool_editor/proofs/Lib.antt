@@ -1,3 +1,4 @@
 mod FreshDevices
 mod ShortNames
 mod TreesOfTokens
+mod WordsAsked

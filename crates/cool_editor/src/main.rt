@@ -2,7 +2,8 @@
 //! `cool_editor --code FILES` where the code of each expression of the program stands, and which names are in scope there.
 //!
 //! Comes in: a form, and names of files. Goes out: a line for each mark of `cool_names`, as `specs/Lines.antt` defines it, or the table of code of
-//! `cool_emit`, or a status. It meets `specs/Ends.antt`, and over the system's files and streams `specs/Processes.antt`.
+//! `cool_emit`, or a status. It meets `specs/Ends.antt`; `perform` is all that it does where the words are text, and its clause is the promise over
+//! the system's files and streams (`specs/Processes.antt`).
 #![tactic(auto)]
 
 mod answer;
@@ -14,10 +15,9 @@ mod note;
 mod process;
 
 use cool_ports::StdSink;
-use cool_sources::{Status, call_of, tell};
-use form::Form;
+use cool_sources::{Status, tell};
 use note::BAD_COMMAND_LINE;
-use process::list_over_system;
+use process::perform;
 use std::alloc::Global;
 use std::io::ErrorKind;
 use std::process::ExitCode;
@@ -25,20 +25,14 @@ use std::{env, io};
 
 fn main(rt: HostRuntime) -> ExitCode {
     let status = match words(&rt) {
-        Ok(words) => match call_of("--code", &words) {
-            Some(call) => {
-                let form = if call.other { Form::Code } else { Form::Marks };
-                list_over_system(rt.alloc(), form, call.names, &rt, rt.stdout(), rt.stderr()).status
-            }
-            None => bad_command_line(&rt),
-        },
+        Ok(words) => perform(rt.alloc(), &words, &rt, rt.stdout(), rt.stderr()).status,
         Err(error) if error.kind() == ErrorKind::OutOfMemory => Status::Memory,
         Err(_) => bad_command_line(&rt),
     };
     ExitCode::from(status.code())
 }
 
-/// Notes that the words are no command line, and answers how that ended.
+/// Notes that the words are no text, and so no command line, and answers how that ended.
 fn bad_command_line(rt: &HostRuntime) -> Status {
     tell(
         &mut StdSink::new(rt.stderr()),

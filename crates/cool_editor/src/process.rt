@@ -3,13 +3,14 @@
 ghost use Rattle.std.specs.Prelude.{◌≡◌, ◌≢◌, ◌⊎◌, [], map, string_bytes, Some};
 ghost use Rattle.cool_ports.specs.ShelfFiles.{AskedFront};
 ghost use Rattle.cool_sources.specs.GivenFiles.{WereUnread};
-ghost use Rattle.cool_editor.specs.Ends.{note_of};
-ghost use Rattle.cool_editor.specs.Processes.{HasListed, HasRefused, WasCutShort};
+ghost use Rattle.cool_editor.specs.Ends.{IsNoCall, note_of};
+ghost use Rattle.cool_sources.specs.CommandLine.{words_of};
+ghost use Rattle.cool_editor.specs.Processes.{HasEnded, HasListed, HasRefused, WasCutShort, form_asked, names_asked};
 
 use crate::form::Form;
 use crate::listing::list_names;
 use cool_ports::{FileShelf, Shelf, Sink, StdSink};
-use cool_sources::Status;
+use cool_sources::{Status, call_of};
 use std::alloc::Global;
 use std::io::Write;
 use std::rt::Files;
@@ -44,6 +45,9 @@ pub fn list_over_system<R: Files, O: Write, E: Write>(
     // The files that were given are no class table, or no program.
     ensures refused { result.status ≡ Status.Refused
         → HasRefused form (map string_bytes names.now) (⟦<FileShelf<R> as Shelf>⟧.asked result.files) (⟦<FileShelf<R> as Shelf>⟧.gave result.files) }
+    // There is no name, or one that does not fit the form.
+    ensures usage { result.status ≡ Status.Usage → IsNoCall form (map string_bytes names.now) }
+    ensures no_name { names.now ≡ [] → (result.status ≡ Status.Usage) ⊎ (result.status ≡ Status.WriteFault) }
     // There are too many names, or the file that was last asked for was not given.
     ensures file_fault { result.status ≡ Status.FileFault
         → WereUnread (map string_bytes names.now) (⟦<FileShelf<R> as Shelf>⟧.asked result.files) (⟦<FileShelf<R> as Shelf>⟧.gave result.files) }
@@ -68,5 +72,27 @@ pub fn list_over_system<R: Files, O: Write, E: Write>(
         files,
         out,
         notes,
+    }
+}
+
+/// Does what the words of a command line ask for, over a runtime's files and the writers of the output and of the notes. Words that are no command
+/// line end as those without a name do.
+pub fn perform<R: Files, O: Write, E: Write>(
+    alloc: Global,
+    words: &[String],
+    files: R,
+    out: O,
+    notes: E,
+) -> Process<R, O, E>
+    ensures ended { HasEnded (form_asked (words_of words.now)) (names_asked (words_of words.now))
+        (⟦<FileShelf<R> as Shelf>⟧.asked result.files) (⟦<FileShelf<R> as Shelf>⟧.gave result.files) result.status
+        (⟦<StdSink<O> as Sink>⟧.held result.out) (⟦<StdSink<O> as Sink>⟧.puts result.out) (⟦<StdSink<E> as Sink>⟧.held result.notes) }
+{
+    match call_of("--code", words) {
+        Some(call) => {
+            let form = if call.other { Form::Code } else { Form::Marks };
+            list_over_system(alloc, form, call.names, files, out, notes)
+        }
+        None => list_over_system(alloc, Form::Marks, &[], files, out, notes),
     }
 }

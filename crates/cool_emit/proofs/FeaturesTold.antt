@@ -28,7 +28,7 @@ use Rattle.cool_emit.specs.TableLines.{named_text, row_line}
 use Rattle.cool_emit.specs.Tellings.{TellsFeatures, addresses, constants}
 use Rattle.cool_emit.specs.declared.code_table.Told.{Told}
 use Rattle.cool_emit.specs.declared.emission.Emission.{Emission}
-use Rattle.cool_emit.proofs.RowsStanding.{within}
+use Rattle.cool_emit.proofs.PartsOfLines.{within}
 use Rattle.cool_emit.proofs.SpansOfPrograms.{all_mapped}
 use Rattle.cool_emit.proofs.TellingParts.{address_at, all_sizes, same_sizes, take_front}
 
@@ -98,6 +98,9 @@ module _ (e : Emission) (c : ClassId) (k : ℕ) (x : Feature) (g : Constants) (o
 
     same : kinds own ≡ kinds (feature_code s (constants e) x)
     same = ap kinds lines ∙ kinds_of_feature s g (constants e) x
+
+    pub own_sizes : sizes own ≡ sizes (feature_code s (constants e) x)
+    own_sizes = all_sizes own (feature_code s (constants e) x) same
 
     -- so the addresses are those of its rows
     pub feature_told : (old new : Told) (to : ℕ) → to ≡ old.address + sizes own → new.address ≡ to

@@ -46,6 +46,12 @@ mod PassesEnd
 pub mod SpansOfPrograms
 mod KindsInAll
 mod TellingParts
+mod BranchesPut
+mod PartsOfLines
+mod SpansByAddress
 mod RowsStanding
+pub mod RowsOfSpans
+mod RoomOfTables
 mod FeaturesTold
+mod ScopesOfRows
 mod ClassesTold

@@ -1,15 +1,16 @@
 -- The rows of the table of code are true of each machine in whose text the program stands.
-use Rattle.std.proofs.Common.{◌≡◌, ◌∙◌, ℕ, suc, ◌+◌, ◌≤◌, List, [], ◌∷◌, ◌++◌, length, flat_map, map, take, refl, sym, ap, subst, append-nil, append_assoc, arith}
+use Rattle.std.proofs.Common.{◌≡◌, ◌∙◌, ℕ, suc, ◌+◌, ◌≤◌, ◌<◌, List, [], ◌∷◌, ◌++◌, length, flat_map, map, take, slice_get, refl, sym, ap, subst, append-nil, append_assoc, arith}
 use Rattle.std.specs.Prelude.{Option, Some, None, Contains}
 use Rattle.std.specs.List.{AllByRecursion}
 use Rattle.std.proofs.lemmas.List.{length-append}
 use Rattle.cool_syntax.specs.declared.file_tree.Feature.{Feature}
 use Rattle.cool_syntax.specs.declared.file_tree.Feature.TheVariants.{Method, Attribute}
+use Rattle.cool_syntax.specs.declared.file_tree.MethodDef.{MethodDef}
 use Rattle.cool_syntax.specs.Tree.{Tree}
 use Rattle.mips_isa.specs.declared.address_map.TheConstants.{TEXT_START}
 use Rattle.mips_isa.specs.Lines.{Line}
 use Rattle.cool_classes.specs.declared.class_id.ClassId.{ClassId}
-use Rattle.cool_classes.specs.Chains.{Class}
+use Rattle.cool_classes.specs.Chains.{Class, features_of}
 use Rattle.cool_runtime.specs.Reaches.{World}
 use Rattle.cool_runtime.specs.Standing.{sizes, HasLines}
 use Rattle.cool_runtime.proofs.Pieces.{has_front, has_back}
@@ -23,10 +24,13 @@ use Rattle.cool_codegen.proofs.SpansStand.{behind_front, behind_back, behind_sta
 use Rattle.cool_emit.specs.CodeTables.{Row, attribute_row, initial_row, method_row, formal_row, class_rows, head_rows, initial_rows, behind, shown_row, feature_rows}
 use Rattle.cool_emit.specs.Programs.{Placed, placed_code, program_constants}
 use Rattle.cool_emit.specs.SpansOfPrograms.{context_of}
-use Rattle.cool_emit.specs.StandingRows.{StandsBetween, HasFeature, IsTrue, RowsStand}
+use Rattle.cool_emit.specs.StandingRows.{StandsBetween, HasFeature, IsFeatureOf, IsTrue, RowsStand}
+use Rattle.cool_emit.proofs.ConstantsInRange.{numbers_low}
 use Rattle.cool_emit.proofs.SpansOfPrograms.{all_mapped, in_text}
-use Rattle.cool_emit.proofs.TellingParts.{sizes_append, take_front}
+use Rattle.cool_emit.proofs.PartsOfLines.{front_taken, both_taken}
+use Rattle.cool_emit.proofs.TellingParts.{sizes_append}
 use Rattle.lists.proofs.AllItems.{all_append}
+use Rattle.lists.proofs.Membership.{later_there}
 
 -- what holds of each with what else does
 pub member_all : {X : Type 0} (P Q : X → Type 0) (xs : List X) → AllByRecursion P xs → ((x : X) → Contains xs x → P x → Q x) → AllByRecursion Q xs
@@ -36,37 +40,24 @@ member_all {X = X} P Q (x ∷ xs) all h = (h x (0, omega arith, refl) all.0, mem
     later : (y : X) → Contains xs y → Contains (x ∷ xs) y
     later y (k, less, is) = (suc k, omega arith, is)
 
--- what stands behind so many lines stands behind these lines
-module _ (text part : List Line) (n : ℕ) (h : StandsBehind text n part) where
-  pub front_taken : h.front ≡ take n text
-  front_taken = sym (ap (take n) h.whole ∙ ap (λ (k : ℕ). take k (h.front ++ (part ++ h.rest))) (sym h.many) ∙ take_front h.front (part ++ h.rest))
-
-  pub both_taken : take (n + length part) text ≡ h.front ++ part
-  both_taken =
-      ap (take (n + length part)) (h.whole ∙ sym (append_assoc h.front part h.rest))
-      ∙ ap (λ (k : ℕ). take k ((h.front ++ part) ++ h.rest)) (let l = length-append h.front part in let m = h.many in omega arith)
-      ∙ take_front (h.front ++ part) h.rest
-
-  pub within : n + length part ≤ length text
-  within =
-      let l = ap length h.whole ∙ length-append h.front (part ++ h.rest) in
-      let r = length-append part h.rest in
-      let m = h.many in omega arith
-
 module _ (w : World) (p : List Class) (files : List (List ℕ)) where
-  of_class : (cs : List ClassId) → AllByRecursion (IsTrue w p files) (flat_map (class_rows p) cs)
-  of_class [] = tt
-  of_class (c ∷ cs) = (tt, all_append (IsTrue w p files) (map attribute_row (scopes.attributes_in p c)) (flat_map (class_rows p) cs) (attributes (scopes.attributes_in p c)) (of_class cs))
+  of_class : (cs : List ClassId) → AllByRecursion (λ (c : ClassId). c.0 < length p) cs → AllByRecursion (IsTrue w p files) (flat_map (class_rows p) cs)
+  of_class [] low = tt
+  of_class (c ∷ cs) low = (
+    (c, low.0, refl),
+    all_append (IsTrue w p files) (map attribute_row (scopes.attributes_in p c)) (flat_map (class_rows p) cs) (attributes (scopes.attributes_in p c) (λ v there. there)) (of_class cs low.1),
+  )
     where
-      attributes : (vs : List Named) → AllByRecursion (IsTrue w p files) (map attribute_row vs)
-      attributes [] = tt
-      attributes (v ∷ vs) = (tt, attributes vs)
+      attributes : (vs : List Named) → ((v : Named) → Contains vs v → Contains (scopes.attributes_in p c) v) → AllByRecursion (IsTrue w p files) (map attribute_row vs)
+      attributes [] within = tt
+      attributes (v ∷ vs) within = ((c, low.0, within v (0, omega arith, refl)), attributes vs (λ u there. within u (later_there v vs u there)))
 
-  of_formals : (vs : List Named) → AllByRecursion (IsTrue w p files) (map formal_row vs)
-  of_formals [] = tt
-  of_formals (v ∷ vs) = (tt, of_formals vs)
+  of_formals : (c : ClassId) (k : ℕ) (m : MethodDef) → slice_get (features_of p c) k ≡ Some (Method m) → (vs : List Named)
+      → ((v : Named) → Contains vs v → Contains (scopes.with_formals p m.formals []) v) → AllByRecursion (IsTrue w p files) (map formal_row vs)
+  of_formals c k m has [] within = tt
+  of_formals c k m has (v ∷ vs) within = ((c, k, m, has, within v (0, omega arith, refl)), of_formals c k m has vs (λ u there. within u (later_there v vs u there)))
 
-  module _ (c : ClassId) (pc : ℕ) (f : Placed) (has : HasLines w pc (placed_code p files (program_constants p files) c f)) where
+  module _ (c : ClassId) (pc : ℕ) (f : Placed) (is_feature : IsFeatureOf p c f) (has : HasLines w pc (placed_code p files (program_constants p files) c f)) where
     abbrev lines : List Line
     lines = placed_code p files (program_constants p files) c f
 
@@ -83,12 +74,12 @@ module _ (w : World) (p : List Class) (files : List (List ℕ)) where
 
         by : (x : Feature) → f.feature ≡ x → AllByRecursion (IsTrue w p files) (head_rows p pc (pc + sizes lines) x)
         by (Method m) e = (
-          record { class = c; feature = f; is = subst (λ (x : Feature). Contains (head_rows p pc (pc + sizes lines) x) (method_row pc (pc + sizes lines) m.name)) (sym e) (0, omega arith, refl); stands = stands },
-          of_formals (scopes.with_formals p m.formals []),
+          record { class = c; feature = f; has = is_feature; is = subst (λ (x : Feature). Contains (head_rows p pc (pc + sizes lines) x) (method_row pc (pc + sizes lines) m.name)) (sym e) (0, omega arith, refl); stands = stands },
+          of_formals c f.place m (subst (λ (x : Feature). slice_get (features_of p c) f.place ≡ Some x) e is_feature) (scopes.with_formals p m.formals []) (λ v there. there),
         )
         by (Attribute a) e =
             of_initial a.name a.init
-            (λ row there. record { class = c; feature = f; is = subst (λ (x : Feature). Contains (head_rows p pc (pc + sizes lines) x) row) (sym e) there; stands = stands })
+            (λ row there. record { class = c; feature = f; has = is_feature; is = subst (λ (x : Feature). Contains (head_rows p pc (pc + sizes lines) x) row) (sym e) there; stands = stands })
 
     -- what stands behind so many of the lines stands at the address behind those
     of_span : (x : Span) → Contains (feature_spans length (context_of p files c f.place) (program_constants p files) 0 f.feature) x
@@ -102,6 +93,7 @@ module _ (w : World) (p : List Class) (files : List (List ℕ)) where
         record {
           class = c;
           feature = f;
+          has = is_feature;
           span = x;
           within = there;
           is = refl;
@@ -125,5 +117,5 @@ rows_stand w p files has =
     let g = program_constants p files in
     let front : (xs ys : List Line) (pc : ℕ) → HasLines w pc (xs ++ ys) → HasLines w pc xs = has_front w in
     let back : (xs ys : List Line) (pc : ℕ) → HasLines w pc (xs ++ ys) → HasLines w (pc + sizes xs) ys = λ xs ys pc h. has_back w xs ys pc (pc + sizes xs) refl h in
-    all_append (IsTrue w p files) (flat_map (class_rows p) (numbers_from 0 (length p))) _ (of_class w p files (numbers_from 0 (length p)))
+    all_append (IsTrue w p files) (flat_map (class_rows p) (numbers_from 0 (length p))) _ (of_class w p files (numbers_from 0 (length p)) (numbers_low 0 (length p) (length p) (omega arith)))
     (in_text sizes (HasLines w) front back p files g (feature_rows p files g) (IsTrue w p files) (of_feature w p files) TEXT_START has)

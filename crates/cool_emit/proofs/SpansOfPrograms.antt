@@ -1,11 +1,13 @@
 -- In the text of a program each span is the code of its tree, in its class and its feature.
-use Rattle.std.proofs.Common.{ℕ, ◌+◌, List, [], ◌∷◌, ◌++◌, length, flat_map, map, Bool as Truth, true, false, refl, sym, append-nil}
+use Rattle.std.proofs.Common.{◌≡◌, ℕ, suc, ◌+◌, List, [], ◌∷◌, ◌++◌, length, flat_map, map, slice_get, Some, Bool as Truth, true, false, refl, sym, subst, append-nil, arith}
 use Rattle.std.specs.Prelude.{nat_lt, if◌then◌else◌, Contains}
 use Rattle.std.specs.List.{AllByRecursion}
 use Rattle.std.proofs.lemmas.List.Elements.{All-contains, All-from_recursion}
+use Rattle.cool_syntax.specs.declared.file_tree.Feature.{Feature}
+use Rattle.cool_syntax.specs.declared.file_tree.Feature.TheVariants.{Method, Attribute}
 use Rattle.mips_isa.specs.Lines.{Line}
 use Rattle.cool_classes.specs.declared.class_id.ClassId.{ClassId}
-use Rattle.cool_classes.specs.Chains.{Class, parent_of}
+use Rattle.cool_classes.specs.Chains.{Class, features_of, parent_of}
 use Rattle.cool_runtime.specs.CodeOfCalls.{enter_lines}
 use Rattle.cool_runtime.specs.Reaches.{World}
 use Rattle.cool_runtime.specs.RoutineLines.{all_routine_lines}
@@ -15,8 +17,9 @@ use Rattle.cool_layout.specs.Preorder.{numbers_from}
 use Rattle.cool_layout.specs.Labels.{initializer}
 use Rattle.cool_consts.specs.Constants.{Constants}
 use Rattle.cool_codegen.specs.Pieces.{begin_init_lines, return_basic_lines}
-use Rattle.cool_emit.specs.Programs.{Placed, attributes_in, methods_in, placed_code, parent_code, initializer_code, class_code, classes_code, end_code, program_constants, program_text}
-use Rattle.lists.proofs.AllItems.{all_append}
+use Rattle.cool_emit.specs.Programs.{Placed, attributes_from, methods_from, attributes_in, methods_in, placed_code, parent_code, initializer_code, class_code, classes_code, end_code, program_constants, program_text}
+use Rattle.cool_emit.specs.StandingRows.{IsFeatureOf}
+use Rattle.lists.proofs.AllItems.{all_append, all_then}
 use Rattle.cool_codegen.specs.Spans.{Span, StandsBehind, along, feature_spans}
 use Rattle.cool_emit.specs.SpansOfPrograms.{SpanOf, context_of, lines_of_span, placed_spans, initializer_spans, text_spans, told_in_class, told_in_initializer, told_in_text, program_spans}
 use Rattle.cool_codegen.proofs.SpansStand.{behind_front, behind_back}
@@ -26,19 +29,52 @@ pub all_mapped : {X Y : Type 0} (P : X → Type 0) (Q : Y → Type 0) (f : X →
 all_mapped P Q f [] h all = tt
 all_mapped P Q f (x ∷ xs) h all = (h x all.0, all_mapped P Q f xs h all.1)
 
+-- The attributes and the methods of a class are features of it, each at its place
+
+abbrev at_place : ℕ → List Feature → Placed → Type 0
+at_place k fs f = (j : ℕ) × (f.place ≡ k + j) × (slice_get fs j ≡ Some f.feature)
+
+one_on : (k : ℕ) (x : Feature) (fs : List Feature) (f : Placed) → at_place (k + 1) fs f → at_place k (x ∷ fs) f
+one_on k x fs f (j, e, is) = (suc j, omega arith, is)
+
+attributes_at : (k : ℕ) (fs : List Feature) → AllByRecursion (at_place k fs) (attributes_from k fs)
+attributes_at k [] = tt
+attributes_at k (Method m ∷ fs) = all_then (at_place (k + 1) fs) (at_place k (Method m ∷ fs)) (attributes_from (k + 1) fs) (one_on k (Method m) fs) (attributes_at (k + 1) fs)
+attributes_at k (Attribute a ∷ fs) = ((0, omega arith, refl), all_then (at_place (k + 1) fs) (at_place k (Attribute a ∷ fs)) (attributes_from (k + 1) fs) (one_on k (Attribute a) fs) (attributes_at (k + 1) fs))
+
+methods_at : (k : ℕ) (fs : List Feature) → AllByRecursion (at_place k fs) (methods_from k fs)
+methods_at k [] = tt
+methods_at k (Attribute a ∷ fs) = all_then (at_place (k + 1) fs) (at_place k (Attribute a ∷ fs)) (methods_from (k + 1) fs) (one_on k (Attribute a) fs) (methods_at (k + 1) fs)
+methods_at k (Method m ∷ fs) = ((0, omega arith, refl), all_then (at_place (k + 1) fs) (at_place k (Method m ∷ fs)) (methods_from (k + 1) fs) (one_on k (Method m) fs) (methods_at (k + 1) fs))
+
+module _ (p : List Class) (c : ClassId) where
+  there : (f : Placed) → at_place 0 (features_of p c) f → IsFeatureOf p c f
+  there f (j, e, is) = let same : j ≡ f.place = omega arith in subst (λ i. slice_get (features_of p c) i ≡ Some f.feature) same is
+
+  pub attributes_are_features : AllByRecursion (IsFeatureOf p c) (attributes_in p c)
+  attributes_are_features = all_then (at_place 0 (features_of p c)) (IsFeatureOf p c) (attributes_in p c) there (attributes_at 0 (features_of p c))
+
+  pub methods_are_features : AllByRecursion (IsFeatureOf p c) (methods_in p c)
+  methods_are_features = all_then (at_place 0 (features_of p c)) (IsFeatureOf p c) (methods_in p c) there (methods_at 0 (features_of p c))
+
 -- what holds of each that is told of a feature, where its code has what that asks for, holds of each that is told of a program
 module _ (size : List Line → ℕ) (P : ℕ → List Line → Type 0)
     (front : (xs ys : List Line) (pc : ℕ) → P pc (xs ++ ys) → P pc xs)
     (back : (xs ys : List Line) (pc : ℕ) → P pc (xs ++ ys) → P (pc + size xs) ys)
     (p : List Class) (files : List (List ℕ)) (g : Constants) {X : Type 0} (told : ClassId → ℕ → Placed → List X) (Q : X → Type 0)
-    (each : (c : ClassId) (pc : ℕ) (f : Placed) → P pc (placed_code p files g c f) → AllByRecursion Q (told c pc f))
+    (each : (c : ClassId) (pc : ℕ) (f : Placed) → IsFeatureOf p c f → P pc (placed_code p files g c f) → AllByRecursion Q (told c pc f))
   where
-    in_features : (c : ClassId) (pc : ℕ) (fs : List Placed) → P pc (flat_map (placed_code p files g c) fs) → AllByRecursion Q (along size (placed_code p files g c) (told c) pc fs)
-    in_features c = law_along size P front back (context_of p files c 0) g Q (placed_code p files g c) (told c) (each c)
+    in_features : (c : ClassId) (pc : ℕ) (fs : List Placed) → AllByRecursion (IsFeatureOf p c) fs → P pc (flat_map (placed_code p files g c) fs)
+        → AllByRecursion Q (along size (placed_code p files g c) (told c) pc fs)
+    in_features c pc [] all has = tt
+    in_features c pc (f ∷ fs) all has =
+        let own = placed_code p files g c f in
+        let rest = flat_map (placed_code p files g c) fs in
+        all_append Q (told c pc f) _ (each c pc f all.0 (front own rest pc has)) (in_features c (pc + size own) fs all.1 (back own rest pc has))
 
     pub in_initializer : (pc : ℕ) (c : ClassId) → P pc (initializer_code p files g c) → AllByRecursion Q (told_in_initializer size p files g told pc c)
     in_initializer pc c has =
-        by (begin_init_lines (initializer p c)) (parent_code p (parent_of p c)) (flat_map (placed_code p files g c) (attributes_in p c)) (λ q. in_features c q (attributes_in p c)) (nat_lt c.0 5) has
+        by (begin_init_lines (initializer p c)) (parent_code p (parent_of p c)) (flat_map (placed_code p files g c) (attributes_in p c)) (λ q. in_features c q (attributes_in p c) (attributes_are_features p c)) (nat_lt c.0 5) has
       where
         by : (begin parent own : List Line) → ((q : ℕ) → P q own → AllByRecursion Q (along size (placed_code p files g c) (told c) q (attributes_in p c)))
             → (b : Truth) → P pc (if b then return_basic_lines (initializer p c) else begin ++ (enter_lines ++ (parent ++ (own ++ end_code))))
@@ -49,7 +85,7 @@ module _ (size : List Line → ℕ) (P : ℕ → List Line → Type 0)
     in_class : (pc : ℕ) (c : ClassId) → P pc (class_code p files g c) → AllByRecursion Q (told_in_class size p files g told pc c)
     in_class pc c has =
         let first = initializer_code p files g c in
-        all_append Q (told_in_initializer size p files g told pc c) _ (in_initializer pc c (front first _ pc has)) (in_features c _ (methods_in p c) (back first _ pc has))
+        all_append Q (told_in_initializer size p files g told pc c) _ (in_initializer pc c (front first _ pc has)) (in_features c _ (methods_in p c) (methods_are_features p c) (back first _ pc has))
 
     pub in_text : (pc : ℕ) → P pc (all_routine_lines ++ classes_code p files g) → AllByRecursion Q (told_in_text size p files g told pc)
     in_text pc has =
@@ -64,8 +100,8 @@ module _ (size : List Line → ℕ) (P : ℕ → List Line → Type 0)
     abbrev pub StandsIn : SpanOf → Type 0
     StandsIn x = P x.span.from (lines_of_span p files g x)
 
-    placed_stand : (c : ClassId) (pc : ℕ) (f : Placed) → P pc (placed_code p files g c f) → AllByRecursion StandsIn (placed_spans size p files g c pc f)
-    placed_stand c pc f has =
+    placed_stand : (c : ClassId) (pc : ℕ) (f : Placed) → IsFeatureOf p c f → P pc (placed_code p files g c f) → AllByRecursion StandsIn (placed_spans size p files g c pc f)
+    placed_stand c pc f of_class has =
         all_mapped (Stands size P front back (context_of p files c f.place) g) StandsIn (λ (x : Span). record { class = c; feature = f.place; span = x })
         (feature_spans size (context_of p files c f.place) g pc f.feature) (λ x h. h) (law_feature size P front back (context_of p files c f.place) g pc f.feature has)
 

@@ -9,3 +9,4 @@ pub mod CodeTables
 pub mod TableLines
 pub mod Tellings
 pub mod StandingRows
+pub mod RowsOfSpans

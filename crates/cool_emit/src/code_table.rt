@@ -1,6 +1,6 @@
 //! The table of code of a program.
 
-ghost use Rattle.std.specs.Prelude.{◌≡◌, ◌+◌, ◌++◌, ◌<◌, ◌≤◌, ◌∷◌, [], codes, flat_map, get_or, length, map, slice_get, string_bytes, take, IfOk, List, OnOk, Some};
+ghost use Rattle.std.specs.Prelude.{◌≡◌, ◌+◌, ◌++◌, ◌<◌, ◌≤◌, ◌^◌, ◌∷◌, [], codes, flat_map, get_or, length, map, slice_get, string_bytes, take, IfOk, List, OnOk, Some};
 ghost use Rattle.std.specs.List.{AllByRecursion};
 ghost use Rattle.mips_isa.specs.Lines.{line_of, lines_of};
 ghost use Rattle.cool_syntax.specs.declared.file_tree.Feature as syntax;
@@ -14,9 +14,10 @@ ghost use Rattle.cool_codegen.specs.Variables.{Named};
 ghost use Rattle.cool_emit.specs.Additions.{files_of, part_of, IsSound};
 ghost use Rattle.cool_emit.specs.CodeTables.{class_rows, code_row, head_rows};
 ghost use Rattle.cool_emit.specs.FileNames.{AreShortNames};
+ghost use Rattle.cool_emit.specs.Programs.{class_code, initializer_code, placed_code};
 ghost use Rattle.cool_emit.specs.SpansOfPrograms.{context_of};
 ghost use Rattle.cool_emit.specs.TableLines.{named_text, row_line, table_text};
-ghost use Rattle.cool_emit.specs.Tellings.{addresses, TellsClass, TellsFeatures, TellsInitializer};
+ghost use Rattle.cool_emit.specs.Tellings.{addresses, constants, TellsClass, TellsFeatures, TellsInitializer};
 
 use crate::emission::{Emission, Part};
 use crate::initializer::{BASIC_CLASSES, add_basic, add_begin, add_end};
@@ -67,7 +68,7 @@ fn table_of(emission: &Emission<'_>) -> Result<Vec<u8>, AllocError>
         text: classes_text(emission)?,
         address: TEXT_START,
     };
-    told.pass(&routines(emission.alloc)?)?;
+    told.pass(&routines(emission.alloc)?);
     for number in 0..emission.table().count() {
         told.add_class(emission, ClassId(number))?;
     }
@@ -141,20 +142,21 @@ fn add_name(
 
 impl Told {
     /// Passes code of which nothing is told.
-    fn pass(&mut self, lines: &[Line]) -> Result<(), AllocError>
-        ensures address { OnOk result (self.new.address ≡ self.old.address + sizes (lines_of lines.now)) }
+    fn pass(&mut self, lines: &[Line])
+        requires room { self.old.address + sizes (lines_of lines.now) < 2 ^ 32 }
+        ensures address { self.new.address ≡ self.old.address + sizes (lines_of lines.now) }
         ensures text { self.new.text ≡ self.old.text }
     {
         for line in lines {
-            self.address = behind(self.address, line)?;
+            self.address = behind(self.address, line);
         }
-        Ok(())
     }
 
     /// Tells of the code of a class. `Err` comes only for want of memory.
     fn add_class(&mut self, emission: &Emission<'_>, c: ClassId) -> Result<(), AllocError>
         requires sound { IsSound emission.now }
         requires class { c.0 < length emission.now.program.now }
+        requires room { self.old.address + sizes (class_code emission.now.program.now (files_of emission.now) (constants emission.now) c) < 2 ^ 32 }
         ensures { OnOk result (TellsClass emission.now c self.old self.new) }
     {
         self.add_initializer(emission, c)?;
@@ -165,19 +167,22 @@ impl Told {
     fn add_initializer(&mut self, emission: &Emission<'_>, c: ClassId) -> Result<(), AllocError>
         requires sound { IsSound emission.now }
         requires class { c.0 < length emission.now.program.now }
+        requires room { self.old.address + sizes (initializer_code emission.now.program.now (files_of emission.now) (constants emission.now) c) < 2 ^ 32 }
         ensures { OnOk result (TellsInitializer emission.now c self.old self.new) }
     {
         let mut lines = Vec::new(emission.alloc);
         if c.0 < BASIC_CLASSES {
             add_basic(emission, c, &mut lines)?;
-            return self.pass(&lines);
+            self.pass(&lines);
+            return Ok(());
         }
         add_begin(emission, c, &mut lines)?;
-        self.pass(&lines)?;
+        self.pass(&lines);
         self.add_features(emission, c, Part::Attributes)?;
         let mut lines = Vec::new(emission.alloc);
         add_end(emission.alloc, &mut lines)?;
-        self.pass(&lines)
+        self.pass(&lines);
+        Ok(())
     }
 
     /// Tells of the features of a class that belong to a part. `Err` comes only for want of memory.
@@ -189,6 +194,7 @@ impl Told {
     ) -> Result<(), AllocError>
         requires sound { IsSound emission.now }
         requires class { c.0 < length emission.now.program.now }
+        requires room { self.old.address + sizes (flat_map (placed_code emission.now.program.now (files_of emission.now) (constants emission.now) c) (part_of part emission.now.program.now c)) < 2 ^ 32 }
         ensures { OnOk result (TellsFeatures emission.now c (part_of part emission.now.program.now c) self.old self.new) }
     {
         let features = emission.table().features(c);
@@ -210,6 +216,8 @@ impl Told {
         requires sound { IsSound emission.now }
         requires class { c.0 < length emission.now.program.now }
         requires feature { feature < length (features_of emission.now.program.now c) }
+        requires room { (x : syntax.Feature) → slice_get (features_of emission.now.program.now c) feature ≡ Some x
+            → self.old.address + sizes (placed_code emission.now.program.now (files_of emission.now) (constants emission.now) c (record { place = feature; feature = x })) < 2 ^ 32 }
         ensures { (x : syntax.Feature) → slice_get (features_of emission.now.program.now c) feature ≡ Some x
             → OnOk result (TellsFeatures emission.now c (record { place = feature; feature = x } ∷ []) self.old self.new) }
     {
@@ -299,12 +307,13 @@ fn head_text(
 
 /// The address of each of these lines, of which the first has this one, and the address behind them. `Err` comes only for want of memory.
 fn addresses(alloc: Global, first: u32, lines: &[Line]) -> Result<Vec<u32>, AllocError>
+    requires room { first + sizes (lines_of lines.now) < 2 ^ 32 }
     ensures { IfOk result (λ all. all.items ≡ addresses first (lines_of lines.now)) }
 {
     let mut address = first;
     let mut all = vec![in alloc; first]?;
     for line in lines {
-        address = behind(address, line)?;
+        address = behind(address, line);
         all.push(address)?;
     }
     Ok(all)
@@ -318,10 +327,10 @@ fn address_at(addresses: &[u32], number: usize) -> u32
     addresses[number]
 }
 
-/// The address behind a line. `Err` comes where it is 2 ^ 32 or more, as in no program within the limits.
-fn behind(address: u32, line: &Line) -> Result<u32, AllocError>
-    ensures { IfOk result (λ next. next ≡ address + size (line_of line.now)) }
+/// The address behind a line.
+fn behind(address: u32, line: &Line) -> u32
+    requires room { address + size (line_of line.now) < 2 ^ 32 }
+    ensures { result ≡ address + size (line_of line.now) }
 {
-    let bytes = 4 * words_of_statement(&line.statement);
-    address.checked_add(bytes).ok_or(AllocError)
+    address + 4 * words_of_statement(&line.statement)
 }

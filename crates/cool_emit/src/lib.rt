@@ -17,7 +17,7 @@ mod section;
 pub use building::build;
 pub use code_table::table;
 pub use kept::MOST_KEPT_LINES;
-pub use laws::law_rows_stand;
+pub use laws::{law_rows_are_spans, law_rows_stand};
 pub use program::lines;
 pub use row::place_text;
 

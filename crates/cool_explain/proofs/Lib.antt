@@ -2,3 +2,4 @@ mod AnswersWritten
 mod FreshDevices
 mod LinesChanged
 mod LinesOfBytes
+mod WordsAsked

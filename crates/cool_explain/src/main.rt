@@ -2,7 +2,8 @@
 //! marked, what is known of the fault, and lines that mend it. `cool_explain --lines FILES` writes the same for programs.
 //!
 //! Comes in: a form, and names of files. Goes out: the explanations of `cool_mend` as `specs/Texts.antt` and `specs/Lines.antt` write them, or a
-//! status. It meets `specs/Ends.antt`, and over the system's files and streams `specs/Processes.antt`.
+//! status. It meets `specs/Ends.antt`; `perform` is all that it does where the words are text, and its clause is the promise over the system's files
+//! and streams (`specs/Processes.antt`).
 #![tactic(auto)]
 
 mod changes;
@@ -18,10 +19,9 @@ mod source_line;
 mod text;
 
 use cool_ports::StdSink;
-use cool_sources::{Status, call_of, tell};
-use form::Form;
+use cool_sources::{Status, tell};
 use note::BAD_COMMAND_LINE;
-use process::explain_over_system;
+use process::perform;
 use std::alloc::Global;
 use std::io::ErrorKind;
 use std::process::ExitCode;
@@ -29,27 +29,14 @@ use std::{env, io};
 
 fn main(rt: HostRuntime) -> ExitCode {
     let status = match words(&rt) {
-        Ok(words) => match call_of("--lines", &words) {
-            Some(call) => {
-                let form = if call.other { Form::Lines } else { Form::Text };
-                explain_over_system(
-                    rt.alloc(),
-                    form,
-                    call.names,
-                    &rt,
-                    rt.stdout(),
-                    rt.stderr(),
-                ).status
-            }
-            None => bad_command_line(&rt),
-        },
+        Ok(words) => perform(rt.alloc(), &words, &rt, rt.stdout(), rt.stderr()).status,
         Err(error) if error.kind() == ErrorKind::OutOfMemory => Status::Memory,
         Err(_) => bad_command_line(&rt),
     };
     ExitCode::from(status.code())
 }
 
-/// Notes that the words are no command line, and answers how that ended.
+/// Notes that the words are no text, and so no command line, and answers how that ended.
 fn bad_command_line(rt: &HostRuntime) -> Status {
     tell(
         &mut StdSink::new(rt.stderr()),

@@ -4,12 +4,13 @@ ghost use Rattle.std.specs.Prelude.{◌≡◌, ◌≢◌, ◌⊎◌, [], map, st
 ghost use Rattle.cool_ports.specs.ShelfFiles.{AskedFront};
 ghost use Rattle.cool_sources.specs.GivenFiles.{WereUnread};
 ghost use Rattle.cool_explain.specs.Ends.{note_of};
-ghost use Rattle.cool_explain.specs.Processes.{HasExplained, WasCutShort};
+ghost use Rattle.cool_sources.specs.CommandLine.{words_of};
+ghost use Rattle.cool_explain.specs.Processes.{HasEnded, HasExplained, WasCutShort, form_asked, names_asked};
 
 use crate::explaining::explain_names;
 use crate::form::Form;
 use cool_ports::{FileShelf, Shelf, Sink, StdSink};
-use cool_sources::Status;
+use cool_sources::{Status, call_of};
 use std::alloc::Global;
 use std::io::Write;
 use std::rt::Files;
@@ -45,6 +46,9 @@ pub fn explain_over_system<R: Files, O: Write, E: Write>(
     ensures refused { result.status ≡ Status.Refused
         → HasExplained true form (map string_bytes names.now) (⟦<FileShelf<R> as Shelf>⟧.asked result.files) (⟦<FileShelf<R> as Shelf>⟧.gave result.files)
         (⟦<StdSink<O> as Sink>⟧.held result.out) }
+    // There is no name.
+    ensures usage { result.status ≡ Status.Usage → names.now ≡ [] }
+    ensures no_name { names.now ≡ [] → (result.status ≡ Status.Usage) ⊎ (result.status ≡ Status.WriteFault) }
     // There are too many names, or the file that was last asked for was not given.
     ensures file_fault { result.status ≡ Status.FileFault
         → WereUnread (map string_bytes names.now) (⟦<FileShelf<R> as Shelf>⟧.asked result.files) (⟦<FileShelf<R> as Shelf>⟧.gave result.files) }
@@ -70,5 +74,27 @@ pub fn explain_over_system<R: Files, O: Write, E: Write>(
         files,
         out,
         notes,
+    }
+}
+
+/// Does what the words of a command line ask for, over a runtime's files and the writers of the output and of the notes. Words that are no command
+/// line end as those without a name do.
+pub fn perform<R: Files, O: Write, E: Write>(
+    alloc: Global,
+    words: &[String],
+    files: R,
+    out: O,
+    notes: E,
+) -> Process<R, O, E>
+    ensures ended { HasEnded (form_asked (words_of words.now)) (names_asked (words_of words.now))
+        (⟦<FileShelf<R> as Shelf>⟧.asked result.files) (⟦<FileShelf<R> as Shelf>⟧.gave result.files) result.status
+        (⟦<StdSink<O> as Sink>⟧.held result.out) (⟦<StdSink<O> as Sink>⟧.puts result.out) (⟦<StdSink<E> as Sink>⟧.held result.notes) }
+{
+    match call_of("--lines", words) {
+        Some(call) => {
+            let form = if call.other { Form::Lines } else { Form::Text };
+            explain_over_system(alloc, form, call.names, files, out, notes)
+        }
+        None => explain_over_system(alloc, Form::Text, &[], files, out, notes),
     }
 }

@@ -34,7 +34,8 @@ use Rattle.cool_rules.proofs.ChainsOfTables.{below_trans, below_itself, chain_wi
 use Rattle.cool_classes.proofs.ChainsOfTables.{chain_is}
 use Rattle.cool_rules.proofs.RulesOfTables.{meant_is}
 use Rattle.cool_meaning.proofs.BasicClasses.{high_inherits}
-use Rattle.cool_meaning.proofs.FittingValues.{World, AreMade, Grown, not_grown, grown_on, still_all_made, Fits, AllFit, meant, attribute_classes}
+use Rattle.cool_meaning.specs.FittingValues.{World, AreMade, Fits, AllFit, meant, attribute_classes}
+use Rattle.cool_meaning.proofs.FittingValues.{Grown, not_grown, grown_on, still_all_made}
 use Rattle.cool_meaning.proofs.SoundComputations.{Sound, locate_all_sound}
 use Rattle.cool_meaning.proofs.SoundMethods.{Any, draw_sound, truth_sound}
 use Rattle.cool_meaning.proofs.MethodsOfTables.{implementation_own, user_own, defined_attribute}

@@ -21,7 +21,8 @@ use Rattle.cool_meaning.specs.Evaluation.{Calls, class_or, same, dispatch, eval,
 use Rattle.cool_rules.proofs.ChainsOfTables.{below_trans, below_itself, chain_within, below_within, implementation_below}
 use Rattle.cool_classes.proofs.ChainsOfTables.{chain_is}
 use Rattle.cool_rules.proofs.NamesOfTables.{class_by_name}
-use Rattle.cool_meaning.proofs.FittingValues.{World, Grown, not_grown, grown_on, Fits, AllFit, still_fits, meant, still_all_fit, below_conforming, class_fits}
+use Rattle.cool_meaning.specs.FittingValues.{World, Fits, AllFit, meant, Scene}
+use Rattle.cool_meaning.proofs.FittingValues.{Grown, not_grown, grown_on, still_fits, still_all_fit, below_conforming, class_fits}
 use Rattle.cool_meaning.proofs.SoundComputations.{Sound, give_sound}
 use Rattle.cool_meaning.proofs.MethodsOfTables.{implementation_own, formals_are_classes}
 use Rattle.cool_syntax.specs.Tree.{Tree, Trees}
@@ -29,7 +30,7 @@ use Rattle.cool_rules.specs.Rules.{class_named}
 use Rattle.cool_meaning.proofs.SoundParts.{class_or_sound, AllCallsSound, arguments_fit}
 use Rattle.cool_syntax.specs.Tree as trees
 use Rattle.cool_fold.proofs.NoMoreMeters.{Keeps, keeps_same, bind_keeps, holding_keeps, rule_keeps}
-use Rattle.cool_meaning.proofs.SoundEvaluation.{Scene, scene_later, eval_sound}
+use Rattle.cool_meaning.proofs.SoundEvaluation.{scene_later, eval_sound}
 use Rattle.cool_syntax.specs.declared.type_ref.TypeRef.{TypeRef}
 use Rattle.cool_fold.specs.Folding.{dispatch_by, is_redefined}
 use Rattle.cool_fold.proofs.FoldedCalls.{SameTables, AllCallsKeep, dispatch_keeps}

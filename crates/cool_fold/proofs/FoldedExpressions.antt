@@ -24,7 +24,8 @@ use Rattle.cool_rules.proofs.ChainsOfTables.{below_within}
 use Rattle.cool_classes.proofs.ChainsOfTables.{chain_is}
 use Rattle.cool_rules.proofs.NamesOfTables.{class_by_name}
 use Rattle.cool_rules.proofs.RulesOfTables.{meant_is}
-use Rattle.cool_meaning.proofs.FittingValues.{World, grown_on, Fits, AllFit, still_fits, fits_above, class_fits}
+use Rattle.cool_meaning.specs.FittingValues.{World, Fits, AllFit, Scene}
+use Rattle.cool_meaning.proofs.FittingValues.{grown_on, still_fits, fits_above, class_fits}
 use Rattle.cool_meaning.proofs.SoundComputations.{fewer_sound, locate_sound}
 use Rattle.cool_meaning.proofs.SoundMethods.{Any, truth_sound}
 use Rattle.cool_syntax.specs.Tree.{Tree, Trees, MaybeTree, Cases, Last, More, Without, With, NoCase, CaseOf}
@@ -33,7 +34,7 @@ use Rattle.cool_rules.specs.Rules.{class_named}
 use Rattle.cool_meaning.proofs.SoundParts.{wider_sound, class_or_sound, AllCallsSound}
 use Rattle.cool_syntax.specs.Tree as trees
 use Rattle.cool_fold.proofs.NoMoreMeters.{Keeps, keeps_same, keeps_then, bind_keeps, working_keeps, holding_keeps, rule_keeps, fewer_keeps, if_keeps}
-use Rattle.cool_meaning.proofs.SoundEvaluation.{Scene, scene_later, scene_with, eval_sound, all_sound, init_sound}
+use Rattle.cool_meaning.proofs.SoundEvaluation.{scene_later, scene_with, eval_sound, all_sound, init_sound}
 use Rattle.cool_rules.proofs.RulesDecided.{denotes_type}
 use Rattle.cool_rules.specs.StaticTypes.{type_of}
 use Rattle.cool_fold.specs.Folding.{fold, fold_all, fold_maybe, fold_cases, dispatch_by}

@@ -13,7 +13,8 @@ use Rattle.cool_meaning.specs.Evaluation.{class_or, same, make, eval}
 use Rattle.cool_rules.proofs.ChainsOfTables.{below_itself, implementation_below}
 use Rattle.cool_classes.proofs.ChainsOfTables.{chain_is}
 use Rattle.cool_rules.proofs.NamesOfTables.{class_by_name}
-use Rattle.cool_meaning.proofs.FittingValues.{Fits, AllFit, still_fits, meant, class_fits}
+use Rattle.cool_meaning.specs.FittingValues.{Fits, AllFit, meant}
+use Rattle.cool_meaning.proofs.FittingValues.{still_fits, class_fits}
 use Rattle.cool_meaning.proofs.SoundComputations.{Sound, give_sound}
 use Rattle.cool_rules.specs.Rules.{class_named}
 use Rattle.cool_meaning.proofs.SoundParts.{class_or_sound, make_sound}

@@ -31,7 +31,8 @@ use Rattle.cool_rules.proofs.TypesAreTypes.{formals_are_types}
 use Rattle.cool_rules.proofs.ChainsOfTables.{attributes_above, below_trans}
 use Rattle.cool_classes.proofs.ChainsOfTables.{chain_is}
 use Rattle.cool_classes.proofs.ChainsOfTables.{chain_of as chain_by}
-use Rattle.cool_meaning.proofs.FittingValues.{World, AreMade, still_all_made, Fits, AllFit, still_fits, meant, attribute_classes, Holds}
+use Rattle.cool_meaning.specs.FittingValues.{World, AreMade, Fits, AllFit, meant, attribute_classes, Holds, Scene}
+use Rattle.cool_meaning.proofs.FittingValues.{still_all_made, still_fits}
 use Rattle.cool_meaning.proofs.SoundComputations.{locate_all_sound}
 use Rattle.cool_meaning.proofs.SoundMethods.{Any}
 use Rattle.cool_meaning.proofs.MethodsOfTables.{defined_attribute}
@@ -42,7 +43,7 @@ use Rattle.cool_meaning.specs.BasicMethods.{locate_all}
 use Rattle.cool_fold.proofs.NoMoreMeters.{Keeps, keeps_same, bind_keeps, then_keeps, working_keeps}
 use Rattle.cool_syntax.specs.declared.file_tree.Formal.{Formal}
 use Rattle.cool_syntax.specs.declared.file_tree.MethodDef.{MethodDef}
-use Rattle.cool_meaning.proofs.SoundEvaluation.{Scene, eval_sound}
+use Rattle.cool_meaning.proofs.SoundEvaluation.{eval_sound}
 use Rattle.cool_meaning.proofs.SoundRuns.{holds_formals, attributes_hold, own_locations, within_sound}
 use Rattle.cool_meaning.proofs.SoundRuns as runs
 use Rattle.cool_rules.specs.NodeTypes.{own_scope}

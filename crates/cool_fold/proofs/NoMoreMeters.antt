@@ -4,7 +4,8 @@ use Rattle.std.specs.Prelude.{if◌then◌else◌}
 use Rattle.cool_classes.specs.Chains.{Class}
 use Rattle.cool_meaning.specs.Values.{State}
 use Rattle.cool_meaning.specs.Meters.{Outcome, Val, Stop, On, Stuck, Metered, Computation, seq_of, ◌>>=◌, ◌>>◌, spend, working, giving, holding, rule}
-use Rattle.cool_meaning.proofs.FittingValues.{World, Grown, AllFit}
+use Rattle.cool_meaning.specs.FittingValues.{World, AllFit}
+use Rattle.cool_meaning.proofs.FittingValues.{Grown}
 use Rattle.cool_meaning.proofs.SoundComputations.{IsFine, NotStuck, Sound}
 
 -- the second one comes to the same, with no meter greater

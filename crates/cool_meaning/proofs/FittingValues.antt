@@ -13,13 +13,10 @@ use Rattle.cool_rules.specs.Rules.{type_meant}
 use Rattle.cool_classes.specs.LawfulTables.{MayInherit}
 use Rattle.cool_rules.specs.TypedTables.{IsTypedTable}
 use Rattle.cool_meaning.specs.Values.{Value, Void, Int, Bool as Truth, Str, Obj, Environment, class_of, location_of}
+use Rattle.cool_meaning.specs.FittingValues.{World, AreMade, meant, attribute_classes, IsObject, Fits, AllFit, Holds}
 use Rattle.cool_meaning.specs.Lookups.{attributes}
 use Rattle.cool_rules.proofs.ChainsOfTables.{below_trans, below_within, below_itself}
 use Rattle.cool_meaning.proofs.BasicClasses.{inherits_above, basic_within}
-
--- the class that each location was made for, in order
-abbrev pub World : Type 0
-World = List ClassId
 
 pub record Grown (w w' : World) : Type 0 where
   pub more : List ClassId
@@ -39,39 +36,11 @@ made_by (c ∷ w) more (suc l) d e = made_by w more l d e
 pub still_made : (w w' : World) → Grown w w' → (l : ℕ) (d : ClassId) → slice_get w l ≡ Some d → slice_get w' l ≡ Some d
 still_made w w' g l d e = subst (λ (v : World). slice_get v l ≡ Some d) (sym g.is) (made_by w g.more l d e)
 
--- these locations were made for these classes
-abbrev pub AreMade : World → List ℕ → List ClassId → Type 0
-AreMade w [] [] = Unit {0}
-AreMade w [] (d ∷ ds) = ⊥
-AreMade w (l ∷ ls) [] = ⊥
-AreMade w (l ∷ ls) (d ∷ ds) = (slice_get w l ≡ Some d) × AreMade w ls ds
-
 pub still_all_made : (w w' : World) → Grown w w' → (ls : List ℕ) (ds : List ClassId) → AreMade w ls ds → AreMade w' ls ds
 still_all_made w w' g [] [] h = tt
 still_all_made w w' g [] (d ∷ ds) h = absurd h
 still_all_made w w' g (l ∷ ls) [] h = absurd h
 still_all_made w w' g (l ∷ ls) (d ∷ ds) h = (still_made w w' g l d h.0, still_all_made w w' g ls ds h.1)
-
--- the class that a type's name means for an object of a class
-abbrev pub meant : List Class → ClassId → List ℕ → ClassId
-meant p k name = class_meant k (type_meant p name)
-
-abbrev pub attribute_classes : List Class → ClassId → List AttributeRef → List ClassId
-attribute_classes p k rs = map (λ (r : AttributeRef). meant p k (attribute_type p r)) rs
-
--- an object of a class that is not Int, Bool or String, with locations made for the types of its attributes
-pub record IsObject (p : List Class) (w : World) (k : ClassId) (ls : List ℕ) : Type 0 where
-  pub within : k.0 < length p
-  pub plain : MayInherit k
-  pub made : AreMade w ls (attribute_classes p k (attributes p k))
-
--- a value fits a class; void fits each class but Int, Bool and String
-abbrev pub Fits : List Class → World → Value → ClassId → Type 0
-Fits p w Void d = MayInherit d × (d.0 < length p)
-Fits p w (Int n) d = Below p (class_number 2) d
-Fits p w (Truth b) d = Below p (class_number 3) d
-Fits p w (Str bytes) d = Below p (class_number 4) d
-Fits p w (Obj k i ls) d = IsObject p w k ls × Below p k d
 
 pub still_fits : (p : List Class) (w w' : World) → Grown w w' → (v : Value) (d : ClassId) → Fits p w v d → Fits p w' v d
 still_fits p w w' g Void d h = h
@@ -79,12 +48,6 @@ still_fits p w w' g (Int n) d h = h
 still_fits p w w' g (Truth b) d h = h
 still_fits p w w' g (Str bytes) d h = h
 still_fits p w w' g (Obj k i ls) d h = (record { within = h.0.within; plain = h.0.plain; made = still_all_made w w' g ls (attribute_classes p k (attributes p k)) h.0.made }, h.1)
-
-abbrev pub AllFit : List Class → World → List Value → List ClassId → Type 0
-AllFit p w [] [] = Unit {0}
-AllFit p w [] (d ∷ ds) = ⊥
-AllFit p w (v ∷ vs) [] = ⊥
-AllFit p w (v ∷ vs) (d ∷ ds) = Fits p w v d × AllFit p w vs ds
 
 pub still_all_fit : (p : List Class) (w w' : World) → Grown w w' → (vs : List Value) (ds : List ClassId) → AllFit p w vs ds → AllFit p w' vs ds
 still_all_fit p w w' g [] [] h = tt
@@ -124,12 +87,6 @@ fit_more p w (y ∷ vs) (x ∷ ds) v d h fits = (h.0, fit_more p w vs ds v d h.1
 pub made_last : (ds : List ClassId) (d : ClassId) → slice_get (ds ++ d ∷ []) (length ds) ≡ Some d
 made_last [] d = refl
 made_last (x ∷ ds) d = made_last ds d
-
--- names in scope are at locations made for their types, as an object of class k has them
-abbrev pub Holds : World → ClassId → List Binding → Environment → Type 0
-Holds w k [] env = Unit {0}
-Holds w k (b ∷ scope) [] = ⊥
-Holds w k (b ∷ scope) (e ∷ env) = (b.name ≡ e.name) × (slice_get w e.location ≡ Some (class_meant k b.value)) × Holds w k scope env
 
 pub still_holds : (w w' : World) → Grown w w' → (k : ClassId) (scope : List Binding) (env : Environment) → Holds w k scope env → Holds w' k scope env
 still_holds w w' g k [] env h = tt

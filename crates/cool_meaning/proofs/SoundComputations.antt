@@ -7,7 +7,8 @@ use Rattle.cool_classes.specs.Chains.{Class}
 use Rattle.cool_meaning.specs.Values.{Value, State}
 use Rattle.cool_meaning.specs.Meters.{Outcome, Val, Stop, On, Stuck, Error, Computation, seq_of, ◌>>=◌, ◌>>◌, give, stop, spend, working, giving, holding, rule, reading, changing, given, locate, load, store}
 use Rattle.cool_meaning.specs.BasicMethods.{locate_all, load_all}
-use Rattle.cool_meaning.proofs.FittingValues.{World, Grown, not_grown, grown_on, AreMade, still_made, Fits, AllFit, still_fits, still_all_fit, still_all_made, fit_length, fit_at, fit_set, fit_more, made_last}
+use Rattle.cool_meaning.specs.FittingValues.{World, AreMade, Fits, AllFit}
+use Rattle.cool_meaning.proofs.FittingValues.{Grown, not_grown, grown_on, still_made, still_fits, still_all_fit, still_all_made, fit_length, fit_at, fit_set, fit_more, made_last}
 
 -- a value, as said, in a store that fits a world grown from this one, with no more steps than before
 pub record IsFine {A : Type 0} (p : List Class) (w : World) (n : ℕ) (Q : World → A → Type 0) (v : A) (s : State) (left : ℕ) : Type 0 where

@@ -32,22 +32,13 @@ use Rattle.cool_classes.proofs.ChainsOfTables.{chain_is}
 use Rattle.cool_rules.proofs.NamesOfTables.{class_by_name}
 use Rattle.cool_rules.proofs.RulesOfTables.{meant_is}
 use Rattle.cool_meaning.proofs.BasicClasses.{basic_within}
-use Rattle.cool_meaning.proofs.FittingValues.{World, Grown, not_grown, grown_on, Fits, AllFit, still_fits, still_all_fit, meant, Holds, still_holds, found_at, fits_above, fits_conforming, below_conforming, class_fits}
+use Rattle.cool_meaning.specs.FittingValues.{World, Fits, AllFit, meant, Holds, Scene}
+use Rattle.cool_meaning.proofs.FittingValues.{Grown, not_grown, grown_on, still_fits, still_all_fit, still_holds, found_at, fits_above, fits_conforming, below_conforming, class_fits}
 use Rattle.cool_meaning.proofs.SoundComputations.{Sound, bind_sound, then_sound, give_sound, working_sound, holding_sound, rule_sound, if_sound, fewer_sound, locate_sound, load_sound, store_sound}
 use Rattle.cool_meaning.proofs.SoundMethods.{number_sound, truth_sound, int_fits, bool_fits, string_fits}
 use Rattle.cool_meaning.proofs.MethodsOfTables.{implementation_own, formals_are_classes}
 use Rattle.cool_meaning.proofs.SoundParts.{wider_sound, class_or_sound, AllCallsSound, default_fits, arguments_fit, negated_sound, arithmetic_sound, compare_sound, loop_sound, make_sound, dispatch_sound, IsSoundBranch, nearest_sound}
 use Rattle.lists.proofs.EqualBytes.{bytes_differ, bytes_same}
-
--- Where an expression of class c is evaluated: by an object of a class k below it, with each name in scope at a location made for its type.
-pub record Scene (p : List Class) (w : World) (c k : ClassId) (self : Value) (scope : List Binding) (env : Environment) : Type 0 where
-  pub c_within : c.0 < length p
-  pub k_within : k.0 < length p
-  pub below : Below p k c
-  pub plain : MayInherit k
-  pub class : class_of self ≡ Some k
-  pub fits : Fits p w self k
-  pub holds : Holds w k scope env
 
 pub scene_later : (p : List Class) (w w' : World) (c k : ClassId) (self : Value) (scope : List Binding) (env : Environment) → Grown w w' → Scene p w c k self scope env → Scene p w' c k self scope env
 scene_later p w w' c k self scope env g h = record {

@@ -20,7 +20,8 @@ use Rattle.cool_rules.proofs.ChainsOfTables.{below_itself}
 use Rattle.cool_rules.specs.Rules.{type_meant, type_of_name}
 use Rattle.cool_rules.proofs.RulesOfTables.{meant_is}
 use Rattle.cool_meaning.proofs.BasicClasses.{basic_within, basic_name, only_int, only_bool, only_string}
-use Rattle.cool_meaning.proofs.FittingValues.{World, not_grown, still_all_made, Fits, AllFit, still_fits, still_all_fit, meant, attribute_classes}
+use Rattle.cool_meaning.specs.FittingValues.{World, Fits, AllFit, meant, attribute_classes}
+use Rattle.cool_meaning.proofs.FittingValues.{not_grown, still_all_made, still_fits, still_all_fit}
 use Rattle.cool_meaning.proofs.SoundComputations.{Sound, bind_sound, then_sound, give_sound, stop_sound, changing_sound, reading_sound, working_sound, giving_sound, locate_all_sound, load_all_sound}
 
 -- any value will do

@@ -39,7 +39,8 @@ use Rattle.cool_rules.proofs.ChainsOfTables.{below_trans, below_itself, chain_wi
 use Rattle.cool_classes.proofs.ChainsOfTables.{chain_is}
 use Rattle.cool_rules.proofs.RulesOfTables.{meant_is}
 use Rattle.cool_meaning.proofs.BasicClasses.{by_number, basic_within, basic_name, high_inherits, only_string}
-use Rattle.cool_meaning.proofs.FittingValues.{World, Grown, not_grown, grown_on, still_all_made, Fits, AllFit, still_fits, meant, attribute_classes, fits_conforming}
+use Rattle.cool_meaning.specs.FittingValues.{World, Fits, AllFit, meant, attribute_classes}
+use Rattle.cool_meaning.proofs.FittingValues.{Grown, not_grown, grown_on, still_all_made, still_fits, fits_conforming}
 use Rattle.cool_meaning.proofs.SoundComputations.{NotStuck, Sound, bind_sound, then_sound, give_sound, stop_sound, working_sound, giving_sound, holding_sound, rule_sound, if_sound, spend_sound, locate_all_sound}
 use Rattle.cool_meaning.proofs.SoundMethods.{Any, draw_sound, number_sound, truth_sound, new_number_sound, new_truth_sound, new_string_sound, basic_sound, int_fits, bool_fits, string_fits}
 use Rattle.cool_meaning.proofs.MethodsOfTables.{implementation_own, string_own, user_own, defined_attribute}

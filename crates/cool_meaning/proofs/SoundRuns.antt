@@ -31,7 +31,8 @@ use Rattle.cool_rules.proofs.ChainsOfTables.{below_trans, attributes_above, belo
 use Rattle.cool_classes.proofs.ChainsOfTables.{chain_is}
 use Rattle.cool_rules.proofs.NamesOfTables.{class_by_name}
 use Rattle.cool_rules.proofs.RulesOfTables.{meant_is}
-use Rattle.cool_meaning.proofs.FittingValues.{World, AreMade, still_all_made, still_made, Fits, AllFit, still_fits, meant, attribute_classes, Holds, fits_conforming, class_fits}
+use Rattle.cool_meaning.specs.FittingValues.{World, AreMade, Fits, AllFit, meant, attribute_classes, Holds}
+use Rattle.cool_meaning.proofs.FittingValues.{still_all_made, still_made, still_fits, fits_conforming, class_fits}
 use Rattle.cool_meaning.proofs.SoundComputations.{NotStuck, Sound, bind_sound, then_sound, give_sound, working_sound, store_sound, locate_all_sound, rule_sound, holding_sound}
 use Rattle.cool_meaning.proofs.SoundMethods.{Any}
 use Rattle.cool_meaning.proofs.MethodsOfTables.{defined, defined_attribute, attributes_owned}

@@ -1,6 +1,7 @@
 pub mod BasicMethods
 pub mod Evaluation
 pub mod Examples
+pub mod FittingValues
 pub mod Laws
 pub mod Lookups
 pub mod Meters

@@ -1,10 +1,10 @@
 -- That a debugger shows what the rules say: the machine comes to the first word of the code of each expression that is begun, and there each
 -- name in scope is at home in the word that its span tells, which pictures the name's value.
-use Rattle.std.specs.Prelude.{◌≡◌, ℕ, ◌+◌, ◌*◌, ◌<◌, ◌≤◌, List, [], length, map as each, Contains, None}
+use Rattle.std.specs.Prelude.{◌≡◌, ℕ, ◌+◌, ◌*◌, ◌<◌, ◌≤◌, ◌⊎◌, List, [], length, map as each, Contains, None}
 use Rattle.mips_isa.specs.declared.address_map.TheConstants.{TEXT_START}
 use Rattle.mips_isa.specs.Assembly.{image_of}
 use Rattle.mips_isa.specs.Bytes.{Bytes}
-use Rattle.mips_isa.specs.Calls.{State as Machine, Running}
+use Rattle.mips_isa.specs.Calls.{State as Machine, Running, Exited}
 use Rattle.mips_isa.specs.ImageBounds.{ImageParts}
 use Rattle.mips_isa.specs.Run.{run_image}
 use Rattle.cool_classes.specs.declared.class_id.ClassId.{ClassId}
@@ -20,16 +20,18 @@ use Rattle.cool_runtime.specs.Machines.{Pointers, Console}
 use Rattle.cool_layout.specs.Labels.{initializer, method_label}
 use Rattle.cool_codegen.specs.Spans.{Span, spans}
 use Rattle.cool_emit.specs.Programs.{program_lines}
-use Rattle.cool_emit.specs.SpansOfPrograms.{program_spans, SpanOf}
+use Rattle.cool_codegen.specs.Shown as rows
+use Rattle.cool_emit.specs.RowsOfSpans.{told_of, told_rows}
+use Rattle.cool_emit.specs.SpansOfPrograms.{program_spans}
 use Rattle.cool_codegen.specs.Variables.{Named}
 use Rattle.cool_classes.specs.declared.class_id.Ty.{Ty}
 use Rattle.cool_syntax.specs.Tree.{Tree}
 use Rattle.cool_meaning.specs.Values.{Value, State, Environment}
 use Rattle.cool_meaning.specs.Meters.{Stuck}
 use Rattle.cool_meaning.specs.Evaluation.{Call, Calls, Body, Initials, eval}
-use Rattle.cool_meaning.specs.SourceRun.{run}
-use Rattle.cool_meaning.proofs.FittingValues.{AllFit, meant}
-use Rattle.cool_meaning.proofs.FittingValues as fitting
+use Rattle.cool_meaning.specs.SourceRun.{Run, run}
+use Rattle.cool_meaning.specs.FittingValues.{AllFit, meant}
+use Rattle.cool_meaning.specs.FittingValues as fitting
 use Rattle.cool_simulation.specs.Accord.{AreLimits, Limits}
 use Rattle.cool_simulation.specs.Loadings.{IsLoaded, Loading, constants, context}
 use Rattle.cool_simulation.specs.MainRun.{RunRoom, Starts}
@@ -80,7 +82,7 @@ ProgramsShown =
     → ProgramShown (record { table = p; files = names; world = w; memory = m; watch = None })
 
 -- The machine of an image comes to a visit: after some number of instructions it stands, with the program loaded, at the first word of a span
--- that the table of code has for the visited expression, and pictures the visit.
+-- of the visited expression, of which a row of the table of code tells, and pictures the visit.
 pub record ComesTo (p : List Class) (names : List (List ℕ)) (image : ImageParts) (limits : Limits) (input : List ℕ) (x : Visit) : Type 0 where
   pub loading : Loading
   pub table_is : loading.table ≡ p
@@ -93,15 +95,24 @@ pub record ComesTo (p : List Class) (names : List (List ℕ)) (image : ImagePart
   pub reached : run_image image limits.heap limits.stack input count ≡ Running machine
   pub shown : Shown loading x machine
   pub told : Contains (program_spans sizes p names TEXT_START) (record { class = x.class; feature = x.feature; span = shown.span })
+  pub row : Contains (told_rows p names) (told_of p names (record { class = x.class; feature = x.feature; span = shown.span }))
 
--- What a run of the source begins is shown by the machine of the program's image, where heap and stack hold the run's words and its nesting.
+-- The machine of an image ends by a limit that a run of the source passes: with 4 by that of the heap, or with 5 by that of the stack.
+pub record EndsByLimit (image : ImageParts) (limits : Limits) (input : List ℕ) (r : Run) : Type 0 where
+  pub count : ℕ
+  pub code : ℕ
+  pub machine : Machine
+  pub ended : run_image image limits.heap limits.stack input count ≡ Exited code machine
+  pub why : ((code ≡ 4) × (limits.heap < 4 * r.words + 64)) ⊎ ((code ≡ 5) × (limits.stack < 16 * r.peak + 256))
+
+-- What a run of the source begins is shown by the machine of the program's image, but where that ends by a limit which the run passes.
 abbrev pub VisitsShown : Type 0
 VisitsShown =
     (p : List Class) (names : List (List ℕ)) (input : List ℕ) (limits : Limits) (n : ℕ) (x : Visit) → IsCompilable p names → AreBytes input → AreLimits limits → program_begun p input n x
-    → 4 * (run p names input n).words + 64 ≤ limits.heap → 16 * (run p names input n).peak + 256 ≤ limits.stack → ComesTo p names (image_of (program_lines p names)) limits input x
+    → ComesTo p names (image_of (program_lines p names)) limits input x ⊎ EndsByLimit (image_of (program_lines p names)) limits input (run p names input n)
 
 -- A machine pictures a visit of the run with so many steps: an expression that the run begins, where it stands, with the program loaded, at the first
--- word of the span that the table of code has for the expression.
+-- word of a span of the expression, of which a row of the table of code tells.
 pub record Visited (p : List Class) (names : List (List ℕ)) (image : ImageParts) (input : List ℕ) (steps : ℕ) (machine : Machine) : Type 0 where
   pub visit : Visit
   pub begun : program_begun p input steps visit
@@ -113,13 +124,13 @@ pub record Visited (p : List Class) (names : List (List ℕ)) (image : ImagePart
   pub loaded : IsLoaded loading
   pub shown : Shown loading visit machine
   pub told : Contains (program_spans sizes p names TEXT_START) (record { class = visit.class; feature = visit.feature; span = shown.span })
+  pub row : Contains (told_rows p names) (told_of p names (record { class = visit.class; feature = visit.feature; span = shown.span }))
 
--- The other way round: wherever the run of the image comes to the first word of a span of the table of code, it pictures a visit. (The code of
--- `while` begins with that of its test, so the span of the visit need not be this one, but begins at the same word.) A run of the source with so
--- many steps tells of as many instructions.
-abbrev pub SpansAreVisits : Type 0
-SpansAreVisits =
-    (p : List Class) (names : List (List ℕ)) (input : List ℕ) (limits : Limits) (n count : ℕ) (machine : Machine) (span : SpanOf) → IsCompilable p names → AreBytes input → AreLimits limits → count < n
-    → 4 * (run p names input n).words + 64 ≤ limits.heap → 16 * (run p names input n).peak + 256 ≤ limits.stack
-    → run_image (image_of (program_lines p names)) limits.heap limits.stack input count ≡ Running machine → Contains (program_spans sizes p names TEXT_START) span → machine.core.pc ≡ span.span.from
+-- The other way round, and with no premise on limits: wherever the run of the image comes to the first word of a row of the table of code, it
+-- pictures a visit of each run of the source with more steps than these instructions. (The code of `while` begins with that of its test, so the row
+-- of the visit need not be this one, but begins at the same word.)
+abbrev pub RowsAreVisits : Type 0
+RowsAreVisits =
+    (p : List Class) (names : List (List ℕ)) (input : List ℕ) (limits : Limits) (n count : ℕ) (machine : Machine) (row : rows.Shown) → IsCompilable p names → AreBytes input → AreLimits limits → count < n
+    → run_image (image_of (program_lines p names)) limits.heap limits.stack input count ≡ Running machine → Contains (told_rows p names) row → machine.core.pc ≡ row.from
     → Visited p names (image_of (program_lines p names)) input n machine

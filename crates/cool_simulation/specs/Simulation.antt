@@ -34,9 +34,8 @@ use Rattle.cool_meaning.specs.Values.{Value, State, Environment, class_of, locat
 use Rattle.cool_meaning.specs.Meters.{Error, Outcome, Val, Stop, On, Stuck, Metered}
 use Rattle.cool_meaning.specs.SourceRun.{error_text}
 use Rattle.cool_meaning.specs.Evaluation.{Call, Calls, Body, Initials, eval, eval_all}
-use Rattle.cool_meaning.proofs.FittingValues.{AllFit, Fits, meant}
-use Rattle.cool_meaning.proofs.FittingValues as fitting
-use Rattle.cool_meaning.proofs.SoundEvaluation.{Scene}
+use Rattle.cool_meaning.specs.FittingValues.{AllFit, Fits, meant, Scene}
+use Rattle.cool_meaning.specs.FittingValues as fitting
 use Rattle.cool_simulation.specs.Loadings.{Loading, Watched, constants, context, marks, whole, whole_text}
 use Rattle.cool_simulation.specs.Pictures.{Map, Pic, Pictures, Kept, Grown, Shows}
 use Rattle.cool_simulation.specs.Quiet.{ArePushesFree, IsQuiet}

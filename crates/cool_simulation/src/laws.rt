@@ -1,6 +1,6 @@
 //! The laws of compiled programs.
 
-ghost use Rattle.cool_simulation.specs.Shown.{ProgramsShown, SpansAreVisits, VisitsShown};
+ghost use Rattle.cool_simulation.specs.Shown.{ProgramsShown, RowsAreVisits, VisitsShown};
 ghost use Rattle.cool_simulation.specs.SpansLoaded.{InitialValuesStand, MethodsStand};
 ghost use Rattle.cool_simulation.specs.Theorem.{AcceptedCompile, CallsMean, FoldedImagesMean, ImagesMean, ProgramsRun, RunsAreMet, TypedImagesMean};
 
@@ -43,11 +43,11 @@ pub fn law_spans_stand()
 {}
 
 /// What a debugger shows at an expression is what the rules say: for each expression that a run of the source begins, the machine comes to the
-/// first word of the expression's code, where the names in scope are at home in the words that its span tells, and these picture the values
-/// that the names have. So it is where heap and stack hold the run's words and nesting, and wherever the program is loaded. And wherever the
-/// run comes to the first word of a span, it is at an expression that the run of the source begins, which it pictures so.
+/// first word of its row of the table of code, where the names in scope are at home in the words that its span tells, and these picture the values
+/// that the names have; or it ends by a limit of heap or stack that the run passes. So it is wherever the program is loaded. And wherever a run
+/// comes to the first word of a row, on all its way, it is at an expression that the run of the source begins, which it pictures so.
 pub fn law_shown()
     ensures met { VisitsShown }
     ensures anywhere { ProgramsShown }
-    ensures visited { SpansAreVisits }
+    ensures visited { RowsAreVisits }
 {}

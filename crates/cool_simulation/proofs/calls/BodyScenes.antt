@@ -19,8 +19,8 @@ use Rattle.cool_runtime.specs.Machines.{At, Pointers, Console}
 use Rattle.cool_codegen.specs.Features.{with_formals, attributes_in}
 use Rattle.cool_meaning.specs.Values.{Value, Void, Int, Bool as Truth, Str, Obj, State, Environment, class_of}
 use Rattle.cool_meaning.specs.Lookups.{attributes, located, attribute_names, formal_names, locations_of, environment_of, attributes_at}
-use Rattle.cool_meaning.proofs.FittingValues.{AreMade, Fits, AllFit, meant, attribute_classes, Holds}
-use Rattle.cool_meaning.proofs.FittingValues as fitting
+use Rattle.cool_meaning.specs.FittingValues.{AreMade, Fits, AllFit, meant, attribute_classes, Holds}
+use Rattle.cool_meaning.specs.FittingValues as fitting
 use Rattle.cool_simulation.specs.Loadings.{Loading, IsLoaded}
 use Rattle.cool_simulation.specs.Pictures.{Map, Pic, Pictures, Shows}
 use Rattle.cool_simulation.specs.Simulation.{Begins, Variables}

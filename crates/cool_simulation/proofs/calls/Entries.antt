@@ -9,7 +9,7 @@ use Rattle.cool_runtime.specs.Machines.{At, Pointers, Console}
 use Rattle.cool_runtime.proofs.Words.{byte_other, word_same, word_other, word_equal}
 use Rattle.cool_runtime.proofs.Calling.{with_frame, FrameAt}
 use Rattle.cool_meaning.specs.Values.{Value, State}
-use Rattle.cool_meaning.proofs.FittingValues as fitting
+use Rattle.cool_meaning.specs.FittingValues as fitting
 use Rattle.cool_simulation.specs.Loadings.{Loading}
 use Rattle.cool_simulation.specs.Pictures.{Map, Pic, Pictures, Kept, Grown}
 use Rattle.cool_simulation.specs.Simulation.{Called, Done}

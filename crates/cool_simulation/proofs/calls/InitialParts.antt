@@ -22,8 +22,9 @@ use Rattle.cool_meaning.specs.Values.{Value, State, class_of}
 use Rattle.cool_meaning.specs.Meters.{Outcome, Val, seq}
 use Rattle.cool_meaning.specs.Lookups.{attributes, init_in}
 use Rattle.cool_meaning.specs.Evaluation.{Call, Calls, run_initial, run_initials}
-use Rattle.cool_meaning.proofs.FittingValues.{AreMade, meant, attribute_classes, still_all_made}
-use Rattle.cool_meaning.proofs.FittingValues as fitting
+use Rattle.cool_meaning.specs.FittingValues.{AreMade, meant, attribute_classes}
+use Rattle.cool_meaning.proofs.FittingValues.{still_all_made}
+use Rattle.cool_meaning.specs.FittingValues as fitting
 use Rattle.cool_meaning.proofs.SoundMethods.{Any}
 use Rattle.cool_meaning.proofs.SoundComputations.{NotStuck, IsFine, give_sound}
 use Rattle.cool_meaning.proofs.SoundParts.{AllCallsSound}

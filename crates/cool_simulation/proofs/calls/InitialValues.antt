@@ -33,8 +33,9 @@ use Rattle.cool_meaning.specs.Values.{Value, State, class_of}
 use Rattle.cool_meaning.specs.Meters.{seq, store}
 use Rattle.cool_meaning.specs.Lookups.{attributes, environment_of}
 use Rattle.cool_meaning.specs.Evaluation.{Call, Calls, eval, run_initial}
-use Rattle.cool_meaning.proofs.FittingValues.{Fits, meant, still_made, fits_conforming}
-use Rattle.cool_meaning.proofs.FittingValues as fitting
+use Rattle.cool_meaning.specs.FittingValues.{Fits, meant}
+use Rattle.cool_meaning.proofs.FittingValues.{still_made, fits_conforming}
+use Rattle.cool_meaning.specs.FittingValues as fitting
 use Rattle.cool_meaning.proofs.Later.{later_same}
 use Rattle.cool_meaning.proofs.SoundMethods.{Any}
 use Rattle.cool_meaning.proofs.SoundComputations.{Sound, bind_sound, working_sound, store_sound}

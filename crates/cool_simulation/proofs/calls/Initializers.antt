@@ -35,8 +35,9 @@ use Rattle.cool_meaning.specs.Values.{Value, State}
 use Rattle.cool_meaning.specs.Meters.{Outcome, Val, Metered, seq, Computation, Stop, On, Stuck, seq_of}
 use Rattle.cool_meaning.specs.Lookups.{attributes, locations_of, init_of}
 use Rattle.cool_meaning.specs.Evaluation.{Call, Calls, Initials, run_initials, run_call, run_initial}
-use Rattle.cool_meaning.proofs.FittingValues.{AreMade, attribute_classes, still_fits}
-use Rattle.cool_meaning.proofs.FittingValues as fitting
+use Rattle.cool_meaning.specs.FittingValues.{AreMade, attribute_classes}
+use Rattle.cool_meaning.proofs.FittingValues.{still_fits}
+use Rattle.cool_meaning.specs.FittingValues as fitting
 use Rattle.cool_meaning.proofs.SoundMethods.{Any}
 use Rattle.cool_meaning.proofs.SoundComputations.{NotStuck, IsFine}
 use Rattle.cool_meaning.proofs.SoundParts.{AllCallsSound}

@@ -6,8 +6,9 @@ use Rattle.mips_isa.specs.Calls.{State as Machine}
 use Rattle.cool_classes.specs.declared.class_id.ClassId.{ClassId}
 use Rattle.cool_runtime.specs.Machines.{At, Pointers, Console}
 use Rattle.cool_meaning.specs.Values.{Value, State}
-use Rattle.cool_meaning.proofs.FittingValues.{AllFit, Fits, still_fits}
-use Rattle.cool_meaning.proofs.FittingValues as fitting
+use Rattle.cool_meaning.specs.FittingValues.{AllFit, Fits}
+use Rattle.cool_meaning.proofs.FittingValues.{still_fits}
+use Rattle.cool_meaning.specs.FittingValues as fitting
 use Rattle.cool_meaning.proofs.SoundMethods.{Any}
 use Rattle.cool_meaning.proofs.SoundComputations.{IsFine}
 use Rattle.cool_simulation.specs.Loadings.{Loading}

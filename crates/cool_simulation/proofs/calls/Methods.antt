@@ -32,8 +32,9 @@ use Rattle.cool_meaning.specs.Values.{Value, State}
 use Rattle.cool_meaning.specs.Meters.{Stuck, Metered, join, seq}
 use Rattle.cool_meaning.specs.Lookups.{method_in, located, formal_names, environment_of}
 use Rattle.cool_meaning.specs.Evaluation.{Call, Calls, Body, eval, run_method, run_call}
-use Rattle.cool_meaning.proofs.FittingValues.{AllFit, AreMade, meant, still_fits, fit_length}
-use Rattle.cool_meaning.proofs.FittingValues as fitting
+use Rattle.cool_meaning.specs.FittingValues.{AllFit, AreMade, meant}
+use Rattle.cool_meaning.proofs.FittingValues.{still_fits, fit_length}
+use Rattle.cool_meaning.specs.FittingValues as fitting
 use Rattle.cool_meaning.proofs.MethodsOfTables.{defined}
 use Rattle.cool_meaning.proofs.SoundComputations.{NotStuck, IsFine, locate_all_sound}
 use Rattle.cool_meaning.proofs.Later.{After, after_on, later_same}

@@ -25,7 +25,7 @@ use Rattle.cool_codegen.specs.Asked.{integers_in, integers_in_all, strings_in, s
 use Rattle.cool_meaning.specs.Values.{Value, State, Environment}
 use Rattle.cool_meaning.specs.Meters.{Outcome, Val, Stop, On, Stuck, Computation, ◌>>=◌, seq_of, give, holding}
 use Rattle.cool_meaning.specs.Evaluation.{Call, Calls, eval, eval_all}
-use Rattle.cool_meaning.proofs.FittingValues as fitting
+use Rattle.cool_meaning.specs.FittingValues as fitting
 use Rattle.cool_meaning.proofs.SoundParts.{AllCallsSound}
 use Rattle.cool_meaning.proofs.SoundEvaluation.{eval_sound}
 use Rattle.cool_simulation.specs.Loadings.{Loading, IsLoaded, constants, context, Watched, whole}

@@ -10,7 +10,7 @@ use Rattle.cool_runtime.specs.Machines.{Pointers, Console}
 use Rattle.cool_meaning.specs.Values.{Value, Void, Int, Bool, Str, Obj, State}
 use Rattle.cool_meaning.specs.Meters.{Outcome, Val, Stuck, Metered, Computation, ◌>>=◌, seq, seq_of, join, free, give}
 use Rattle.cool_meaning.specs.BasicMethods.{copy, draw, locate_all, load_all}
-use Rattle.cool_meaning.proofs.FittingValues as fitting
+use Rattle.cool_meaning.specs.FittingValues as fitting
 use Rattle.cool_simulation.specs.Loadings.{Loading, IsLoaded}
 use Rattle.cool_simulation.specs.Pictures.{Map}
 use Rattle.cool_simulation.specs.Simulation.{Done, Runs, Way}

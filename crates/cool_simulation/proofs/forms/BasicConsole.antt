@@ -13,7 +13,7 @@ use Rattle.cool_runtime.proofs.MeaningsMet.{means}
 use Rattle.cool_meaning.specs.Values.{Value, Void, Int, Bool, Str, Obj, State}
 use Rattle.cool_meaning.specs.Meters.{Computation, ◌>>=◌, ◌>>◌, give, working}
 use Rattle.cool_meaning.specs.BasicMethods.{one, as_string, as_number, print}
-use Rattle.cool_meaning.proofs.FittingValues as fitting
+use Rattle.cool_meaning.specs.FittingValues as fitting
 use Rattle.cool_meaning.specs.Numbers.{word_of}
 use Rattle.cool_simulation.specs.Loadings.{Loading, IsLoaded}
 use Rattle.cool_simulation.specs.Pictures.{Map, Pic, Shows}

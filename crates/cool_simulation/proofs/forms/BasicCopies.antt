@@ -13,7 +13,7 @@ use Rattle.cool_runtime.specs.declared.catalogue.Routine.TheVariants as routines
 use Rattle.cool_runtime.proofs.MeaningsMet.{means}
 use Rattle.cool_meaning.specs.Values.{Value, Int, Bool, Str, State}
 use Rattle.cool_meaning.specs.BasicMethods.{new_number, new_truth, new_string}
-use Rattle.cool_meaning.proofs.FittingValues as fitting
+use Rattle.cool_meaning.specs.FittingValues as fitting
 use Rattle.cool_simulation.specs.Loadings.{Loading, IsLoaded}
 use Rattle.cool_simulation.specs.Pictures.{Map, Pic}
 use Rattle.cool_simulation.proofs.forms.Arguments.{limits, console_way}

@@ -16,7 +16,7 @@ use Rattle.cool_meaning.specs.Values.{Value, Void, Int, Bool, Str, Obj, State, c
 use Rattle.cool_meaning.specs.Meters.{Computation, ◌>>=◌, Aborted, give, stop, given}
 use Rattle.cool_meaning.specs.BasicMethods.{as_string, new_number}
 use Rattle.cool_meaning.specs.Numbers.{signed, word_of}
-use Rattle.cool_meaning.proofs.FittingValues as fitting
+use Rattle.cool_meaning.specs.FittingValues as fitting
 use Rattle.cool_simulation.specs.Loadings.{Loading, IsLoaded}
 use Rattle.cool_simulation.specs.Pictures.{Map, Pic}
 use Rattle.cool_simulation.specs.Simulation.{Done, Runs}

@@ -16,7 +16,7 @@ use Rattle.cool_layout.specs.Labels.{initializer}
 use Rattle.cool_codegen.specs.Pieces.{return_basic_lines}
 use Rattle.cool_meaning.specs.Values.{Value, State}
 use Rattle.cool_meaning.specs.Meters.{Val, Metered, Computation, rule, spend}
-use Rattle.cool_meaning.proofs.FittingValues as fitting
+use Rattle.cool_meaning.specs.FittingValues as fitting
 use Rattle.cool_simulation.specs.Loadings.{Loading, IsLoaded, marks, whole}
 use Rattle.cool_simulation.specs.Pictures.{Map}
 use Rattle.cool_simulation.specs.Simulation.{Runs, Room, Done, Passes}

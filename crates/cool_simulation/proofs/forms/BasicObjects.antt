@@ -18,7 +18,7 @@ use Rattle.cool_layout.specs.LinesOfLayout.{new_fields}
 use Rattle.cool_meaning.specs.Values.{Value, Obj, State}
 use Rattle.cool_meaning.specs.Meters.{Val}
 use Rattle.cool_meaning.specs.Lookups.{attributes}
-use Rattle.cool_meaning.proofs.FittingValues as fitting
+use Rattle.cool_meaning.specs.FittingValues as fitting
 use Rattle.cool_simulation.specs.Loadings.{Loading, IsLoaded}
 use Rattle.cool_simulation.specs.Pictures.{Map, Pic, Pictures, ObjectStands, Kept, Grown}
 use Rattle.cool_simulation.proofs.forms.Arguments.{limits, console_way}

@@ -18,7 +18,7 @@ use Rattle.cool_meaning.specs.Values.{Value, Int, Str, State}
 use Rattle.cool_meaning.specs.Meters.{◌>>=◌}
 use Rattle.cool_meaning.specs.BasicMethods.{Line, line_of, take_line, new_number, new_string}
 use Rattle.cool_meaning.specs.Numbers.{number_of, word_of}
-use Rattle.cool_meaning.proofs.FittingValues as fitting
+use Rattle.cool_meaning.specs.FittingValues as fitting
 use Rattle.cool_simulation.specs.Loadings.{Loading, IsLoaded}
 use Rattle.cool_simulation.specs.Pictures.{Map, Pic, Shows}
 use Rattle.cool_simulation.proofs.forms.Arguments.{limits}

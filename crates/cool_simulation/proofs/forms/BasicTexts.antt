@@ -17,7 +17,7 @@ use Rattle.cool_meaning.specs.Values.{Value, Void, Int, Bool, Str, Obj, State}
 use Rattle.cool_meaning.specs.Meters.{Computation, Substring, ◌>>=◌, stop}
 use Rattle.cool_meaning.specs.BasicMethods.{one, two, as_string, as_number, new_string, part, substring}
 use Rattle.cool_meaning.specs.Numbers.{fits, word_of}
-use Rattle.cool_meaning.proofs.FittingValues as fitting
+use Rattle.cool_meaning.specs.FittingValues as fitting
 use Rattle.cool_simulation.specs.Loadings.{Loading, IsLoaded}
 use Rattle.cool_simulation.specs.Pictures.{Map, Pic}
 use Rattle.cool_simulation.specs.Simulation.{Way}

@@ -19,7 +19,7 @@ use Rattle.cool_codegen.specs.Code.{code, items_code}
 use Rattle.cool_codegen.specs.Asked.{integers_in_all, strings_in_all}
 use Rattle.cool_meaning.specs.Values.{Value, Void, State, Environment}
 use Rattle.cool_meaning.specs.Evaluation.{Call, Calls, eval, eval_items}
-use Rattle.cool_meaning.proofs.FittingValues as fitting
+use Rattle.cool_meaning.specs.FittingValues as fitting
 use Rattle.cool_meaning.proofs.SoundParts.{AllCallsSound}
 use Rattle.cool_simulation.specs.Loadings.{Loading, IsLoaded, constants, context, Watched, whole}
 use Rattle.cool_simulation.specs.Pictures.{Map}

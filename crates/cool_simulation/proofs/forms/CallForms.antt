@@ -28,10 +28,11 @@ use Rattle.cool_codegen.specs.Code.{code, arguments_code}
 use Rattle.cool_meaning.specs.Values.{Value, Void, Int, Bool, Str, Obj, State, Environment, class_of}
 use Rattle.cool_meaning.specs.Meters.{Error, DispatchVoid, Outcome, Stop, Computation, ◌>>=◌, seq_of, rule, holding, Val}
 use Rattle.cool_meaning.specs.Evaluation.{Call, Calls, class_or, eval, eval_all}
-use Rattle.cool_meaning.proofs.FittingValues.{AllFit, fit_length, class_fits, still_all_fit}
-use Rattle.cool_meaning.proofs.FittingValues as fitting
+use Rattle.cool_meaning.specs.FittingValues.{AllFit, Scene}
+use Rattle.cool_meaning.proofs.FittingValues.{fit_length, class_fits, still_all_fit}
+use Rattle.cool_meaning.specs.FittingValues as fitting
 use Rattle.cool_meaning.proofs.SoundParts.{AllCallsSound}
-use Rattle.cool_meaning.proofs.SoundEvaluation.{Scene, scene_later, eval_sound, all_sound}
+use Rattle.cool_meaning.proofs.SoundEvaluation.{scene_later, eval_sound, all_sound}
 use Rattle.cool_simulation.specs.Loadings.{Loading, IsLoaded, constants, context, Watched}
 use Rattle.cool_simulation.specs.Pictures.{Map, Pic, Pictures, Shows}
 use Rattle.cool_simulation.specs.Simulation.{Begins, Done, AllDone, Runs, Way, Room, CodeAt, AllCodeAt, Correct, AllCorrect}

@@ -19,8 +19,8 @@ use Rattle.cool_codegen.specs.Pieces.{turn_lines, case_end_lines}
 use Rattle.cool_meaning.specs.Values.{Value, State, Environment}
 use Rattle.cool_meaning.specs.Meters.{Metered, NoBranch, ◌>>=◌, locate}
 use Rattle.cool_meaning.specs.Evaluation.{Call, Calls, Branch, or_else, nearest, take_branch, eval, branch_of}
-use Rattle.cool_meaning.proofs.FittingValues.{Fits}
-use Rattle.cool_meaning.proofs.FittingValues as fitting
+use Rattle.cool_meaning.specs.FittingValues.{Fits}
+use Rattle.cool_meaning.specs.FittingValues as fitting
 use Rattle.cool_meaning.proofs.MoreSteps.{after_of, locate_alike, stop_alike}
 use Rattle.cool_simulation.specs.Loadings.{Loading, IsLoaded, constants, context, Watched}
 use Rattle.cool_simulation.specs.Pictures.{Map}

@@ -28,8 +28,9 @@ use Rattle.cool_codegen.specs.Pieces.{case_begin_lines, case_end_lines}
 use Rattle.cool_meaning.specs.Values.{Value, Void, Int, Bool, Str, Obj, State, Environment, class_of}
 use Rattle.cool_meaning.specs.Meters.{Error, CaseVoid, Computation, ◌>>=◌, give, stop, working, join, given}
 use Rattle.cool_meaning.specs.Evaluation.{Call, Calls, Branch, class_or, nearest, take_branch, branch_of, branch_count, eval}
-use Rattle.cool_meaning.proofs.FittingValues.{Fits, class_fits}
-use Rattle.cool_meaning.proofs.FittingValues as fitting
+use Rattle.cool_meaning.specs.FittingValues.{Fits}
+use Rattle.cool_meaning.proofs.FittingValues.{class_fits}
+use Rattle.cool_meaning.specs.FittingValues as fitting
 use Rattle.cool_meaning.proofs.MoreSteps.{after_of, stop_alike, give_alike}
 use Rattle.cool_meaning.proofs.SoundParts.{AllCallsSound}
 use Rattle.cool_simulation.specs.Loadings.{Loading, IsLoaded, constants, context, Watched, whole}

@@ -23,8 +23,9 @@ use Rattle.cool_codegen.specs.Pieces.{case_end_lines}
 use Rattle.cool_meaning.specs.Values.{Value, State, Environment, class_of}
 use Rattle.cool_meaning.specs.Meters.{Metered}
 use Rattle.cool_meaning.specs.Evaluation.{Call, Calls, take_branch}
-use Rattle.cool_meaning.proofs.FittingValues.{Fits, fits_above}
-use Rattle.cool_meaning.proofs.FittingValues as fitting
+use Rattle.cool_meaning.specs.FittingValues.{Fits}
+use Rattle.cool_meaning.proofs.FittingValues.{fits_above}
+use Rattle.cool_meaning.specs.FittingValues as fitting
 use Rattle.cool_simulation.specs.Loadings.{Loading, IsLoaded, constants, context, Watched}
 use Rattle.cool_simulation.specs.Pictures.{Map, Pic, Pictures}
 use Rattle.cool_simulation.specs.Simulation.{Begins, Runs, Done, Placed}

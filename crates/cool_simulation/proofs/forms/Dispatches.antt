@@ -41,11 +41,10 @@ use Rattle.cool_codegen.specs.Asked.{integers_in, integers_in_all, strings_in, s
 use Rattle.cool_codegen.specs.Asked as asked
 use Rattle.cool_meaning.specs.Values.{Value, State, Environment, class_of}
 use Rattle.cool_meaning.specs.Evaluation.{Call, Calls, dispatch}
-use Rattle.cool_meaning.proofs.FittingValues.{AllFit, meant}
-use Rattle.cool_meaning.proofs.FittingValues as fitting
+use Rattle.cool_meaning.specs.FittingValues.{AllFit, meant, Scene}
+use Rattle.cool_meaning.specs.FittingValues as fitting
 use Rattle.cool_meaning.proofs.MethodsOfTables.{implementation_own, formals_are_classes}
 use Rattle.cool_meaning.proofs.SoundParts.{AllCallsSound, arguments_fit}
-use Rattle.cool_meaning.proofs.SoundEvaluation.{Scene}
 use Rattle.cool_simulation.specs.Loadings.{Loading, IsLoaded, constants, context, whole}
 use Rattle.cool_simulation.specs.Pictures.{Map}
 use Rattle.cool_simulation.specs.Simulation.{CodeAt, AllCodeAt, Correct, AllCorrect, AllCallsCorrect}

@@ -24,8 +24,9 @@ use Rattle.cool_meaning.specs.Values.{Value, State}
 use Rattle.cool_meaning.specs.Meters.{spend, working}
 use Rattle.cool_meaning.specs.Evaluation.{Call, Body, Calls, invoke}
 use Rattle.cool_meaning.proofs.BasicClasses.{high_inherits}
-use Rattle.cool_meaning.proofs.FittingValues.{AllFit, meant, fit_length}
-use Rattle.cool_meaning.proofs.FittingValues as fitting
+use Rattle.cool_meaning.specs.FittingValues.{AllFit, meant}
+use Rattle.cool_meaning.proofs.FittingValues.{fit_length}
+use Rattle.cool_meaning.specs.FittingValues as fitting
 use Rattle.cool_meaning.proofs.MethodsOfTables.{implementation_own, user_own}
 use Rattle.cool_simulation.specs.Loadings.{Loading, IsLoaded, Watched}
 use Rattle.cool_simulation.specs.Pictures.{Map}

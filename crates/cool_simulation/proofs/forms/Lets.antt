@@ -27,8 +27,9 @@ use Rattle.cool_codegen.specs.Code.{code, default_code}
 use Rattle.cool_meaning.specs.Values.{Value, State, Environment, default_of}
 use Rattle.cool_meaning.specs.Meters.{Metered, Computation, locate, give, ◌>>=◌}
 use Rattle.cool_meaning.specs.Evaluation.{Call, Calls, eval}
-use Rattle.cool_meaning.proofs.FittingValues.{Fits, fits_conforming}
-use Rattle.cool_meaning.proofs.FittingValues as fitting
+use Rattle.cool_meaning.specs.FittingValues.{Fits}
+use Rattle.cool_meaning.proofs.FittingValues.{fits_conforming}
+use Rattle.cool_meaning.specs.FittingValues as fitting
 use Rattle.cool_meaning.proofs.SoundParts.{AllCallsSound, default_fits}
 use Rattle.cool_simulation.specs.Loadings.{Loading, IsLoaded, constants, context, whole, Watched}
 use Rattle.cool_simulation.specs.Pictures.{Map}

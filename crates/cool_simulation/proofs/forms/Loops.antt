@@ -25,7 +25,7 @@ use Rattle.cool_meaning.specs.Values.{Value, Void, Bool, State, Environment}
 use Rattle.cool_meaning.specs.Meters.{Metered, Computation, give, spend, working, seq, ◌>>=◌, ◌>>◌}
 use Rattle.cool_meaning.specs.BasicMethods.{as_truth}
 use Rattle.cool_meaning.specs.Evaluation.{Call, Calls, eval, turns}
-use Rattle.cool_meaning.proofs.FittingValues as fitting
+use Rattle.cool_meaning.specs.FittingValues as fitting
 use Rattle.cool_meaning.proofs.SoundParts.{AllCallsSound}
 use Rattle.cool_simulation.specs.Loadings.{Loading, IsLoaded, constants, context, whole, Watched}
 use Rattle.cool_simulation.specs.Pictures.{Map, Pic}

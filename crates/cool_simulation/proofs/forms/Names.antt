@@ -25,7 +25,7 @@ use Rattle.cool_codegen.specs.Code.{load_of}
 use Rattle.cool_meaning.specs.Values.{Value, State, Environment, location_of}
 use Rattle.cool_meaning.specs.Meters.{Metered, Val, free, given, load, give, ◌>>=◌}
 use Rattle.cool_meaning.specs.Evaluation.{Call, Calls}
-use Rattle.cool_meaning.proofs.FittingValues as fitting
+use Rattle.cool_meaning.specs.FittingValues as fitting
 use Rattle.cool_simulation.specs.Loadings.{Loading, IsLoaded, Watched, whole}
 use Rattle.cool_simulation.specs.Pictures.{Map, Pictures, HomeStands, Shows}
 use Rattle.cool_simulation.specs.Simulation.{Begins, Done, Correct, Runs, IsWordAt, IsVariableAt, Passes, Shown}

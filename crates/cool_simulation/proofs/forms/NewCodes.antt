@@ -21,7 +21,7 @@ use Rattle.cool_meaning.specs.BasicMethods.{new_number, new_truth, new_string}
 use Rattle.cool_meaning.specs.Evaluation.{Call, Calls, make}
 use Rattle.cool_meaning.proofs.BasicClasses.{by_number, basic_within, basic_name}
 use Rattle.cool_meaning.proofs.SoundParts.{is_other}
-use Rattle.cool_meaning.proofs.FittingValues as fitting
+use Rattle.cool_meaning.specs.FittingValues as fitting
 use Rattle.cool_simulation.specs.Loadings.{Loading, IsLoaded, Watched, marks, whole}
 use Rattle.cool_simulation.specs.Pictures.{Map, Pic}
 use Rattle.cool_simulation.specs.Simulation.{Runs, Room, Done, AllCallsCorrect, Passes, Shown}

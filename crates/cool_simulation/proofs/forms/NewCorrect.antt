@@ -24,7 +24,7 @@ use Rattle.cool_codegen.specs.Variables.{Named}
 use Rattle.cool_meaning.specs.Values.{Value, State, Environment, class_of}
 use Rattle.cool_meaning.specs.Lookups.{class_made}
 use Rattle.cool_meaning.specs.Evaluation.{Call, Calls, make}
-use Rattle.cool_meaning.proofs.FittingValues as fitting
+use Rattle.cool_meaning.specs.FittingValues as fitting
 use Rattle.cool_simulation.specs.Loadings.{Loading, IsLoaded, Watched, marks, whole}
 use Rattle.cool_simulation.specs.Pictures.{Map}
 use Rattle.cool_simulation.specs.Simulation.{Begins, Runs, Room, Done, Correct, AllCallsCorrect, Shown}

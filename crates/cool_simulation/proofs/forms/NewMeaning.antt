@@ -24,8 +24,9 @@ use Rattle.cool_meaning.specs.Meters.{Outcome, Val, Stop, On, Stuck, Metered, Co
 use Rattle.cool_meaning.specs.Lookups.{attributes, default_values}
 use Rattle.cool_meaning.specs.BasicMethods.{locate_all, draw, new_number, new_truth, new_string}
 use Rattle.cool_meaning.specs.Evaluation.{Calls, Initials, new_object, make}
-use Rattle.cool_meaning.proofs.FittingValues.{AllFit, Fits, AreMade, attribute_classes}
-use Rattle.cool_meaning.proofs.FittingValues as fitting
+use Rattle.cool_meaning.specs.FittingValues.{AllFit, Fits, AreMade, attribute_classes}
+use Rattle.cool_meaning.specs.FittingValues as fitting
+use Rattle.cool_meaning.proofs.FittingValues as growing
 use Rattle.cool_meaning.proofs.MethodsOfTables.{defined_attribute}
 use Rattle.cool_meaning.proofs.SoundComputations.{NotStuck, locate_all_sound}
 use Rattle.cool_meaning.proofs.SoundParts.{default_fits}
@@ -149,7 +150,7 @@ module _ (p : List Class) (typed : IsTypedTable p) where
   -- the store with the defaults fits a larger world, in which the object fits its class
   pub record IsStored (w : fitting.World) (c : ClassId) (st : State) : Type 0 where
     pub world : fitting.World
-    pub grown : fitting.Grown w world
+    pub grown : growing.Grown w world
     pub store : AllFit p world (st.store ++ made_values p c) world
     pub object : Fits p world (made_object p c st) c
 

@@ -21,8 +21,8 @@ use Rattle.cool_layout.specs.Labels.{prototype, initializer, dispatch_table}
 use Rattle.cool_meaning.specs.Values.{Value, State}
 use Rattle.cool_meaning.specs.Lookups.{attributes}
 use Rattle.cool_meaning.specs.Evaluation.{Call, Calls, Initials}
-use Rattle.cool_meaning.proofs.FittingValues.{AllFit}
-use Rattle.cool_meaning.proofs.FittingValues as fitting
+use Rattle.cool_meaning.specs.FittingValues.{AllFit}
+use Rattle.cool_meaning.specs.FittingValues as fitting
 use Rattle.cool_simulation.specs.Loadings.{Loading, IsLoaded, item_word, Watched}
 use Rattle.cool_simulation.specs.Pictures.{Map, Pic, Pictures, Kept, Grown, Shows}
 use Rattle.cool_simulation.specs.Simulation.{Runs, Room, Called, Done, CallsCorrect}

@@ -12,7 +12,7 @@ use Rattle.cool_meaning.specs.Values.{Value, State, Obj}
 use Rattle.cool_meaning.specs.Meters.{Outcome, Val, Stop, On, Stuck, Computation, working, holding, spend, Metered}
 use Rattle.cool_meaning.specs.Lookups.{attributes}
 use Rattle.cool_meaning.specs.Evaluation.{Call, Calls, Initials, make, new_object}
-use Rattle.cool_meaning.proofs.FittingValues as fitting
+use Rattle.cool_meaning.specs.FittingValues as fitting
 use Rattle.cool_simulation.specs.Loadings.{Loading, IsLoaded, Watched}
 use Rattle.cool_simulation.specs.Pictures.{Map}
 use Rattle.cool_simulation.specs.Simulation.{Runs, Way, Room, Done, AllCallsCorrect, Passes}

@@ -16,8 +16,8 @@ use Rattle.cool_runtime.proofs.Words.{word_equal}
 use Rattle.cool_layout.specs.Labels.{method_label}
 use Rattle.cool_meaning.specs.Values.{Value, State, class_of}
 use Rattle.cool_meaning.specs.BasicMethods.{basic}
-use Rattle.cool_meaning.proofs.FittingValues.{AllFit, Fits}
-use Rattle.cool_meaning.proofs.FittingValues as fitting
+use Rattle.cool_meaning.specs.FittingValues.{AllFit, Fits}
+use Rattle.cool_meaning.specs.FittingValues as fitting
 use Rattle.cool_simulation.specs.Loadings.{Loading}
 use Rattle.cool_simulation.specs.Pictures.{Map, Pic, Pictures, Kept, Grown, Shows}
 use Rattle.cool_simulation.specs.Simulation.{Done, AllDone, Called, Runs, Room}

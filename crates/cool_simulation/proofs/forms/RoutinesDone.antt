@@ -9,7 +9,7 @@ use Rattle.cool_runtime.specs.Contents.{Same}
 use Rattle.cool_runtime.specs.Machines.{At, Pointers, Console}
 use Rattle.cool_meaning.specs.Values.{Value, State}
 use Rattle.cool_meaning.specs.Meters.{Metered, join}
-use Rattle.cool_meaning.proofs.FittingValues as fitting
+use Rattle.cool_meaning.specs.FittingValues as fitting
 use Rattle.cool_simulation.specs.Loadings.{Loading}
 use Rattle.cool_simulation.specs.Pictures.{Map, Pic, Shows}
 use Rattle.cool_simulation.specs.Simulation.{Done, Runs, Passes}

@@ -16,8 +16,10 @@ use Rattle.cool_runtime.proofs.Words.{word_same}
 use Rattle.cool_codegen.specs.declared.variables.Variable.{Variable}
 use Rattle.cool_codegen.specs.Variables.{Named, bind, pushed}
 use Rattle.cool_meaning.specs.Values.{Value, State, Environment, location_of}
-use Rattle.cool_meaning.proofs.FittingValues.{Fits, fit_length, fit_more, made_last, still_fits, still_all_fit}
-use Rattle.cool_meaning.proofs.FittingValues as fitting
+use Rattle.cool_meaning.specs.FittingValues.{Fits}
+use Rattle.cool_meaning.proofs.FittingValues.{fit_length, fit_more, made_last, still_fits, still_all_fit}
+use Rattle.cool_meaning.specs.FittingValues as fitting
+use Rattle.cool_meaning.proofs.FittingValues as growing
 use Rattle.cool_meaning.proofs.SoundEvaluation.{scene_later, scene_with}
 use Rattle.cool_simulation.specs.Loadings.{Loading}
 use Rattle.cool_simulation.specs.Pictures.{Map, Pic, Pictures, Kept, Grown}
@@ -96,7 +98,7 @@ module _ (l : Loading) where
       let top : word m1 a ≡ q.acc = word_same m a q.acc numbers.acc_fits in
       let pictures1 = pictures_lower l.world l.table l.memory m1 map st q.gp q.sp a (omega arith) (pictures_same l.world l.table l.memory m m1 map st q.gp q.gp q.sp numbers.gp_from (omega arith) same begins.pictures) in
       let pic1 = pic_stays l.world m m1 map map st.drawn st.drawn q.gp q.gp v q.acc (omega arith) (omega arith) stay pic in
-      let grows : fitting.Grown made (made ++ class_meant k t ∷ []) = record { more = class_meant k t ∷ []; is = refl } in
+      let grows : growing.Grown made (made ++ class_meant k t ∷ []) = record { more = class_meant k t ∷ []; is = refl } in
       let long : length st.store ≡ length made = fit_length l.table made st.store made begins.fits in
       record {
         at = at;

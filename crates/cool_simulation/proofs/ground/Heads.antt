@@ -18,7 +18,7 @@ use Rattle.cool_codegen.specs.Pieces.{load_lines, take_lines, take_self_lines, t
 use Rattle.cool_codegen.specs.Spans.{span}
 use Rattle.cool_codegen.specs.Variables.{Named}
 use Rattle.cool_meaning.specs.Values.{Value, State, Environment}
-use Rattle.cool_meaning.proofs.FittingValues as fitting
+use Rattle.cool_meaning.specs.FittingValues as fitting
 use Rattle.cool_simulation.specs.Loadings.{Loading, Watched, marks, whole, whole_text}
 use Rattle.cool_simulation.specs.Pictures.{Map}
 use Rattle.cool_simulation.specs.Quiet.{IsFree}

@@ -13,11 +13,12 @@ use Rattle.cool_codegen.specs.Variables.{Named}
 use Rattle.cool_meaning.specs.Values.{Value, State, Environment}
 use Rattle.cool_meaning.specs.Meters.{Val}
 use Rattle.cool_meaning.specs.Evaluation.{Calls, eval}
-use Rattle.cool_meaning.proofs.FittingValues.{Fits, AllFit}
-use Rattle.cool_meaning.proofs.FittingValues as fitting
+use Rattle.cool_meaning.specs.FittingValues.{Fits, AllFit, Scene}
+use Rattle.cool_meaning.specs.FittingValues as fitting
+use Rattle.cool_meaning.proofs.FittingValues as growing
 use Rattle.cool_meaning.proofs.SoundComputations.{IsFine, NotStuck}
 use Rattle.cool_meaning.proofs.SoundParts.{AllCallsSound}
-use Rattle.cool_meaning.proofs.SoundEvaluation.{Scene, scene_later, eval_sound}
+use Rattle.cool_meaning.proofs.SoundEvaluation.{scene_later, eval_sound}
 use Rattle.cool_simulation.specs.Loadings.{Loading, IsLoaded}
 use Rattle.cool_simulation.specs.Pictures.{Map, Grown}
 use Rattle.cool_simulation.specs.Simulation.{Begins, Done, Variables, IsVariableAt}
@@ -44,7 +45,7 @@ module _ (l : Loading) (loaded : IsLoaded l) (calls : Calls) (b : ℕ) (sound : 
   -- Behind a part with a value: the store fits what was made meanwhile, and a next part may begin.
   pub record Next (scope : List Binding) (vs : List Named) (env : Environment) (made : fitting.World) (type : Ty) (d : ℕ) (q : Pointers) (m : Bytes) (map : Map) (console : Console) (v : Value) (st : State) (left n : ℕ) (s : Machine) : Type 0 where
     pub made' : fitting.World
-    pub later : fitting.Grown made made'
+    pub later : growing.Grown made made'
     pub value_fits : Fits l.table made' v (class_meant k type)
     pub fewer : left ≤ n
     pub begins : Begins l c k self scope vs env made' d q m map console st s

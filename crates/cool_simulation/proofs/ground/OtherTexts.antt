@@ -11,7 +11,7 @@ use Rattle.cool_runtime.specs.Machines.{Console, Pointers}
 use Rattle.cool_runtime.specs.Reaches.{World}
 use Rattle.cool_codegen.specs.Variables.{Named}
 use Rattle.cool_meaning.specs.Values.{Value, Void, Int, Bool, Str, Obj, State, Environment}
-use Rattle.cool_meaning.proofs.FittingValues as fitting
+use Rattle.cool_meaning.specs.FittingValues as fitting
 use Rattle.cool_simulation.specs.Loadings.{InData, Loading, Watch}
 use Rattle.cool_simulation.specs.Pictures.{HomeStands, Map, ObjectStands, Pic, Pictures}
 use Rattle.cool_simulation.specs.Simulation.{Begins, Shown}

@@ -25,8 +25,10 @@ use Rattle.cool_meaning.specs.BasicMethods.{new_number, new_truth, new_string}
 use Rattle.cool_meaning.specs.Evaluation.{Calls, eval, make, new_object}
 use Rattle.cool_meaning.specs.Lookups.{class_made}
 use Rattle.cool_meaning.proofs.BasicClasses.{basic_within}
-use Rattle.cool_meaning.proofs.FittingValues.{AllFit, Fits, Holds, fit_at}
-use Rattle.cool_meaning.proofs.FittingValues as fitting
+use Rattle.cool_meaning.specs.FittingValues.{AllFit, Fits, Holds}
+use Rattle.cool_meaning.proofs.FittingValues.{fit_at}
+use Rattle.cool_meaning.specs.FittingValues as fitting
+use Rattle.cool_meaning.proofs.FittingValues as growing
 use Rattle.cool_meaning.proofs.SoundComputations.{NotStuck, IsFine}
 use Rattle.cool_meaning.proofs.SoundEvaluation.{scene_later}
 use Rattle.cool_simulation.specs.Loadings.{Loading}
@@ -51,7 +53,7 @@ module _ (l : Loading) where
       (st st' : State) (s s' : Machine) (pc gp sp acc ra : ℕ) → Begins l c k self scope vs env made d q m map console st s
       → At l.world (record q { pc = pc; gp = gp; sp = sp; acc = acc; ra = ra }) m' console' s' → Shows st' console' → Pictures l.table l.world l.memory m' map' st' gp sp
       → Kept m m' map.marked q.gp q.sp → Grown map map' st.drawn (length st.store) q.gp q.sp → q.gp ≤ gp → st.drawn ≤ st'.drawn → sp + 4 * d' ≡ q.fp
-      → fitting.Grown made made' → AllFit l.table made' st'.store made'
+      → growing.Grown made made' → AllFit l.table made' st'.store made'
       → Begins l c k self scope vs env made' d' (record q { pc = pc; gp = gp; sp = sp; acc = acc; ra = ra }) m' map' console' st' s'
   begins_later c k self scope vs env made made' d d' q m m' map map' console console' st st' s s' pc gp sp acc ra begins at shows pictures kept grown le drawn depth world fits =
       record {

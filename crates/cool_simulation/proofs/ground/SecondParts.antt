@@ -13,7 +13,7 @@ use Rattle.cool_codegen.specs.Variables.{Named}
 use Rattle.cool_codegen.specs.Code.{code}
 use Rattle.cool_meaning.specs.Values.{Value, State, Environment}
 use Rattle.cool_meaning.specs.Evaluation.{Call, Calls, eval}
-use Rattle.cool_meaning.proofs.FittingValues as fitting
+use Rattle.cool_meaning.specs.FittingValues as fitting
 use Rattle.cool_simulation.specs.Loadings.{Loading, Watched, constants, context}
 use Rattle.cool_simulation.specs.Pictures.{Map}
 use Rattle.cool_simulation.specs.Simulation.{Begins, Done, Correct, Runs, CodeAt}

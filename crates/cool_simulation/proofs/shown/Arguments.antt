@@ -20,7 +20,7 @@ use Rattle.cool_codegen.specs.Variables.{Named}
 use Rattle.cool_meaning.specs.Values.{Value, State, Environment}
 use Rattle.cool_meaning.specs.Meters.{Computation, give, holding, seq, ◌>>=◌}
 use Rattle.cool_meaning.specs.Evaluation.{Call, Calls, eval, eval_all}
-use Rattle.cool_meaning.proofs.FittingValues as fitting
+use Rattle.cool_meaning.specs.FittingValues as fitting
 use Rattle.cool_meaning.proofs.SoundParts.{AllCallsSound}
 use Rattle.cool_simulation.specs.Loadings.{Loading, IsLoaded, constants, context}
 use Rattle.cool_simulation.specs.Pictures.{Map}

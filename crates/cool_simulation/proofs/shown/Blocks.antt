@@ -18,7 +18,7 @@ use Rattle.cool_codegen.specs.Spans.{Span, items_spans, span, spans}
 use Rattle.cool_codegen.specs.Variables.{Named}
 use Rattle.cool_meaning.specs.Values.{Value, Void, State, Environment}
 use Rattle.cool_meaning.specs.Evaluation.{Call, Calls, eval, eval_items}
-use Rattle.cool_meaning.proofs.FittingValues as fitting
+use Rattle.cool_meaning.specs.FittingValues as fitting
 use Rattle.cool_meaning.proofs.SoundParts.{AllCallsSound}
 use Rattle.cool_simulation.specs.Loadings.{Loading, IsLoaded, constants, context}
 use Rattle.cool_simulation.specs.Pictures.{Map}

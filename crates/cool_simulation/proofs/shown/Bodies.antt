@@ -26,8 +26,8 @@ use Rattle.cool_meaning.specs.Meters.{Stuck, Metered, join}
 use Rattle.cool_meaning.specs.Lookups.{environment_of, formal_names, located, method_in}
 use Rattle.cool_meaning.specs.BasicMethods.{locate_all}
 use Rattle.cool_meaning.specs.Evaluation.{Body, Call, Calls, run_call, run_method}
-use Rattle.cool_meaning.proofs.FittingValues.{AllFit, meant}
-use Rattle.cool_meaning.proofs.FittingValues as fitting
+use Rattle.cool_meaning.specs.FittingValues.{AllFit, meant}
+use Rattle.cool_meaning.specs.FittingValues as fitting
 use Rattle.cool_meaning.proofs.Later.{after_on, later_same}
 use Rattle.cool_meaning.proofs.MethodsOfTables.{defined}
 use Rattle.cool_simulation.specs.Loadings.{Loading, IsLoaded, constants, context}

@@ -16,8 +16,8 @@ use Rattle.cool_layout.specs.Labels.{method_label}
 use Rattle.cool_meaning.specs.Values.{Value, Void, Int, Bool, Str, Obj, State, class_of}
 use Rattle.cool_meaning.specs.Meters.{Computation, Error, spend, working, ◌>>=◌}
 use Rattle.cool_meaning.specs.Evaluation.{Body, Call, Calls, class_or, invoke}
-use Rattle.cool_meaning.proofs.FittingValues.{AllFit, meant}
-use Rattle.cool_meaning.proofs.FittingValues as fitting
+use Rattle.cool_meaning.specs.FittingValues.{AllFit, meant}
+use Rattle.cool_meaning.specs.FittingValues as fitting
 use Rattle.cool_simulation.specs.Loadings.{Loading, IsLoaded}
 use Rattle.cool_simulation.specs.Pictures.{Map}
 use Rattle.cool_simulation.specs.Shown.{AllCallsShown, Comes}

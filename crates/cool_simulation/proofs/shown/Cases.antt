@@ -23,7 +23,8 @@ use Rattle.cool_codegen.specs.Variables.{bind}
 use Rattle.cool_meaning.specs.Values.{Value, State, Environment}
 use Rattle.cool_meaning.specs.Meters.{CaseVoid, Computation, Metered, given, locate, seq, working, ◌>>=◌}
 use Rattle.cool_meaning.specs.Evaluation.{Branch, Call, Calls, branch_count, branch_of, class_or, eval, nearest, take_branch}
-use Rattle.cool_meaning.proofs.FittingValues.{Fits, class_fits, fits_above}
+use Rattle.cool_meaning.specs.FittingValues.{Fits}
+use Rattle.cool_meaning.proofs.FittingValues.{class_fits, fits_above}
 use Rattle.cool_meaning.proofs.SoundParts.{AllCallsSound}
 use Rattle.cool_simulation.specs.Loadings.{Loading, IsLoaded, constants, context}
 use Rattle.cool_simulation.specs.Simulation.{Begins, Correct, Shown}

@@ -39,10 +39,11 @@ use Rattle.cool_codegen.specs.Spans.{Span, arguments_spans, span, spans}
 use Rattle.cool_meaning.specs.Values.{Value, State, Environment, class_of}
 use Rattle.cool_meaning.specs.Meters.{Computation, DispatchVoid, given, holding, seq, ◌>>=◌}
 use Rattle.cool_meaning.specs.Evaluation.{Call, Calls, class_or, dispatch, eval, eval_all}
-use Rattle.cool_meaning.proofs.FittingValues.{AllFit, below_conforming, class_fits, fit_length, still_all_fit}
-use Rattle.cool_meaning.proofs.FittingValues as fitting
+use Rattle.cool_meaning.specs.FittingValues.{AllFit, Scene}
+use Rattle.cool_meaning.proofs.FittingValues.{below_conforming, class_fits, fit_length, still_all_fit}
+use Rattle.cool_meaning.specs.FittingValues as fitting
 use Rattle.cool_meaning.proofs.SoundParts.{AllCallsSound}
-use Rattle.cool_meaning.proofs.SoundEvaluation.{Scene, all_sound, scene_later}
+use Rattle.cool_meaning.proofs.SoundEvaluation.{all_sound, scene_later}
 use Rattle.cool_simulation.specs.Loadings.{Loading, IsLoaded, constants, context}
 use Rattle.cool_simulation.specs.Pictures.{Map}
 use Rattle.cool_simulation.specs.Simulation.{AllCallsCorrect, AllCorrect, AllDone, Begins, CodeAt, AllCodeAt, Correct, Done, Runs, IsSpan, Shown}

@@ -26,8 +26,9 @@ use Rattle.cool_meaning.specs.Values.{Value, State, class_of}
 use Rattle.cool_meaning.specs.Meters.{Outcome, Stuck, seq, store}
 use Rattle.cool_meaning.specs.Lookups.{attributes, environment_of, init_in}
 use Rattle.cool_meaning.specs.Evaluation.{Call, Calls, eval, run_initial, run_initials}
-use Rattle.cool_meaning.proofs.FittingValues.{AreMade, meant, attribute_classes, still_all_made}
-use Rattle.cool_meaning.proofs.FittingValues as fitting
+use Rattle.cool_meaning.specs.FittingValues.{AreMade, meant, attribute_classes}
+use Rattle.cool_meaning.proofs.FittingValues.{still_all_made}
+use Rattle.cool_meaning.specs.FittingValues as fitting
 use Rattle.cool_meaning.proofs.Later.{later_same}
 use Rattle.cool_meaning.proofs.SoundMethods.{Any}
 use Rattle.cool_meaning.proofs.SoundComputations.{NotStuck, IsFine}

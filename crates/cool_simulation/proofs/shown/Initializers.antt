@@ -29,7 +29,7 @@ use Rattle.cool_meaning.specs.Values.{Value, State}
 use Rattle.cool_meaning.specs.Meters.{Metered, Stuck, seq_of}
 use Rattle.cool_meaning.specs.Lookups.{attributes, init_of, locations_of}
 use Rattle.cool_meaning.specs.Evaluation.{Call, Calls, Initials, run_call, run_initial, run_initials}
-use Rattle.cool_meaning.proofs.FittingValues as fitting
+use Rattle.cool_meaning.specs.FittingValues as fitting
 use Rattle.cool_meaning.proofs.Later.{After}
 use Rattle.cool_meaning.proofs.SoundParts.{AllCallsSound}
 use Rattle.cool_simulation.specs.Loadings.{Loading, IsLoaded, constants, whole as whole_world}

@@ -29,8 +29,9 @@ use Rattle.cool_codegen.specs.Spans.{Span, span, spans}
 use Rattle.cool_meaning.specs.Values.{Value, State, Environment, default_of}
 use Rattle.cool_meaning.specs.Meters.{Metered, give, locate, seq, ◌>>=◌}
 use Rattle.cool_meaning.specs.Evaluation.{Call, Calls, eval}
-use Rattle.cool_meaning.proofs.FittingValues.{Fits, fits_conforming}
-use Rattle.cool_meaning.proofs.FittingValues as fitting
+use Rattle.cool_meaning.specs.FittingValues.{Fits}
+use Rattle.cool_meaning.proofs.FittingValues.{fits_conforming}
+use Rattle.cool_meaning.specs.FittingValues as fitting
 use Rattle.cool_meaning.proofs.SoundParts.{AllCallsSound, default_fits}
 use Rattle.cool_simulation.specs.Loadings.{Loading, IsLoaded, constants, context}
 use Rattle.cool_simulation.specs.Pictures.{Map, Pic}

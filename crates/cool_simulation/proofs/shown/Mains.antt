@@ -15,7 +15,7 @@ use Rattle.cool_meaning.specs.Meters.{Outcome, DispatchVoid, Metered, Val, join,
 use Rattle.cool_meaning.specs.SourceRun.{Run, run, run_of}
 use Rattle.cool_meaning.specs.Evaluation.{Body, calls_within, class_or, invoke, make}
 use Rattle.cool_meaning.specs.Lookups.{class_made}
-use Rattle.cool_meaning.proofs.FittingValues.{Fits}
+use Rattle.cool_meaning.specs.FittingValues.{Fits}
 use Rattle.cool_meaning.proofs.SoundComputations.{IsFine, NotStuck}
 use Rattle.cool_meaning.proofs.SoundParts.{make_sound}
 use Rattle.cool_meaning.proofs.SoundRuns.{never_stuck, within_sound}

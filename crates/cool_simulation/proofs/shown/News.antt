@@ -29,7 +29,7 @@ use Rattle.cool_meaning.specs.Meters.{Metered, Computation, Outcome, Stuck}
 use Rattle.cool_meaning.specs.Lookups.{attributes, class_made, default_values}
 use Rattle.cool_meaning.specs.BasicMethods.{draw, locate_all}
 use Rattle.cool_meaning.specs.Evaluation.{Call, Calls, Initials, make}
-use Rattle.cool_meaning.proofs.FittingValues as fitting
+use Rattle.cool_meaning.specs.FittingValues as fitting
 use Rattle.cool_meaning.proofs.SoundParts.{AllCallsSound, is_other}
 use Rattle.cool_simulation.specs.Loadings.{Loading, IsLoaded, whole}
 use Rattle.cool_simulation.specs.Pictures.{Map}

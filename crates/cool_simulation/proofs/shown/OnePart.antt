@@ -18,7 +18,7 @@ use Rattle.cool_meaning.specs.Values.{Value, Bool, State, Environment}
 use Rattle.cool_meaning.specs.Meters.{Computation, seq, rule, give, ◌>>=◌}
 use Rattle.cool_meaning.specs.BasicMethods.{as_number, as_truth}
 use Rattle.cool_meaning.specs.Evaluation.{Call, Calls, assign, eval, exact, is_void}
-use Rattle.cool_meaning.proofs.FittingValues as fitting
+use Rattle.cool_meaning.specs.FittingValues as fitting
 use Rattle.cool_meaning.proofs.SoundParts.{AllCallsSound}
 use Rattle.cool_simulation.specs.Loadings.{Loading, IsLoaded, constants, context}
 use Rattle.cool_simulation.specs.Pictures.{Map}

@@ -17,8 +17,8 @@ use Rattle.cool_codegen.specs.Variables.{Named}
 use Rattle.cool_meaning.specs.Values.{Value, State, Environment}
 use Rattle.cool_meaning.specs.Meters.{Val}
 use Rattle.cool_meaning.specs.Evaluation.{Call, Calls, eval}
-use Rattle.cool_meaning.proofs.FittingValues.{Fits}
-use Rattle.cool_meaning.proofs.FittingValues as fitting
+use Rattle.cool_meaning.specs.FittingValues.{Fits}
+use Rattle.cool_meaning.specs.FittingValues as fitting
 use Rattle.cool_meaning.proofs.SoundComputations.{NotStuck}
 use Rattle.cool_meaning.proofs.SoundParts.{AllCallsSound}
 use Rattle.cool_meaning.proofs.SoundEvaluation.{eval_sound}

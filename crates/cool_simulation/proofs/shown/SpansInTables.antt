@@ -1,5 +1,5 @@
 -- The spans that are counted from the labels of methods and initializers are those of the table of code, which counts from the start of the text.
-use Rattle.std.proofs.Common.{◌≡◌, ℕ, zero, suc, ◌+◌, ◌<◌, inl, inr, List, [], ◌∷◌, flat_map, length, Some, refl, subst, arith}
+use Rattle.std.proofs.Common.{◌≡◌, ℕ, zero, suc, ◌+◌, ◌<◌, inl, inr, List, [], ◌∷◌, flat_map, length, Some, refl, sym, subst, arith}
 use Rattle.std.specs.Prelude.{Bool as Truth, true, false, Contains, if◌then◌else◌, nat_lt, slice_get}
 use Rattle.std.proofs.lemmas.List.Elements.{Contains-append_left, Contains-append_right}
 use Rattle.mips_isa.specs.declared.address_map.TheConstants.{TEXT_START}
@@ -17,10 +17,13 @@ use Rattle.cool_runtime.proofs.Pieces.{has_front, has_back}
 use Rattle.cool_layout.specs.Labels.{initializer, method_label}
 use Rattle.cool_layout.specs.Preorder.{numbers_from}
 use Rattle.cool_codegen.specs.Pieces.{begin_init_lines, mark_lines, return_basic_lines}
+use Rattle.cool_codegen.specs.Shown.{Shown}
 use Rattle.cool_codegen.specs.Spans.{Span, along, method_spans}
 use Rattle.cool_emit.specs.Programs.{Placed, class_code, classes_code, initializer_code, methods_from, methods_in, placed_code, program_text}
 use Rattle.cool_emit.specs.SpansOfPrograms.{SpanOf, initializer_spans, placed_spans, program_spans, told_in_class}
+use Rattle.cool_emit.specs.RowsOfSpans.{told_of, told_rows}
 use Rattle.cool_emit.proofs.LabelsOfParts.{number_there}
+use Rattle.cool_emit.proofs.RowsOfSpans.{rows_are_spans}
 use Rattle.cool_simulation.specs.Loadings.{Loading, constants, context}
 use Rattle.cool_simulation.proofs.shown.InitialValues.{in_image}
 use Rattle.cool_simulation.specs.Simulation.{IsSpan}
@@ -104,3 +107,10 @@ module _ (l : Loading) where
         let here : Contains (placed_spans sizes l.table l.files g c pc' placed) y =
         in_image (λ (z : Span). record { class = c; feature = f; span = z }) (method_spans sizes (context l c f) g m.formals pc' m.body) x (subst (λ a. Contains (method_spans sizes (context l c f) g m.formals a m.body) x) marked there) in
         all y (Contains-append_right (initializer_spans sizes l.table l.files g pc c) (along sizes (placed_code l.table l.files g c) (placed_spans sizes l.table l.files g c) (pc + sizes first) (methods_in l.table c)) y (told y here))
+
+    -- and the table has a row of it
+    pub row_in_table : (c : ClassId) (f : ℕ) (x : Span) → c.0 < length l.table → IsSpan l c f x → Contains (told_rows l.table l.files) (told_of l.table l.files (record { class = c; feature = f; span = x }))
+    row_in_table c f x within there =
+        let y : SpanOf = record { class = c; feature = f; span = x } in
+        subst (λ (rs : List Shown). Contains rs (told_of l.table l.files y)) (sym (rows_are_spans l.table l.files))
+        (in_image (told_of l.table l.files) (program_spans sizes l.table l.files TEXT_START) y (span_in_table c f x within there))

@@ -1,5 +1,5 @@
--- What stands on the way of the machine of an image is visited by the runs of the source: wherever it comes to the first word of a span, it pictures
--- an expression that the run begins.
+-- What stands on the way of the machine of an image is visited by the runs of the source: wherever it comes to the first word of a row of the table of code, it pictures
+-- an expression that the run begins. The world of the proof is to reach as far as the run needs, whatever the limits are: where they are less, the way ends by one.
 use Rattle.std.proofs.Common.{[], refl, sym, subst, arith, append-nil, None, ◌≡◌, ℕ, ◌+◌, ◌-◌, ◌*◌, ◌<◌, ◌≤◌, ◌⊎◌, inl, inr, Some, ap, ◌∙◌, List, true}
 use Rattle.mips_isa.specs.Bytes.{Segments, bytes_of_image}
 use Rattle.mips_isa.specs.ImageBounds.{ImageParts}
@@ -12,27 +12,31 @@ use Rattle.cool_emit.specs.Programs.{program_data, program_text, program_lines}
 use Rattle.cool_emit.proofs.ProgramsAreSound.{programs_sound}
 use Rattle.cool_simulation.specs.Loadings.{Loading, IsLoaded, Watched, marks, whole, whole_text as whole_loaded_text}
 use Rattle.cool_simulation.specs.MainRun.{RunRoom, PassesTo, Starts}
-use Rattle.cool_simulation.specs.Shown.{SpansAreVisits, Visited}
+use Rattle.cool_simulation.specs.Shown.{RowsAreVisits, Visited}
 use Rattle.cool_simulation.proofs.calls.AllCalls.{all_calls_correct}
 use Rattle.cool_simulation.proofs.loading.Loaded.{has_image, image, is_loaded, loading, segments}
 use Rattle.cool_simulation.proofs.loading.LoadedImages.{image_is}
 use Rattle.cool_simulation.proofs.loading.LoadedText.{whole_text}
 use Rattle.cool_simulation.proofs.loading.StartState.{begun, no_homes, starts, whole_input}
-use Rattle.cool_simulation.proofs.shown.SpansInTables.{span_in_table}
+use Rattle.cool_simulation.proofs.shown.SpansInTables.{row_in_table, span_in_table}
 use Rattle.cool_simulation.specs.Simulation.{Shown, Passes}
 use Rattle.std.specs.Prelude.{Contains}
 use Rattle.mips_isa.specs.Calls.{State as Machine, Outcome, Running, Exited, Trapped}
 use Rattle.mips_isa.specs.Run.{run_image}
 use Rattle.mips_isa.specs.Assembly.{image_of}
 use Rattle.cool_runtime.specs.Standing.{sizes}
-use Rattle.mips_isa.specs.declared.address_map.TheConstants.{TEXT_START}
+use Rattle.mips_isa.specs.declared.address_map.TheConstants.{HEAP_START, STACK_END, TEXT_START}
 use Rattle.cool_meaning.specs.Values.{start as source_start}
 use Rattle.cool_meaning.proofs.SoundRuns.{never_stuck}
+use Rattle.cool_codegen.specs.Shown as rows
+use Rattle.cool_emit.specs.RowsOfSpans.{told_of}
 use Rattle.cool_emit.specs.SpansOfPrograms.{SpanOf, program_spans}
+use Rattle.cool_emit.proofs.RowsOfSpans.{rows_are_spans}
 use Rattle.cool_simulation.proofs.ground.QuietTexts.{at_over}
 use Rattle.cool_simulation.proofs.ground.OtherTexts.{pictures_over, shown_over}
 use Rattle.cool_simulation.proofs.calls.InitialParts.{in_image}
 use Rattle.cool_simulation.proofs.loading.MarkedTexts.{is_among_of}
+use Rattle.cool_simulation.proofs.loading.QuietFeatures.{out_of_image}
 use Rattle.cool_simulation.proofs.loading.SettledFeatures.{settled_method, settled_value}
 use Rattle.cool_simulation.proofs.loading.WatchedImages.{froms, is_watched, marked, watch, watched}
 use Rattle.cool_simulation.proofs.theorem.MainCall.{passes_main}
@@ -69,17 +73,19 @@ module _ (l : Loading) (s t : Machine) (count : ℕ) (there : machine.run (whole
   pictured n most output left GoesOn less some h = pictured_by n most _ h (λ u k. less)
   pictured n most output left IsStuck less some h = absurd (some refl)
 
-pub spans_are_visits : SpansAreVisits
-spans_are_visits p names input limits n count t span is bytes are less heap stack there among at =
+pub rows_are_visits : RowsAreVisits
+rows_are_visits p names input limits n count t row is bytes are less there among at =
     let b = is.buildable in
     let r : Run = run p names input n in
     let i : ImageParts = image p names b limits are in
     let reach : Segments = segments p names b limits are in
-    let l : Loading = loading p names b limits are reach.heap_end reach.stack_low r.output r.left in
+    let top : ℕ = HEAP_START + (4 * r.words + 64) in
+    let low : ℕ = STACK_END - (16 * r.peak + 256) in
+    let l : Loading = loading p names b limits are top low r.output r.left in
     let w : World = l.world in
     let memory = bytes_of_image i in
-    let loaded = is_loaded p names b limits are reach.heap_end reach.stack_low r.output r.left is.texts in
-    let text = whole_text (program_text p names) (program_data p names) w (has_image p names b limits are reach.heap_end reach.stack_low r.output r.left) in
+    let loaded = is_loaded p names b limits are top low r.output r.left is.texts in
+    let text = whole_text (program_text p names) (program_data p names) w (has_image p names b limits are top low r.output r.left) in
     let same : image_of (program_lines p names) ≡ i = image_is (program_text p names) (program_data p names) (programs_sound p names b) in
     let methods = settled_method p names b is.written (marked p names) in
     let values = settled_value p names b is.written (marked p names) in
@@ -88,7 +94,7 @@ spans_are_visits p names input limits n count t span is bytes are less heap stac
     let quiet : World = watched_l.world in
     let q = begun p names b limits are in
     let s = machine.start i reach input in
-    let starting = starts p names b limits are reach.heap_end reach.stack_low r.output r.left input bytes in
+    let starting = starts p names b limits are top low r.output r.left input bytes in
     let starting' : Starts watched_l input q no_homes (whole_input input) s = record {
       at = at_over w quiet.text q memory (whole_input input) s starting.at;
       pc = starting.pc;
@@ -101,10 +107,12 @@ spans_are_visits p names input limits n count t span is bytes are less heap stac
       homeless = starting.homeless;
       unmarked = starting.unmarked;
     } in
-    let room : RunRoom quiet r = record { heap = omega (arith, heap); stack = omega (arith, stack); way = record { written = ([], sym (append-nil r.output)); taken = ([], refl) } } in
+    let room : RunRoom quiet r = record { heap = omega arith; stack = omega arith; way = record { written = ([], sym (append-nil r.output)); taken = ([], refl) } } in
     let passes = passes_main watched_l watched_loaded (all_calls_correct watched_l watched_loaded is.written) input q no_homes (whole_input input) s n starting' room (λ x h. h) in
     let there' : machine.run i.text reach count s ≡ Running t = subst (λ (y : ImageParts). run_image y limits.heap limits.stack input count ≡ Running t) same there in
-    let in_froms : Contains (froms p names) span.span.from = in_image (λ (x : SpanOf). x.span.from) (program_spans sizes p names TEXT_START) span among in
+    let (span, of_row, is_row) = out_of_image (told_of p names) (program_spans sizes p names TEXT_START) row (subst (λ (rs : List rows.Shown). Contains rs row) (rows_are_spans p names) among) in
+    let from : span.span.from ≡ row.from = ap (λ (r : rows.Shown). r.from) is_row in
+    let in_froms : Contains (froms p names) row.from = subst (Contains (froms p names)) from (in_image (λ (x : SpanOf). x.span.from) (program_spans sizes p names TEXT_START) span of_row) in
     let mark : marks watched_l.watch t.core.pc ≡ true = is_among_of (froms p names) t.core.pc (subst (Contains (froms p names)) (sym at) in_froms) in
     let (x, begins, shows') = pictured watched_l s t count there' mark n (64 * r.work) r.output r.left r.end less (never_stuck p b.typed names input n) passes in
     let shows : Shown l x t = shown_over p names quiet memory w.text (Some (watch p names w memory methods values text loaded input n)) None x t shows' in
@@ -119,4 +127,5 @@ spans_are_visits p names input limits n count t span is bytes are less heap stac
       loaded = loaded;
       shown = shows;
       told = span_in_table l text x.class x.feature shows.span shows.begins.scene.c_within shows.there;
+      row = row_in_table l text x.class x.feature shows.span shows.begins.scene.c_within shows.there;
     })

@@ -27,7 +27,7 @@ use Rattle.cool_meaning.specs.Values.{Value, State, Environment}
 use Rattle.cool_meaning.specs.Meters.{Computation, seq, rule, ◌>>=◌}
 use Rattle.cool_meaning.specs.BasicMethods.{as_number}
 use Rattle.cool_meaning.specs.Evaluation.{Call, Calls, arithmetic, compare, eval}
-use Rattle.cool_meaning.proofs.FittingValues as fitting
+use Rattle.cool_meaning.specs.FittingValues as fitting
 use Rattle.cool_meaning.proofs.SoundParts.{AllCallsSound}
 use Rattle.cool_simulation.specs.Loadings.{Loading, IsLoaded, constants, context}
 use Rattle.cool_simulation.specs.Pictures.{Map}

@@ -29,8 +29,8 @@ use Rattle.cool_meaning.specs.Values.{Value, Void, State, start}
 use Rattle.cool_meaning.specs.Meters.{DispatchVoid, Outcome, Val, Stop, On, Stuck, Metered, Computation, ◌>>=◌, join, holding, spend, working}
 use Rattle.cool_meaning.specs.SourceRun.{Run, run, run_of, done_text, End, Failed, GoesOn, IsStuck}
 use Rattle.cool_meaning.specs.Evaluation.{Calls, Body, class_or, dispatch, invoke, make, new_object, calls_within, Call}
-use Rattle.cool_meaning.proofs.FittingValues.{AllFit, Fits}
-use Rattle.cool_meaning.proofs.FittingValues as fitting
+use Rattle.cool_meaning.specs.FittingValues.{AllFit, Fits}
+use Rattle.cool_meaning.specs.FittingValues as fitting
 use Rattle.cool_meaning.proofs.LongerEvaluation.{more_calls_within}
 use Rattle.cool_meaning.proofs.MoreSteps.{after_of}
 use Rattle.cool_meaning.proofs.Later.{After}

@@ -1,5 +1,6 @@
 -- One more class was told.
-use Rattle.std.proofs.Common.{◌≡◌, ◌∙◌, ℕ, ◌+◌, ◌++◌, length, flat_map, ap, arith}
+use Rattle.std.proofs.Common.{◌≡◌, ◌∙◌, ℕ, ◌+◌, ◌++◌, ◌<◌, length, flat_map, ap, arith}
+use Rattle.mips_isa.specs.Lines.{lines_of}
 use Rattle.mips_isa.specs.declared.address_map.TheConstants.{TEXT_START}
 use Rattle.cool_runtime.specs.RoutineLines.{all_routine_lines}
 use Rattle.cool_runtime.specs.Standing.{sizes}
@@ -12,7 +13,26 @@ use Rattle.cool_emit.specs.SpansOfPrograms.{told_in_class}
 use Rattle.cool_emit.specs.TableLines.{row_line}
 use Rattle.cool_emit.specs.Tellings.{constants, rows_of}
 use Rattle.cool_emit.proofs.ClassesTold.{address_more, text_more}
+use Rattle.cool_emit.proofs.RoomOfTables.{class_below, routines_below}
 use Rattle.cool_emit.proofs.code_table.table_of.Goals as goal
+
+pub pass-requires : goal.pass-requires
+pass-requires c =
+    let e = c.args.emission.now in
+    let below = routines_below e.program.now (files_of e) c.requires.sound.buildable in
+    let is : sizes (lines_of c.deref.result.now) ≡ sizes all_routine_lines = ap (λ ls. sizes (lines_of ls)) c.deref.ensures.value ∙ ap sizes c.in_ok-routines.ensures in
+    record { room = omega arith }
+
+pub add_class-requires-clause-room : goal.add_class-requires-clause-room
+add_class-requires-clause-room c =
+    let e = c.args.emission.now in
+    let p = e.program.now in
+    let count = c.count-number-end.ensures.count ∙ ap length c.table.ensures in
+    let test = c.loop-number-test.true in
+    let less : c.loop-number.number < length p = omega arith in
+    let below = class_below p (files_of e) c.loop-number.number c.requires.sound.buildable less in
+    let address = c.loop-number.invariant.address in
+    omega arith
 
 pub loop-number-preserved : goal.loop-number-preserved
 loop-number-preserved c =

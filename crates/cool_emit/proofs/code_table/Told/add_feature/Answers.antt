@@ -1,5 +1,5 @@
 -- The feature is told by its own lines.
-use Rattle.std.proofs.Common.{◌≡◌, ◌∙◌, ℕ, ◌+◌, ◌≤◌, ◌<◌, ◌++◌, List, length, flat_map, map, get_or, refl, ap, ap₂, sym, subst, arith}
+use Rattle.std.proofs.Common.{◌≡◌, ◌∙◌, ℕ, ◌+◌, ◌^◌, ◌≤◌, ◌<◌, ◌++◌, List, length, flat_map, map, get_or, refl, ap, ap₂, sym, subst, arith}
 use Rattle.std.specs.List.{AllByRecursion}
 use Rattle.std.proofs.lemmas.List.{length-map}
 use Rattle.mips_isa.specs.Lines.{Line, line_of, lines_of}
@@ -11,11 +11,23 @@ use Rattle.cool_emit.specs.CodeTables.{code_row}
 use Rattle.cool_emit.specs.TableLines.{row_line}
 use Rattle.cool_emit.specs.Tellings.{addresses}
 use Rattle.cool_emit.proofs.AddingParts.{whole_front}
-use Rattle.cool_emit.proofs.FeaturesTold.{LiesIn, feature_told, lie_within}
+use Rattle.cool_emit.proofs.FeaturesTold.{LiesIn, feature_told, lie_within, own_sizes}
 use Rattle.cool_emit.proofs.RowsStanding.{member_all}
 use Rattle.cool_emit.proofs.TellingParts.{address_at, length_addresses}
 use Rattle.cool_emit.proofs.code_table.Told.add_feature.Goals as goal
 use Rattle.lists.proofs.ItemsAt.{there_is}
+
+pub addresses-requires : goal.addresses-requires
+addresses-requires c =
+    let e = c.args.emission.now in
+    let own = lines_of c.in_ok-code.code.lines.items in
+    let seen = map shown_of c.in_ok-code.code.spans.items in
+    let (x, here) = there_is (features_of e.program.now c.args.c) c.args.feature c.requires.feature in
+    let made = c.in_ok-code.ensures.made x here in
+    let same = own_sizes e c.args.c c.args.feature x c.feature_code.new.consts own seen (made.lines c.feature_code.new.consts (extends_same c.feature_code.new.consts)) made.spans in
+    let room = c.requires.room x here in
+    let below : c.args.self.now.address + sizes own < 2 ^ 32 = omega arith in
+    record { room = subst (λ ls. c.args.self.now.address + sizes (lines_of ls) < 2 ^ 32) (sym c.deref.ensures.value) below }
 
 pub address_at-to-requires : goal.address_at-to-requires
 address_at-to-requires c =
