@@ -1,4 +1,5 @@
 mod FreshDevices
 mod ShortNames
 mod TreesOfTokens
+mod PiecesOfFiles
 mod WordsAsked

@@ -25,9 +25,12 @@ use Rattle.cool_sources.specs.Devices.{ShelfUse, IsUnused, AreRead, SinkUse}
 use Rattle.cool_sources.specs.Reading.{AreUnread}
 use Rattle.cool_sources.specs.declared.status.Status.{Status}
 use Rattle.cool_sources.specs.declared.status.Status.TheVariants.{Done, Refused, Usage, WriteFault, Memory, FileFault}
+use Rattle.cool_editor.specs.EachFile.{IsOfEach}
 use Rattle.cool_editor.specs.Lines.{mark_lines}
+use Rattle.cool_editor.specs.TokenLines.{AreTokensOf}
+use Rattle.cool_editor.specs.TreeLines.{IsTreesText}
 use Rattle.cool_editor.specs.declared.form.Form.{Form}
-use Rattle.cool_editor.specs.declared.form.Form.TheVariants.{Marks, Code}
+use Rattle.cool_editor.specs.declared.form.Form.TheVariants.{Marks, Code, Tokens, Trees}
 
 -- the tokens of each file are the tree that has its place
 abbrev pub AreTrees : List Lexed → List FileTree → Type 0
@@ -56,14 +59,19 @@ abbrev pub IsAnswer : List (List ℕ) → Option (Vec Mark) → Type 0
 IsAnswer files (Some marks) = AreMarks files marks.items
 IsAnswer files None = AreNoTable files
 
--- these bytes are what is written of files of these names in a form: the lines of their marks, or of the table of the program that they are
+-- these bytes are what is written of files of these names in a form: the lines of their marks, of the table of the program that they are, of their
+-- tokens, or of their trees
 abbrev pub IsWritten : Form → List (List ℕ) → List (List ℕ) → List ℕ → Type 0
 IsWritten Marks names contents text = (marks : List Mark) × AreMarks contents marks × (text ≡ mark_lines marks)
+IsWritten Tokens names contents text = IsOfEach AreTokensOf 0 contents text
+IsWritten Trees names contents text = IsTreesText contents text
 IsWritten Code names contents text = (p : List Class) × IsAccepted contents p × (text ≡ table_text p names)
 
 -- why nothing is: they are no class table, or no program
 abbrev pub HaveNone : Form → List (List ℕ) → Type 0
 HaveNone Marks contents = AreNoTable contents
+HaveNone Tokens contents = ⊥
+HaveNone Trees contents = ⊥
 HaveNone Code contents = (faults : List Fault) × IsRefusedFor contents faults
 
 -- what is written of files, or nothing
@@ -93,6 +101,8 @@ pub record IsRefused (form : Form) (shelf : ShelfUse) (names : List (List ℕ)) 
 -- names fit a form: those of a program whose code is told are as short as a build wants them
 abbrev pub fit : Form → List (List ℕ) → Bool
 fit Marks names = true
+fit Tokens names = true
+fit Trees names = true
 fit Code names = list_all (λ (name : List ℕ). nat_le (length name) MOST_FILE_NAME) names
 
 -- there is no name, or one that does not fit
@@ -112,6 +122,8 @@ IsUntold form shelf names WriteFault = ⊥
 abbrev pub refusal_note : Form → List ℕ
 refusal_note Marks = codes "cool_editor: no class table\n"
 refusal_note Code = codes "cool_editor: not a program\n"
+refusal_note Tokens = []
+refusal_note Trees = []
 
 -- the note of a call that ends so
 abbrev pub note_of : Form → Status → List ℕ

@@ -11,6 +11,8 @@ use crate::files::file_marks;
 use crate::form::Form;
 use crate::line::lines;
 use crate::note::{NO_CLASS_TABLE, NO_PROGRAM};
+use crate::tokens::token_lines;
+use crate::trees::tree_lines;
 use cool_emit::{MOST_FILE_NAME, table};
 use cool_faults::{Verdict, accept};
 use std::alloc::{AllocError, Global};
@@ -31,6 +33,8 @@ pub fn files_text(
     match form {
         Form::Marks => marks_text(alloc, names, contents),
         Form::Code => code_text(alloc, names, contents),
+        Form::Tokens => Ok(Some(token_lines(alloc, contents)?)),
+        Form::Trees => Ok(Some(tree_lines(alloc, contents)?)),
     }
 }
 
@@ -76,6 +80,8 @@ pub fn fit(form: Form, names: &[String]) -> bool
     match form {
         Form::Marks => true,
         Form::Code => are_short(names),
+        Form::Tokens => true,
+        Form::Trees => true,
     }
 }
 
@@ -98,5 +104,8 @@ pub fn refusal_note(form: Form) -> &'static [u8]
     match form {
         Form::Marks => NO_CLASS_TABLE,
         Form::Code => NO_PROGRAM,
+        // Of these something is always written.
+        Form::Tokens => b"",
+        Form::Trees => b"",
     }
 }

@@ -7,4 +7,8 @@ pub enum Form {
     Marks,
     /// The table of their code.
     Code,
+    /// Their tokens.
+    Tokens,
+    /// Their trees, with types where they are a program.
+    Trees,
 }

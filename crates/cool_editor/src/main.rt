@@ -1,9 +1,11 @@
 //! The program for editors: `cool_editor FILES` writes where each name of the files stands, what it is, and which definition it means;
-//! `cool_editor --code FILES` where the code of each expression of the program stands, and which names are in scope there.
+//! `cool_editor --code FILES` where the code of each expression of the program stands, and which names are in scope there; `cool_editor --tokens FILES`
+//! their tokens, and `cool_editor --trees FILES` their trees with the types of all expressions.
 //!
-//! Comes in: a form, and names of files. Goes out: a line for each mark of `cool_names`, as `specs/Lines.antt` defines it, or the table of code of
-//! `cool_emit`, or a status. It meets `specs/Ends.antt`; `perform` is all that it does where the words are text, and its clause is the promise over
-//! the system's files and streams (`specs/Processes.antt`).
+//! Comes in: a form, and names of files. Goes out: a line for each mark of `cool_names`, as `specs/Lines.antt` defines it, the table of code of
+//! `cool_emit`, the tokens as `specs/TokenLines.antt` defines their lines, the trees as `specs/TreeLines.antt` does, or a status. It meets
+//! `specs/Ends.antt`; `perform` is all that it does for words that are text, except those that begin with `--tokens` or `--trees`, and its clause is
+//! the promise over the system's files and streams (`specs/Processes.antt`).
 #![tactic(auto)]
 
 mod answer;
@@ -11,13 +13,17 @@ mod files;
 mod form;
 mod line;
 mod listing;
+mod node_text;
 mod note;
 mod process;
+mod tokens;
+mod trees;
 
 use cool_ports::StdSink;
-use cool_sources::{Status, tell};
+use cool_sources::{Status, call_of, tell};
+use form::Form;
 use note::BAD_COMMAND_LINE;
-use process::perform;
+use process::{list_over_system, perform};
 use std::alloc::Global;
 use std::io::ErrorKind;
 use std::process::ExitCode;
@@ -25,11 +31,29 @@ use std::{env, io};
 
 fn main(rt: HostRuntime) -> ExitCode {
     let status = match words(&rt) {
-        Ok(words) => perform(rt.alloc(), &words, &rt, rt.stdout(), rt.stderr()).status,
+        Ok(words) => match form_of(&words) {
+            Some((form, names)) => {
+                list_over_system(rt.alloc(), form, names, &rt, rt.stdout(), rt.stderr()).status
+            }
+            None => perform(rt.alloc(), &words, &rt, rt.stdout(), rt.stderr()).status,
+        },
         Err(error) if error.kind() == ErrorKind::OutOfMemory => Status::Memory,
         Err(_) => bad_command_line(&rt),
     };
     ExitCode::from(status.code())
+}
+
+/// The tokens or the trees, if the words ask for them, and the names of the files. `None` for all other words, which `perform` reads.
+fn form_of(words: &[String]) -> Option<(Form, &[String])> {
+    let options = [("--tokens", Form::Tokens), ("--trees", Form::Trees)];
+    for (option, form) in options {
+        if let Some(call) = call_of(option, words) {
+            if call.other {
+                return Some((form, call.names));
+            }
+        }
+    }
+    None
 }
 
 /// Notes that the words are no text, and so no command line, and answers how that ended.

@@ -1,5 +1,6 @@
 -- What the lexer knows at a place of the text, and how it goes on, ends and stops.
 use Rattle.std.proofs.Common.{◌≡◌, ◌∙◌, sym, ap, refl, subst, arith, inl, inr, ℕ, zero, suc, ◌+◌, ◌≤◌, List, [], ◌∷◌, ◌++◌, length, take, drop, length-drop}
+use Rattle.std.specs.Prelude.{Some}
 use Rattle.std.specs.List.{count_by}
 use Rattle.std.proofs.Math.Seq.{take-add}
 use Rattle.std.proofs.lemmas.List.{length-take-le, drop-drop}
@@ -9,11 +10,11 @@ use Rattle.cool_syntax.specs.declared.place.Place.{Place}
 use Rattle.cool_syntax.specs.declared.token.Token.{Token}
 use Rattle.cool_syntax.specs.Lexemes.{Form}
 use Rattle.cool_syntax.specs.LexicalStructure.{IsItem, Item, Leads, token_of, tokens_of, place_at, Run, first_run, run_of, FitsRuns, Lexes, Shows}
-use Rattle.cool_lexer.specs.declared.error.LexError.{LexError}
+use Rattle.cool_lexer.specs.declared.error.LexFault.{LexFault}
+use Rattle.cool_lexer.specs.Beginnings.{AreUpTo}
 use Rattle.cool_lexer.specs.declared.error.LexError.TheVariants as error
 use Rattle.cool_lexer.specs.declared.reading.Reading.{Reading}
 use Rattle.cool_lexer.specs.Views.{run_seen}
-use Rattle.cool_lexer.specs.Errors.{IsFirstFault}
 use Rattle.cool_lexer.specs.Readings.{is_newline, place_after, Stops}
 use Rattle.cool_lexer.proofs.ItemsInARow.{leads_append, tokens_append, fits_append, run_append, run_deep, run_long, few}
 
@@ -88,17 +89,20 @@ lexes file bytes at tokens run place read end =
     none_left zero (x ∷ l) h = absurd (omega arith)
     none_left (suc n) (x ∷ l) h = none_left n l (omega arith)
 
--- at a fault
-pub first_fault : (file : ℕ) (bytes : List ℕ) (at : ℕ) (reading : Reading) (e : LexError) → IsRead file bytes at reading.tokens.items (run_seen reading.run) reading.place → Stops (drop at bytes) reading e → IsFirstFault file bytes e
-first_fault file bytes at reading error.Memory read stops = tt
-first_fault file bytes at reading (error.Fault f) read stops = record {
-  items = read.items;
-  at = at;
-  left = drop at bytes;
-  leads = read.leads;
-  runs = subst (FitsRuns first_run) read.lexemes read.runs;
-  shows = elim stops as (λ _. Shows file bytes at (drop at bytes) (run_of first_run (tokens_of file bytes read.items)) f.kind f.at) [
-    | inl h ↦ inl (h.0, h.2, h.3 ∙ ap (λ p. place_after p (take h.0 (drop at bytes))) read.place_is ∙ sym (place_on file bytes at h.0 (omega (arith, h.1, read.within, length-drop at bytes))))
-    | inr h ↦ inr (h.0, h.1, h.2, ap (λ (r : Run). r.length) (sym (read.run_is ∙ ap (run_of first_run) read.lexemes)) ∙ h.3, h.4, h.5 ∙ read.place_is)
-  ];
-}
+-- at a fault: the tokens so far are those before the first one
+pub up_to_fault : (file : ℕ) (bytes : List ℕ) (at : ℕ) (reading : Reading) (f : LexFault) → IsRead file bytes at reading.tokens.items (run_seen reading.run) reading.place → Stops (drop at bytes) reading (error.Fault f)
+    → AreUpTo file bytes reading.tokens.items (Some f)
+up_to_fault file bytes at reading f read stops = (
+  record {
+    items = read.items;
+    at = at;
+    left = drop at bytes;
+    leads = read.leads;
+    runs = subst (FitsRuns first_run) read.lexemes read.runs;
+    shows = elim stops as (λ _. Shows file bytes at (drop at bytes) (run_of first_run (tokens_of file bytes read.items)) f.kind f.at) [
+      | inl h ↦ inl (h.0, h.2, h.3 ∙ ap (λ p. place_after p (take h.0 (drop at bytes))) read.place_is ∙ sym (place_on file bytes at h.0 (omega (arith, h.1, read.within, length-drop at bytes))))
+      | inr h ↦ inr (h.0, h.1, h.2, ap (λ (r : Run). r.length) (sym (read.run_is ∙ ap (run_of first_run) read.lexemes)) ∙ h.3, h.4, h.5 ∙ read.place_is)
+    ];
+  },
+  read.lexemes,
+)

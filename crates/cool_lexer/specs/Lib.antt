@@ -1,3 +1,4 @@
+pub mod Beginnings
 pub mod Views
 pub mod Fronts
 pub mod Readings

@@ -47,3 +47,8 @@ Stops rest old error.Memory = Unit {0}
 Stops rest old (error.Fault f) =
     ((offset : ℕ) × (offset ≤ length rest) × (fault rest ≡ fault_at f.kind offset) × (f.at ≡ place_after old.place (take offset rest)))
     ⊎ ((lexeme : TokenKind) × (size : ℕ) × IsItem rest (Lexeme lexeme) size × (old.run.length ≡ MOST_TOKENS) × (f.kind ≡ L8) × (f.at ≡ old.place))
+
+-- A fault left the tokens as they were; want of memory says nothing of them.
+abbrev pub Stays : Reading → Reading → LexError → Type 0
+Stays old new error.Memory = Unit {0}
+Stays old new (error.Fault f) = new.tokens ≡ old.tokens

@@ -1,16 +1,17 @@
 //! Lexing a file.
 
-ghost use Rattle.std.specs.Prelude.{◌≡◌, ℕ, ◌<◌, ◌≤◌, IfOk, IfErr, length};
+ghost use Rattle.std.specs.Prelude.{◌≡◌, ℕ, ◌<◌, ◌≤◌, IfOk, IfErr, length, None};
 ghost use Rattle.cool_syntax.specs.declared.TheConstants.{MOST_SOURCE_BYTES};
 ghost use Rattle.cool_syntax.specs.LexicalStructure.{Lexes, place_at};
 ghost use Rattle.cool_syntax.specs.TokenFacts.{AreWithinLimits, AreRising, weights};
+ghost use Rattle.cool_lexer.specs.Beginnings.{AreUpTo};
 ghost use Rattle.cool_lexer.specs.Errors.{IsFirstFault};
 
-use crate::error::LexError;
+use crate::error::{LexError, LexFault};
 use crate::reading::{Reading, read_item};
 use crate::run::Run;
 use cool_syntax::{Place, Token};
-use std::alloc::Global;
+use std::alloc::{AllocError, Global};
 
 /// The tokens of a file, and the place of its end.
 #[derive(Drop)]
@@ -19,6 +20,17 @@ pub struct Lexed {
     pub tokens: Vec<Token>,
     /// The place after the last byte.
     pub end: Place,
+}
+
+/// The tokens of a file up to its first fault, and that fault: all of them where it has none.
+#[derive(Drop)]
+pub struct Beginning {
+    /// The tokens, in the order in which they stand.
+    pub tokens: Vec<Token>,
+    /// The place after the last item that was read.
+    pub end: Place,
+    /// The first fault of the file.
+    pub fault: Option<LexFault>,
 }
 
 /// The tokens of a file (Cool manual, section 10). `file` is its position in the command, from 0; it has at most 1,048,576 bytes.
@@ -38,6 +50,20 @@ pub fn lex(alloc: Global, file: u32, bytes: &[u8]) -> Result<Lexed, LexError>
     // What is refused has a fault, this is the first, and it stands there.
     ensures fault { IfErr result (λ error. IsFirstFault file bytes.now error) }
 {
+    let Beginning { tokens, end, fault } = lex_to_fault(alloc, file, bytes)?;
+    match fault {
+        None => Ok(Lexed { tokens, end }),
+        Some(fault) => Err(LexError::Fault(fault)),
+    }
+}
+
+/// The tokens of a file up to its first fault, as `lex` reads them. `Err` comes only for want of memory.
+pub fn lex_to_fault(alloc: Global, file: u32, bytes: &[u8]) -> Result<Beginning, AllocError>
+    requires { length bytes.now ≤ MOST_SOURCE_BYTES }
+    // Good items lead up to the first fault, where there is one, and else to the end, and the tokens are their lexemes.
+    ensures tokens { IfOk result (λ beginning. AreUpTo file bytes.now beginning.tokens.items beginning.fault) }
+    ensures end { IfOk result (λ beginning. beginning.fault ≡ None → beginning.end ≡ place_at file bytes.now (length bytes.now)) }
+{
     let mut reading = Reading {
         tokens: Vec::new(alloc),
         run: Run {
@@ -52,10 +78,21 @@ pub fn lex(alloc: Global, file: u32, bytes: &[u8]) -> Result<Lexed, LexError>
     };
     let mut at = 0;
     while at < bytes.len() {
-        at += read_item(alloc, &mut reading, &bytes[at..])?;
+        match read_item(alloc, &mut reading, &bytes[at..]) {
+            Ok(size) => at += size,
+            Err(LexError::Fault(fault)) => {
+                return Ok(Beginning {
+                    tokens: reading.tokens,
+                    end: reading.place,
+                    fault: Some(fault),
+                });
+            }
+            Err(LexError::Memory) => return Err(AllocError),
+        }
     }
-    Ok(Lexed {
+    Ok(Beginning {
         tokens: reading.tokens,
         end: reading.place,
+        fault: None,
     })
 }

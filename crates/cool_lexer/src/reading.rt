@@ -3,7 +3,7 @@
 ghost use Rattle.std.specs.Prelude.{◌≡◌, ◌+◌, ◌<◌, ◌≤◌, ◌^◌, IfOk, IfErr, OnOk, length};
 ghost use Rattle.std.specs.List.{count_by};
 ghost use Rattle.cool_syntax.specs.declared.TheConstants.{MOST_TOKENS};
-ghost use Rattle.cool_lexer.specs.Readings.{is_newline, place_after, Keeps, Refuses, Passes, Stops};
+ghost use Rattle.cool_lexer.specs.Readings.{is_newline, place_after, Keeps, Refuses, Passes, Stays, Stops};
 
 use crate::error::{LexError, LexFault};
 use crate::front::{Front, Scan};
@@ -34,6 +34,8 @@ pub(crate) fn read_item(
     requires bytes { reading.old.place.byte + length rest.now < 2 ^ 32 }
     ensures passes { IfOk result (λ size. Passes rest.now reading.old reading.new size) }
     ensures stops { IfErr result (λ error. Stops rest.now reading.old error) }
+    // A fault leaves the tokens as they are.
+    ensures stays { IfErr result (Stays reading.old reading.new) }
 {
     // a blank is the most frequent item, and has no newline
     if rest[0] == b' ' {
@@ -60,6 +62,7 @@ fn keep(reading: &mut Reading, form: Scan) -> Result<(), LexError>
     requires long { reading.old.run.length ≤ MOST_TOKENS }
     ensures keeps { OnOk result (Keeps form reading.old reading.new) }
     ensures refuses { IfErr result (λ error. Refuses form reading.old error) }
+    ensures stays { IfErr result (Stays reading.old reading.new) }
 {
     if let Scan::Lexeme(kind) = form {
         if reading.run.length as usize == MOST_TOKENS {
