@@ -46,7 +46,7 @@ class Case:
             wanted, found = verdict(self.status), verdict(came.status)
             if found != wanted:
                 yield self._of_status("verdict", came, wanted, found)
-        if not mode or (mode == "--outputs" and self.status == 0):
+        if not mode or (mode == "--outputs" and self.status == 0 and self.kind != "check"):
             yield from self._difference("output", self.output, came.output)
         if not mode:
             yield from self._difference("notes", self.notes, came.notes)

@@ -40,6 +40,7 @@ class Judge:
         return case, why, [f"FAIL {case.name}: status", f"  {why}", f"  {case.about}"]
 
 
-def row(case, why):
-    """The line of a table that tells of a case."""
-    return f"{case.name}\t{'failed' if why else 'passed'}\t{why}\n"
+def row(case, why, lines):
+    """The line of a table that tells of a case: behind why it failed stand the lines that show where."""
+    shown = [line.strip() for line in lines if line.startswith("  ") and line[2:] != case.about]
+    return "\t".join([case.name, "failed" if why else "passed", why, *shown]) + "\n"

@@ -1,0 +1,6 @@
+class Main inherits IO {
+  main() : Object {
+    1
+  };
+};
+class A inherits String { };

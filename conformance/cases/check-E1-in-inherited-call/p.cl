@@ -1,0 +1,6 @@
+class Main {
+  main() : Int { 1 };
+};
+class A {
+  f() : Int { zz };
+};

@@ -1,0 +1,7 @@
+class Main inherits IO {
+  x : Object;
+  f(x : Object, y : Object) : Int { 1 };
+  main() : Object {
+    let x : Object in zz
+  };
+};

@@ -1,0 +1,7 @@
+class Main inherits IO {
+  main() : Object {
+    let a : Int <-
+      a
+    in a
+  };
+};

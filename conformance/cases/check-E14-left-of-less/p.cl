@@ -1,0 +1,6 @@
+class Main inherits IO {
+  main() : Object {
+    true <
+      1
+  };
+};

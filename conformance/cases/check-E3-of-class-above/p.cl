@@ -1,0 +1,6 @@
+class Main {
+  main() : Int { 1 };
+  z : A;
+  f() : Object { z <- new Object };
+};
+class A { };

@@ -1,0 +1,4 @@
+class Main {
+  main() : Int { 1 };
+  f(x : Paint) : Int { 1 };
+};

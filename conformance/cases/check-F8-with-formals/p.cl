@@ -1,0 +1,3 @@
+class Main {
+  main(x : Int) : Int { 1 };
+};

@@ -1,0 +1,4 @@
+class Main {
+  x : Int
+  ; main() : Int { 1 }
+};

@@ -1,0 +1,85 @@
+"""Points of a compiler by rule and phase, and what a student is told of the rules that it fails."""
+
+import fnmatch
+import os
+
+from graded import column
+from rules import rules
+
+# So many cases of a rule are shown with their programs, and so many lines of a program.
+MOST_CASES, MOST_LINES = 3, 40
+NOT_SHOWN = "a case that is not shown"
+# What `assembled` ends with where it says nothing of a program.
+NO_VERDICT = "status 126 "
+WHY_NOT = "\n  (126: the code could not be loaded, trapped or did not end, or the compiler could not be called)"
+# What is so of the program of a case, by its column.
+WHAT_IT_IS = {
+    "accepts": "this program is legal",
+    "refuses": "this program has a fault",
+    "runs": "this program runs to its end",
+    "fails": "this program does not run to its end",
+}
+
+
+class Points:
+    """Of what came of each case by its name, why it failed and the lines that tell of it, and of the points of each phase."""
+
+    def __init__(self, came, cases, phases, hidden):
+        self.came, self.cases, self.hidden = came, cases, hidden
+        self.phases = {phase: most for phase, most in phases.items() if most}
+        self.rules = [rule for rule in rules(list(cases)) if rule.phase in self.phases]
+
+    def failed(self, rule):
+        return [name for name in rule.cases if self.came[name][0]]
+
+    def _part(self, phase):
+        """How many rules a phase has that are passed, and how many it has."""
+        of_phase = [rule for rule in self.rules if rule.phase == phase]
+        return sum(not self.failed(rule) for rule in of_phase), len(of_phase)
+
+    def of_rule(self, rule):
+        return round(self.phases[rule.phase] / self._part(rule.phase)[1], 4)
+
+    def of_phase(self, phase):
+        passed, count = self._part(phase)
+        return round(self.phases[phase] * passed / count, 2)
+
+    def score(self):
+        return round(sum(self.phases[phase] * passed / count for phase in self.phases for passed, count in [self._part(phase)]), 2)
+
+    def is_hidden(self, name):
+        return fnmatch.fnmatchcase(name, self.hidden)
+
+    def has_hidden(self, rule):
+        return any(map(self.is_hidden, rule.cases))
+
+    def named(self, names):
+        """Which cases failed and why, on a line, those that are not shown as a number."""
+        shown = [f"{name} ({self.came[name][0]})" for name in names if not self.is_hidden(name)]
+        count = len(names) - len(shown)
+        return ", ".join(shown + [NOT_SHOWN if count == 1 else f"{count} cases that are not shown"] * bool(count))
+
+    def told(self, names):
+        """The same in lines, with what the first cases show, where they differ, and their programs."""
+        shown = [name for name in names if not self.is_hidden(name)]
+        pieces = [self._shown(name) for name in shown[:MOST_CASES]]
+        others = [name for name in names if name not in shown[:MOST_CASES]]
+        return "\n\n".join(pieces + [f"also failed: {self.named(others)}"] * bool(others))
+
+    def _shown(self, name):
+        why, lines = self.came[name]
+        case = self.cases[name]
+        texts = [self._program(case, os.fsdecode(word)) for word in case.words[1:]]
+        more = WHY_NOT if why.startswith(NO_VERDICT) else ""
+        return "\n".join([f"{name}: {WHAT_IT_IS[column(case)]}: {why}{more}", case.about, *lines, *texts])
+
+    def _program(self, case, file):
+        """The first lines of a file of a case, as far as it can be read, below its name. Bytes that are not seen are told as `\\x00`."""
+        path = os.path.join(case.folder, file)
+        if not os.path.isfile(path):
+            return f"{file}: no file"
+        with open(path, encoding="latin-1", newline="\n") as text:
+            lines = text.read(1 << 16).split("\n")
+        rest = [f"({len(lines) - MOST_LINES} lines more)"] if len(lines) > MOST_LINES else []
+        seen = ("".join(c if " " <= c <= "~" or c == "\t" else f"\\x{ord(c):02x}" for c in line[:160]) for line in lines[:MOST_LINES])
+        return "\n".join([f"--- {file}", *seen, *rest])
