@@ -2,7 +2,7 @@
 "use strict";
 const { log } = require("../node/log.js");
 const { textOf } = require("../node/bytes.js");
-const { Missing, findBeside } = require("../node/program.js");
+const { findBeside } = require("../node/program.js");
 const { Explanation } = require("./explanation.js");
 const { Inquiry } = require("./inquiry.js");
 const { haveSame } = require("./marks.js");
@@ -74,7 +74,7 @@ class Explainer {
             return await findBeside("cool_explain", this.cool, this.seconds);
         } catch (error) {
             log(`faults are not explained: ${error.message}`);
-            if (!(error instanceof Missing)) throw error;
+            return undefined;
         }
     }
 

@@ -8,9 +8,14 @@ const spoken = (words) => words.split("`").map((part, i) => (i % 2 === 1 ? eleme
 
 const placeWords = ({ file, line }) => (files.length > 1 ? `${file}:${line}` : `line ${line}`);
 
+// What stands from a place up to another of its line.
+const textBetween = ({ file, line, column }, to) => (linesOf(fileNamed(file)?.text ?? "")[line - 1] ?? "").slice(column, to.column);
+
 // What the list shows of a fault below its place and words.
-function detailsOf({ facts, other, cure, mend }, i) {
+function detailsOf({ facts, other, cure, mend, from, to }, i) {
     const items = facts.map((it) => element("div", { className: "fact" }, ...spoken(it)));
+    const isUnnamed = facts.length === 0 && !mend && /: unknown /.test(faults[i].words);
+    if (isUnnamed) items.push(element("div", { className: "fact" }, "nothing here is named ", element("code", {}, textBetween(from, to))));
     if (other) items.push(element("button", { className: "other", onclick: () => goTo(other.file, other.line) }, `defined at ${placeWords(other)}, too`));
     if (cure) items.push(element("div", { className: "cure" }, "To mend it: ", ...spoken(cure)));
     if (mend) {
@@ -21,11 +26,20 @@ function detailsOf({ facts, other, cure, mend }, i) {
     return items;
 }
 
+// How many lines two lists begin with alike.
+function commonLines(one, other) {
+    let count = 0;
+    while (count < Math.min(one.length, other.length) && one[count] === other[count]) count += 1;
+    return count;
+}
+
 // The lines that an edit changes, as they are and as they become.
 function changedLines(mend) {
-    const before = linesOf(fileNamed(mend.from.file)?.text ?? "").slice(mend.from.line - 1, mend.to.line), after = mendedLines(mend).split("\n");
-    const rows = (lines, sign, className) => lines.map((it, i) => element("span", { className }, `${mend.from.line + i} ${sign} ${it}\n`));
-    const all = [...rows(before, "-", "gone"), ...rows(after, "+", "come")];
+    const old = linesOf(fileNamed(mend.from.file)?.text ?? "").slice(mend.from.line - 1, mend.to.line), made = mendedLines(mend).split("\n");
+    const front = commonLines(old, made), back = commonLines(old.slice(front).reverse(), made.slice(front).reverse());
+    const rows = (lines, sign, className) =>
+        lines.slice(front, lines.length - back).map((it, i) => element("span", { className }, `${mend.from.line + front + i} ${sign} ${it}\n`));
+    const all = [...rows(old, "-", "gone"), ...rows(made, "+", "come")];
     const rest = all.length > MOST_CHANGED ? [`${all.length - MOST_CHANGED} more lines\n`] : [];
     return element("pre", { className: "changes" }, files.length > 1 ? `${mend.from.file}\n` : "", ...all.slice(0, MOST_CHANGED), ...rest);
 }

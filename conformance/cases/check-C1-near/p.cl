@@ -1,7 +1,7 @@
 class Shape inherits IO {
   name : String <- "shape";
   sides : Int;
-  named(n : String) : SELF_TYPE { { name <- n; self; } };
+  named(n : String) : Shape { { name <- n; self; } };
   show() : Object { out_string(name).out_string("\n") };
   area(scale : Int) : Int { sides * scale };
 };

@@ -1,7 +1,7 @@
 class Shape inherits IO {
   name : String <- "shape";
   sides : Int;
-  named(n : String) : SELF_TYPE { { name <- n; self; } };
+  named(n : String) : Shape { { name <- n; self; } };
   show() : Object { out_string(name).out_string("\n") };
   area(scale : Int) : Int { sides * scale };
 };
@@ -9,7 +9,7 @@ class Shape inherits IO {
 class Square inherits Shape {
   edge : Int <- 2;
   area(scale : Int) : Int { edge * edge * scale };
-  named(edge : String) : SELF_TYPE { self };
+  named(edge : String) : Shape { self };
   show() : Object { 1 };
   out_int(number : Int) : SELF_TYPE { self };
 };

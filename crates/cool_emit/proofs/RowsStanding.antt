@@ -5,6 +5,7 @@ use Rattle.std.specs.List.{AllByRecursion}
 use Rattle.std.proofs.lemmas.List.{length-append}
 use Rattle.cool_syntax.specs.declared.file_tree.Feature.{Feature}
 use Rattle.cool_syntax.specs.declared.file_tree.Feature.TheVariants.{Method, Attribute}
+use Rattle.cool_syntax.specs.declared.file_tree.AttributeDef.{AttributeDef}
 use Rattle.cool_syntax.specs.declared.file_tree.MethodDef.{MethodDef}
 use Rattle.cool_syntax.specs.Tree.{Tree}
 use Rattle.mips_isa.specs.declared.address_map.TheConstants.{TEXT_START}
@@ -24,7 +25,7 @@ use Rattle.cool_codegen.proofs.SpansStand.{behind_front, behind_back, behind_sta
 use Rattle.cool_emit.specs.CodeTables.{Row, attribute_row, initial_row, method_row, formal_row, class_rows, head_rows, initial_rows, behind, shown_row, feature_rows}
 use Rattle.cool_emit.specs.Programs.{Placed, placed_code, program_constants}
 use Rattle.cool_emit.specs.SpansOfPrograms.{context_of}
-use Rattle.cool_emit.specs.StandingRows.{StandsBetween, HasFeature, IsFeatureOf, IsTrue, RowsStand}
+use Rattle.cool_emit.specs.StandingRows.{StandsBetween, IsFeatureOf, IsInitial, IsMethod, IsTrue, RowsStand}
 use Rattle.cool_emit.proofs.ConstantsInRange.{numbers_low}
 use Rattle.cool_emit.proofs.SpansOfPrograms.{all_mapped, in_text}
 use Rattle.cool_emit.proofs.PartsOfLines.{front_taken, both_taken}
@@ -67,19 +68,16 @@ module _ (w : World) (p : List Class) (files : List (List ℕ)) where
     of_head : AllByRecursion (IsTrue w p files) (head_rows p pc (pc + sizes lines) f.feature)
     of_head = by f.feature refl
       where
-        of_initial : (name : List ℕ) (o : Option Tree) → ((row : Row) → Contains (initial_rows pc (pc + sizes lines) name o) row → HasFeature w p files row pc (pc + sizes lines))
-            → AllByRecursion (IsTrue w p files) (initial_rows pc (pc + sizes lines) name o)
-        of_initial name None h = tt
-        of_initial name (Some t) h = (h (initial_row pc (pc + sizes lines) name) (0, omega arith, refl), tt)
+        of_initial : (a : AttributeDef) → f.feature ≡ Attribute a → (o : Option Tree) → a.init ≡ o → AllByRecursion (IsTrue w p files) (initial_rows pc (pc + sizes lines) a.name o)
+        of_initial a e None none = tt
+        of_initial a e (Some t) some = (record { class = c; feature = f; has = is_feature; is = subst (IsInitial a.name) (sym e) (refl, t, some); stands = stands }, tt)
 
         by : (x : Feature) → f.feature ≡ x → AllByRecursion (IsTrue w p files) (head_rows p pc (pc + sizes lines) x)
         by (Method m) e = (
-          record { class = c; feature = f; has = is_feature; is = subst (λ (x : Feature). Contains (head_rows p pc (pc + sizes lines) x) (method_row pc (pc + sizes lines) m.name)) (sym e) (0, omega arith, refl); stands = stands },
+          record { class = c; feature = f; has = is_feature; is = subst (IsMethod m.name) (sym e) refl; stands = stands },
           of_formals c f.place m (subst (λ (x : Feature). slice_get (features_of p c) f.place ≡ Some x) e is_feature) (scopes.with_formals p m.formals []) (λ v there. there),
         )
-        by (Attribute a) e =
-            of_initial a.name a.init
-            (λ row there. record { class = c; feature = f; has = is_feature; is = subst (λ (x : Feature). Contains (head_rows p pc (pc + sizes lines) x) row) (sym e) there; stands = stands })
+        by (Attribute a) e = of_initial a e a.init refl
 
     -- what stands behind so many of the lines stands at the address behind those
     of_span : (x : Span) → Contains (feature_spans length (context_of p files c f.place) (program_constants p files) 0 f.feature) x
@@ -96,7 +94,11 @@ module _ (w : World) (p : List Class) (files : List (List ℕ)) where
           has = is_feature;
           span = x;
           within = there;
-          is = refl;
+          at = refl;
+          form = refl;
+          depth = refl;
+          names = refl;
+          latest = refl;
           stands = record { begins = subst (λ (n : ℕ). HasLines w n part) from (behind_stands w lines part pc x.from h has); ends = omega arith };
         }
 
