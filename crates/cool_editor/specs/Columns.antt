@@ -1,5 +1,5 @@
--- Which columns of types the classes of files have in a program.
-use Rattle.std.specs.Prelude.{◌≡◌, ℕ, suc, ◌+◌, ◌<◌, List, [], ◌∷◌, Option, Some, None, IfSome, length}
+-- Which columns of types the classes of files have in a program, and what adding a file to the lines of trees does.
+use Rattle.std.specs.Prelude.{◌≡◌, ℕ, suc, ◌+◌, ◌<◌, List, [], ◌∷◌, ◌++◌, Option, Some, None, IfSome, length}
 use Rattle.std.specs.Option.{option_map}
 use Rattle.cool_classes.specs.Chains.{Class, class_number, features_of}
 use Rattle.cool_syntax.specs.Tree.{Tree, tree_size}
@@ -8,6 +8,7 @@ use Rattle.cool_syntax.specs.declared.file_tree.Feature.{Feature}
 use Rattle.cool_syntax.specs.declared.file_tree.Feature.TheVariants.{Method, Attribute}
 use Rattle.cool_faults.specs.Verdicts.{IsAccepted}
 use Rattle.cool_editor.specs.declared.trees.Column.{Column}
+use Rattle.cool_editor.specs.TreeLines.{AreTreesOf}
 use Rattle.cool_editor.specs.TreeLines as lines
 
 -- the column that the code holds
@@ -42,3 +43,9 @@ FitsClasses p number (d ∷ ds) = FitsClass p number d × FitsClasses p (suc num
 abbrev pub IsOfFiles : Option (List Class) → List (List ℕ) → Type 0
 IsOfFiles None files = Unit {0}
 IsOfFiles (Some p) files = IsAccepted files p
+
+-- The lines of a file were added to those so far, and the number of the next class is that behind its classes: with what is told of the files behind
+-- it, its lines are what is told of it and them.
+abbrev pub IsAdded : Option (List Class) → ℕ → List ℕ → ℕ → ℕ → List ℕ → List ℕ → Type 0
+IsAdded p file bytes number next old new =
+    (piece : List ℕ) × (new ≡ old ++ piece) × ((files : List (List ℕ)) (rest : List ℕ) → AreTreesOf p (file + 1) next files rest → AreTreesOf p file number (bytes ∷ files) (piece ++ rest))

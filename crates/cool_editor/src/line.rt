@@ -8,6 +8,9 @@ use cool_emit::place_text;
 use cool_names::{Mark, Role, Target};
 use std::alloc::{AllocError, Global};
 
+/// How many bytes most lines have.
+const USUAL_BYTES: usize = 64;
+
 /// The lines of marks. `Err` comes only for want of memory.
 pub fn lines(alloc: Global, marks: &[Mark]) -> Result<Vec<u8>, AllocError>
     ensures { IfOk result (λ text. text.items ≡ concat (map mark_line marks.now)) }
@@ -23,7 +26,8 @@ pub fn lines(alloc: Global, marks: &[Mark]) -> Result<Vec<u8>, AllocError>
 fn mark_line(alloc: Global, mark: &Mark) -> Result<Vec<u8>, AllocError>
     ensures { IfOk result (λ line. line.items ≡ mark_line mark.now) }
 {
-    let mut line = place_text(alloc, mark.at)?;
+    let mut line = Vec::with_capacity(alloc, USUAL_BYTES)?;
+    line.extend_from_slice(&place_text(alloc, mark.at)?)?;
     line.extend_from_slice(b" ")?;
     line.extend_from_slice(role_word(mark.role))?;
     line.extend_from_slice(b" ")?;

@@ -40,16 +40,24 @@ pub(crate) fn form_text(alloc: Global, node: &Node) -> Result<Vec<u8>, AllocErro
             ..
         } => let_text(alloc, name, declared, *init, *body),
         Node::Case {
-            value, branches, ..
+            value,
+            branches,
+            ..
         } => case_text(alloc, *value, branches.as_slice()),
         Node::New { class, .. } => named_text(alloc, b"new ", &class.name, &[]),
         Node::IsVoid { value, .. } => of_parts(alloc, b"isvoid", &[*value]),
         Node::Arith {
-            op, left, right, ..
+            op,
+            left,
+            right,
+            ..
         } => of_parts(alloc, arith_word(*op), &[*left, *right]),
         Node::Neg { value, .. } => of_parts(alloc, b"~", &[*value]),
         Node::Compare {
-            op, left, right, ..
+            op,
+            left,
+            right,
+            ..
         } => of_parts(alloc, compare_word(*op), &[*left, *right]),
         Node::Not { value, .. } => of_parts(alloc, b"not", &[*value]),
         Node::Id { name, .. } => named_text(alloc, b"name ", name, &[]),
@@ -134,11 +142,7 @@ fn let_text(
 }
 
 /// A `case`. `Err` comes only for want of memory.
-fn case_text(
-    alloc: Global,
-    value: NodeId,
-    branches: &[NodeBranch],
-) -> Result<Vec<u8>, AllocError>
+fn case_text(alloc: Global, value: NodeId, branches: &[NodeBranch]) -> Result<Vec<u8>, AllocError>
     ensures { IfOk result (λ text. text.items ≡ codes "case" ++ (part_text value ++ flat_map branch_text branches.now)) }
 {
     let mut text = of_parts(alloc, b"case", &[value])?;
@@ -188,7 +192,7 @@ fn maybe_text(alloc: Global, part: Option<NodeId>) -> Result<Vec<u8>, AllocError
 }
 
 /// The number of a part. `Err` comes only for want of memory.
-fn part_text(alloc: Global, part: NodeId) -> Result<Vec<u8>, AllocError>
+pub(crate) fn part_text(alloc: Global, part: NodeId) -> Result<Vec<u8>, AllocError>
     ensures { IfOk result (λ text. text.items ≡ part_text part) }
 {
     let number = part.0;

@@ -161,7 +161,12 @@ fn byte_text(alloc: Global, byte: u8) -> Result<Vec<u8>, AllocError>
 fn octal(byte: u8) -> [u8; 4]
     ensures { result ≡ octal byte }
 {
-    [b'\\', b'0' + byte / 64, b'0' + byte / 8 % 8, b'0' + byte % 8]
+    [
+        b'\\',
+        b'0' + byte / 64,
+        b'0' + byte / 8 % 8,
+        b'0' + byte % 8,
+    ]
 }
 
 fn key_word(key: Key) -> &'static [u8]

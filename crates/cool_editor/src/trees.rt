@@ -1,18 +1,22 @@
 //! The lines of trees.
 
-ghost use Rattle.std.specs.Prelude.{◌≡◌, ◌+◌, ◌++◌, ◌<◌, ◌≤◌, ◌^◌, IfOk, IfSome, OnOk, flat_map, length, Some};
+ghost use Rattle.std.specs.Prelude.{◌≡◌, ℕ, List, ◌+◌, ◌++◌, ◌<◌, ◌≤◌, ◌^◌, IfOk, IfSome, OnOk, flat_map, length, Some};
 ghost use Rattle.std.specs.Option.{option_map};
 ghost use Rattle.cool_syntax.specs.declared.TheConstants.{MOST_FILES, MOST_SOURCE_BYTES};
+ghost use Rattle.cool_syntax.specs.declared.file_tree.ClassDef.{ClassDef};
+ghost use Rattle.cool_syntax.specs.declared.token.Token.{Token};
+ghost use Rattle.cool_syntax.specs.Grammar.{Parses};
+ghost use Rattle.cool_syntax.specs.LexicalStructure.{Lexes, place_at};
 ghost use Rattle.cool_syntax.specs.NodeLists.{nodes};
+ghost use Rattle.cool_syntax.specs.TokenFacts.{weights};
 ghost use Rattle.cool_syntax.specs.Tree.{tree_size};
-ghost use Rattle.std.specs.List.{slice_get};
-ghost use Rattle.cool_syntax.specs.declared.node.Node as ast;
 ghost use Rattle.cool_emit.specs.TableLines.{type_text};
 ghost use Rattle.cool_faults.specs.Files.{bytes_of, total};
-ghost use Rattle.cool_editor.specs.Columns.{column_seen, FitsBody, FitsClass, FitsClasses, FitsFeature, FitsInit, IsOfFiles};
+ghost use Rattle.cool_editor.specs.Columns.{column_seen, FitsBody, FitsClass, FitsClasses, FitsFeature, FitsInit, IsAdded, IsOfFiles};
+ghost use Rattle.cool_editor.specs.NodeTexts.{node_place};
 ghost use Rattle.cool_editor.specs.TreeLines.{AreTreesOf, IsTreesText, body_text, class_text, classes_text, feature_text, formal_line, init_text, node_line, parent_text, static_text};
 
-use crate::node_text::{form_text, head_line};
+use crate::node_text::{form_text, head_line, part_text};
 use crate::tokens::{fault_line, lex_word};
 use cool_classes::{ClassId, ClassTable, Ty};
 use cool_emit::place_text;
@@ -20,7 +24,7 @@ use cool_faults::{Verdict, accept};
 use cool_lexer::{LexError, Lexed, lex};
 use cool_parser::{ParseError, parse};
 use cool_rules::{NodeTypes, TypedProgram};
-use cool_syntax::{Body, ClassDef, Feature, Formal, Listed, NodeId, TypeRef};
+use cool_syntax::{Body, ClassDef, Feature, Formal, Node, NodeId, Place, TypeRef};
 use std::alloc::{AllocError, Global};
 
 /// The number of the first class that a program defines: the basic ones stand before it.
@@ -62,7 +66,7 @@ fn files_text(
     requires few { length files.now ≤ MOST_FILES }
     requires small { total (bytes_of files.now) ≤ MOST_SOURCE_BYTES }
     requires program { IsOfFiles (option_map (λ p. p.now) program) (bytes_of files.now) }
-    ensures { IfOk result (λ text. AreTreesOf (option_map (λ p. p.now) program) 0 5 (bytes_of files.now) text.items) }
+    ensures { IfOk result (λ text. AreTreesOf (option_map (λ p. p.now) program.entry) 0 5 (bytes_of files.now) text.items) }
 {
     let mut told = Told {
         text: Vec::new(alloc),
@@ -82,10 +86,21 @@ impl Told {
         program: Option<&TypedProgram>,
         file: u32,
         bytes: &[u8],
-    ) -> Result<(), AllocError> {
+    ) -> Result<(), AllocError>
+        requires small { length bytes.now ≤ MOST_SOURCE_BYTES }
+        requires few { self.old.number + length bytes.now < 2 ^ 32 }
+        requires fits { (tokens : List Token) → (classes : List ClassDef) → Lexes file bytes.now tokens → Parses tokens classes → FitsClasses (option_map (λ p. p.now) program) self.old.number classes }
+        ensures added { OnOk result (IsAdded (option_map (λ p. p.now) program.entry) file bytes.now self.old.number self.new.number self.old.text.items self.new.text.items) }
+        ensures number { (tokens : List Token) → (classes : List ClassDef) → Lexes file bytes.now tokens → Parses tokens classes → OnOk result (self.new.number ≡ self.old.number + length classes) }
+        ensures few { OnOk result (self.new.number ≤ self.old.number + length bytes.now) }
+    {
         match lex(alloc, file, bytes) {
             Ok(lexed) => self.add_tree(alloc, program, file, &lexed),
-            Err(LexError::Fault(fault)) => self.add(&fault_line(alloc, fault.at, lex_word(fault.kind))?),
+            Err(LexError::Fault(fault)) => self.add(&fault_line(
+                alloc,
+                fault.at,
+                lex_word(fault.kind),
+            )?),
             Err(LexError::Memory) => Err(AllocError),
         }
     }
@@ -97,7 +112,14 @@ impl Told {
         program: Option<&TypedProgram>,
         file: u32,
         lexed: &Lexed,
-    ) -> Result<(), AllocError> {
+    ) -> Result<(), AllocError>
+        requires small { length lexed.now.tokens.items ≤ MOST_SOURCE_BYTES }
+        requires few { self.old.number + weights lexed.now.tokens.items < 2 ^ 32 }
+        requires fits { (classes : List ClassDef) → Parses lexed.now.tokens.items classes → FitsClasses (option_map (λ p. p.now) program) self.old.number classes }
+        ensures added { (bytes : List ℕ) → Lexes file bytes lexed.now.tokens.items → lexed.now.end ≡ place_at file bytes (length bytes) → OnOk result (IsAdded (option_map (λ p. p.now) program.entry) file bytes self.old.number self.new.number self.old.text.items self.new.text.items) }
+        ensures number { (classes : List ClassDef) → Parses lexed.now.tokens.items classes → OnOk result (self.new.number ≡ self.old.number + length classes) }
+        ensures few { OnOk result (self.new.number ≤ self.old.number + weights lexed.now.tokens.items) }
+    {
         match parse(alloc, file, lexed.tokens.as_slice(), lexed.end) {
             Ok(tree) => self.add_classes(alloc, program, tree.classes.as_slice()),
             Err(ParseError::Fault(fault)) => self.add(&fault_line(alloc, fault.at, b"S1")?),
@@ -114,7 +136,7 @@ impl Told {
     ) -> Result<(), AllocError>
         requires fits { FitsClasses (option_map (λ p. p.now) program) self.old.number classes.now }
         requires few { self.old.number + length classes.now < 2 ^ 32 }
-        ensures text { OnOk result (self.new.text.items ≡ self.old.text.items ++ classes_text (option_map (λ p. p.now) program) self.old.number classes.now) }
+        ensures text { OnOk result (self.new.text.items ≡ self.old.text.items ++ classes_text (option_map (λ p. p.now) program.entry) self.old.number classes.now) }
         ensures number { OnOk result (self.new.number ≡ self.old.number + length classes.now) }
     {
         for class in classes {
@@ -143,7 +165,7 @@ fn class_text(
     class: &ClassDef,
 ) -> Result<Vec<u8>, AllocError>
     requires fits { FitsClass (option_map (λ p. p.now) program) number class.now }
-    ensures { IfOk result (λ text. text.items ≡ class_text (option_map (λ p. p.now) program) number class.now) }
+    ensures { IfOk result (λ text. text.items ≡ class_text (option_map (λ p. p.now) program.entry) number class.now) }
 {
     let mut text = head_line(
         alloc,
@@ -183,7 +205,7 @@ fn feature_text(
     feature: &Feature,
 ) -> Result<Vec<u8>, AllocError>
     requires fits { FitsFeature column feature.now }
-    ensures { IfOk result (λ text. text.items ≡ feature_text (column_seen column) feature.now) }
+    ensures { IfOk result (λ text. text.items ≡ feature_text (column_seen column.entry) feature.now) }
 {
     match feature {
         Feature::Method(method) => {
@@ -219,7 +241,13 @@ fn formal_line(alloc: Global, formal: &Formal) -> Result<Vec<u8>, AllocError>
     ensures { IfOk result (λ line. line.items ≡ formal_line formal.now) }
 {
     let declared = formal.declared.name.as_slice();
-    head_line(alloc, b"formal", formal.at, formal.name.as_slice(), declared)
+    head_line(
+        alloc,
+        b"formal",
+        formal.at,
+        formal.name.as_slice(),
+        declared,
+    )
 }
 
 /// The lines of an initial value, where there is one. `Err` comes only for want of memory.
@@ -229,7 +257,7 @@ fn init_text(
     init: &Option<Body>,
 ) -> Result<Vec<u8>, AllocError>
     requires fits { FitsInit column init.now }
-    ensures { IfOk result (λ text. text.items ≡ init_text (column_seen column) init.now) }
+    ensures { IfOk result (λ text. text.items ≡ init_text (column_seen column.entry) init.now) }
 {
     match init {
         Some(body) => body_text(alloc, column, body),
@@ -238,37 +266,33 @@ fn init_text(
 }
 
 /// The lines of the nodes of an expression. `Err` comes only for want of memory.
-fn body_text(
-    alloc: Global,
-    column: Option<Column<'_>>,
-    body: &Body,
-) -> Result<Vec<u8>, AllocError>
+fn body_text(alloc: Global, column: Option<Column<'_>>, body: &Body) -> Result<Vec<u8>, AllocError>
     requires fits { FitsBody column body.now }
-    ensures { IfOk result (λ text. text.items ≡ body_text (column_seen column) body.now) }
+    ensures { IfOk result (λ text. text.items ≡ body_text (column_seen column.entry) body.now) }
 {
     let mut text = Vec::new(alloc);
     for number in 0..body.len() {
-        text.extend_from_slice(&node_line(alloc, column, body, NodeId(number))?)?;
+        let id = NodeId(number);
+        let node = body.node(id);
+        text.extend_from_slice(&node_line(alloc, column, id, node)?)?;
     }
     Ok(text)
 }
 
-/// The line of a node. `Err` comes only for want of memory.
+/// The line of the node of this number. `Err` comes only for want of memory.
 fn node_line(
     alloc: Global,
     column: Option<Column<'_>>,
-    body: &Body,
     id: NodeId,
+    node: &Node,
 ) -> Result<Vec<u8>, AllocError>
-    requires fits { FitsBody column body.now }
-    requires below { id.0 < tree_size body.now }
-    ensures { (n : ast.Node) → slice_get (nodes 0 body.now) id.0 ≡ Some n → IfOk result (λ line. line.items ≡ node_line (column_seen column) id.0 n) }
+    requires below { IfSome column (λ c. id.0 < length c.types.now) }
+    ensures { IfOk result (λ line. line.items ≡ node_line (column_seen column.entry) id.0 node.now) }
 {
-    let node = body.node(id);
-    let number = id.0;
     let mut line = Vec::from_slice(alloc, b"node ")?;
-    line.extend_from_slice(&place_text(alloc, node.place())?)?;
-    line.extend_from_slice(format!(in alloc; " {number} ")?.as_bytes())?;
+    line.extend_from_slice(&place_text(alloc, node_place(node))?)?;
+    line.extend_from_slice(&part_text(alloc, id)?)?;
+    line.extend_from_slice(b" ")?;
     line.extend_from_slice(static_text(column, id))?;
     line.extend_from_slice(b" ")?;
     line.extend_from_slice(&form_text(alloc, node)?)?;
@@ -276,10 +300,17 @@ fn node_line(
     Ok(line)
 }
 
+/// The place of a node.
+fn node_place(node: &Node) -> Place
+    ensures { result ≡ node_place node.now }
+{
+    node.place()
+}
+
 /// The static type of a node, or `?` where none is told.
 fn static_text<'a>(column: Option<Column<'a>>, id: NodeId) -> &'a [u8]
     requires below { IfSome column (λ c. id.0 < length c.types.now) }
-    ensures { result.now ≡ static_text (column_seen column) id.0 }
+    ensures { result.now ≡ static_text (column_seen column.entry) id.0 }
 {
     match column {
         Some(column) => type_text(column.table, column.types.get(id)),

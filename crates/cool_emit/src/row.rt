@@ -14,6 +14,18 @@ use cool_rules::Entry;
 use cool_syntax::{ArithOp, CompareOp, Place};
 use std::alloc::{AllocError, Global};
 
+/// How many bytes most lines have.
+const USUAL_BYTES: usize = 64;
+
+/// These bytes, with room for a line. `Err` comes only for want of memory.
+fn with_room(alloc: Global, bytes: &[u8]) -> Result<Vec<u8>, AllocError>
+    ensures { IfOk result (λ text. text.items ≡ bytes.now) }
+{
+    let mut text = Vec::with_capacity(alloc, USUAL_BYTES)?;
+    text.extend_from_slice(bytes)?;
+    Ok(text)
+}
+
 /// The line of a class. `Err` comes only for want of memory.
 pub(crate) fn class_line(
     alloc: Global,
@@ -23,7 +35,7 @@ pub(crate) fn class_line(
     requires within { c.0 < length table.now }
     ensures { IfOk result (λ line. line.items ≡ row_line table.now (class_row (name_of table.now c))) }
 {
-    let mut line = Vec::from_slice(alloc, b"class ")?;
+    let mut line = with_room(alloc, b"class ")?;
     line.extend_from_slice(table.name(c).as_slice())?;
     line.extend_from_slice(b"\n")?;
     Ok(line)
@@ -38,7 +50,7 @@ pub(crate) fn named_line(
 ) -> Result<Vec<u8>, AllocError>
     ensures { IfOk result (λ line. line.items ≡ words.now ++ (named_text table.now (binding_of entry.now) ++ codes "\n")) }
 {
-    let mut line = Vec::from_slice(alloc, words)?;
+    let mut line = with_room(alloc, words)?;
     line.extend_from_slice(&named_text(alloc, table, entry)?)?;
     line.extend_from_slice(b"\n")?;
     Ok(line)
@@ -54,7 +66,7 @@ pub(crate) fn feature_line(
 ) -> Result<Vec<u8>, AllocError>
     ensures { IfOk result (λ line. line.items ≡ words.now ++ (range_text from to ++ (codes " " ++ (name.now ++ codes "\n")))) }
 {
-    let mut line = Vec::from_slice(alloc, words)?;
+    let mut line = with_room(alloc, words)?;
     line.extend_from_slice(&range_text(alloc, from, to)?)?;
     line.extend_from_slice(b" ")?;
     line.extend_from_slice(name)?;
@@ -72,7 +84,7 @@ pub(crate) fn code_line(
 ) -> Result<Vec<u8>, AllocError>
     ensures { IfOk result (λ line. line.items ≡ row_line table.now (code_row from to (shown_of span.now))) }
 {
-    let mut line = Vec::from_slice(alloc, b"code ")?;
+    let mut line = with_room(alloc, b"code ")?;
     line.extend_from_slice(&range_text(alloc, from, to)?)?;
     line.extend_from_slice(b" ")?;
     line.extend_from_slice(&span_text(alloc, table, span)?)?;
@@ -86,7 +98,7 @@ fn span_text(alloc: Global, table: &ClassTable, span: &Span<'_>) -> Result<Vec<u
 {
     let depth = span.depth;
     let names = span.names;
-    let mut text = Vec::from_slice(alloc, form_word(span.form))?;
+    let mut text = with_room(alloc, form_word(span.form))?;
     text.extend_from_slice(b" ")?;
     text.extend_from_slice(&place_text(alloc, span.at)?)?;
     text.extend_from_slice(format!(in alloc; " {depth} {names}")?.as_bytes())?;
@@ -104,7 +116,7 @@ fn latest_text(
 {
     match latest {
         Some(entry) => {
-            let mut text = Vec::from_slice(alloc, b" ")?;
+            let mut text = with_room(alloc, b" ")?;
             text.extend_from_slice(&named_text(alloc, table, &entry)?)?;
             Ok(text)
         }
@@ -122,7 +134,7 @@ fn named_text(
 {
     let variable = entry.value;
     let offset = variable.offset;
-    let mut text = Vec::from_slice(alloc, entry.name)?;
+    let mut text = with_room(alloc, entry.name)?;
     text.extend_from_slice(format!(in alloc; " {offset}(")?.as_bytes())?;
     text.extend_from_slice(base_text(variable.base))?;
     text.extend_from_slice(b") ")?;

@@ -27,10 +27,10 @@ abbrev pub verdict : Bool → Status
 verdict true = Refused
 verdict false = Done
 
--- What is told of files of these bytes: an explanation of each of their faults; and where they have none what is likely a mistake all the same.
+-- What is told of files of these bytes: an explanation of each of their faults; and where they have none the first notices that are due.
 pub record IsTold (contents : List (List ℕ)) (told : Explained) : Type 0 where
   pub explained : AreExplained contents told.explanations.items
-  pub noticed : AreNoticed contents told.notices.items
+  pub noticed : told.explanations.items ≡ [] → AreNoticed contents told.notices.items
   pub quiet : told.notices.items ≢ [] → told.explanations.items ≡ []
 
 -- whether explanations explain a fault

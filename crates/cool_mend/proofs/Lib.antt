@@ -2,3 +2,4 @@ pub mod FilesEdited
 pub mod PartsOfLists
 pub mod MendsTold
 pub mod FaultsPassed
+pub mod NoticesTold

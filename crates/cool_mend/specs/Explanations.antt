@@ -1,5 +1,5 @@
 -- What explanations of faults tell.
-use Rattle.std.specs.Prelude.{◌≡◌, ℕ, suc, List, [], ◌∷◌, ◌++◌, map, Option, Some, None, IfSome}
+use Rattle.std.specs.Prelude.{◌≡◌, ◌≢◌, ℕ, suc, List, [], ◌∷◌, ◌++◌, map, Option, Some, None, IfSome}
 use Rattle.std.specs.List.{AllByRecursion}
 use Rattle.std.specs.Global.{Vec}
 use Rattle.cool_classes.specs.declared.class_id.ClassId.{ClassId}
@@ -25,6 +25,10 @@ use Rattle.cool_mend.specs.Mends.{Mends}
 -- the files are this class table
 abbrev pub IsTableOf : List (List ℕ) → List Class → Type 0
 IsTableOf files p = (u : Untyped) × IsUntyped files u × (u.classes ≡ p)
+
+-- the files have a fault
+abbrev pub IsFaulty : List (List ℕ) → Type 0
+IsFaulty files = (faults : List Fault) × IsFaultList files faults × (faults ≢ [])
 
 -- how a type is written
 abbrev pub type_text : List Class → Ty → List ℕ

@@ -1,14 +1,15 @@
 -- Notices of a program: what is legal in it, and likely a mistake.
-use Rattle.std.specs.Prelude.{◌≡◌, ◌⊎◌, ℕ, ◌<◌, List, [], length, slice_get, Option, Some}
-use Rattle.std.specs.List.{AllByRecursion}
+use Rattle.std.specs.Prelude.{◌≡◌, ℕ, List, [], map, take, Option, Some, None}
+use Rattle.std.specs.List.{flat_map}
 use Rattle.cool_syntax.specs.declared.file_tree.Feature.{Feature}
 use Rattle.cool_syntax.specs.declared.file_tree.Feature.TheVariants.{Method, Attribute}
+use Rattle.cool_syntax.specs.declared.place.Place.{Place}
 use Rattle.cool_syntax.specs.Tree.{Tree}
-use Rattle.cool_classes.specs.declared.class_id.ClassId.{ClassId}
-use Rattle.cool_classes.specs.Chains.{Class, features_of}
-use Rattle.cool_notices.specs.declared.kind.Notice.{Notice as Found}
-use Rattle.cool_notices.specs.Notices.{IsNotice, words}
+use Rattle.cool_classes.specs.Chains.{Class}
+use Rattle.cool_notices.specs.declared.kind.Notice.{Notice as Due}
+use Rattle.cool_notices.specs.Notices.{due_notices, words}
 use Rattle.cool_mend.specs.declared.explanation.Notice.{Notice}
+use Rattle.cool_mend.specs.declared.noticing.TheConstants.{MOST_NOTICES}
 use Rattle.cool_mend.specs.Explanations.{IsTableOf}
 
 -- the expression of a feature, where it has one
@@ -16,20 +17,33 @@ abbrev pub body_of : Feature → Option Tree
 body_of (Method m) = Some m.body
 body_of (Attribute a) = a.init
 
--- An expression of a feature of a class calls for a notice, which is told at its place and in its words.
-pub record IsNoticed (p : List Class) (n : Notice) : Type 0 where
-  pub class : ClassId
-  pub within : class.0 < length p
-  pub index : ℕ
-  pub feature : Feature
-  pub has : slice_get (features_of p class) index ≡ Some feature
-  pub body : Tree
-  pub of : body_of feature ≡ Some body
-  pub found : Found
-  pub calls : IsNotice body found
-  pub at : n.at ≡ found.at
-  pub said : n.words.items ≡ words found.kind
+-- the notices that are due in a feature, in a class and in a program, in the order of the text
+abbrev pub due_in_body : Option Tree → List Due
+due_in_body None = []
+due_in_body (Some body) = due_notices body
 
--- The notices of files that are a class table are those of the table; there is none of others.
-abbrev pub AreNoticed : List (List ℕ) → List Notice → Type 0
-AreNoticed files notices = (notices ≡ []) ⊎ ((p : List Class) × IsTableOf files p × AllByRecursion (IsNoticed p) notices)
+abbrev pub due_in_feature : Feature → List Due
+due_in_feature f = due_in_body (body_of f)
+
+abbrev pub due_in_class : Class → List Due
+due_in_class c = flat_map due_in_feature c.features
+
+abbrev pub due_in_program : List Class → List Due
+due_in_program p = flat_map due_in_class p
+
+-- what a notice says, and where: of one that is due, and of one that is told
+pub record Saying : Type 0 where
+  pub at : Place
+  pub words : List ℕ
+
+abbrev pub due_saying : Due → Saying
+due_saying n = record { at = n.at; words = words n.kind }
+
+abbrev pub saying : Notice → Saying
+saying n = record { at = n.at; words = n.words.items }
+
+-- Files that are a class table have these notices: the first that are due in it, so many as are told.
+pub record AreNoticed (files : List (List ℕ)) (notices : List Notice) : Type 0 where
+  pub table : List Class
+  pub of : IsTableOf files table
+  pub first : map saying notices ≡ map due_saying (take MOST_NOTICES (due_in_program table))

@@ -1,13 +1,13 @@
 //! Explaining the faults of files.
 
-ghost use Rattle.std.specs.Prelude.{◌≡◌, ◌≢◌, ◌<◌, ◌≤◌, [], IfOk, IfSome, length, map};
+ghost use Rattle.std.specs.Prelude.{◌≡◌, ◌≢◌, ◌<◌, ◌≤◌, [], IfOk, IfSome, None, length, map};
 ghost use Rattle.std.specs.List.{AllByRecursion};
 ghost use Rattle.cool_syntax.specs.declared.TheConstants.{MOST_FILES, MOST_SOURCE_BYTES};
 ghost use Rattle.cool_syntax.specs.TokenFacts.{IsPlaced};
 ghost use Rattle.cool_faults.specs.Files.{bytes_of, total};
-ghost use Rattle.cool_faults.specs.Verdicts.{place_of};
+ghost use Rattle.cool_faults.specs.Verdicts.{IsFaultList, place_of};
 ghost use Rattle.cool_mend.specs.Noticed.{AreNoticed};
-ghost use Rattle.cool_mend.specs.Explanations.{AreExplained, AreMends, IsMend, IsTableOf, IsTold};
+ghost use Rattle.cool_mend.specs.Explanations.{AreExplained, AreMends, IsFaulty, IsMend, IsTableOf, IsTold};
 
 use crate::explanation::{Explained, Explanation, Mend, Notice};
 use crate::noticing::notices;
@@ -28,8 +28,8 @@ pub fn explain(alloc: Global, files: &[Vec<u8>]) -> Result<Explained, AllocError
     // Each fault stands in one of the files, where there are any.
     ensures placed { 0 < length (bytes_of files.now)
         → IfOk result (λ told. AllByRecursion (λ x. IsPlaced (length (bytes_of files.now)) (place_of x.fault)) told.explanations.items) }
-    // Notices are told of a program alone.
-    ensures noticed { IfOk result (λ told. AreNoticed (bytes_of files.now) told.notices.items) }
+    // The first notices that are due are told of a program, and none of other files.
+    ensures noticed { IfOk result (λ told. told.explanations.items ≡ [] → AreNoticed (bytes_of files.now) told.notices.items) }
     ensures quiet { IfOk result (λ told. told.notices.items ≢ [] → told.explanations.items ≡ []) }
 {
     let faults = fault_list(alloc, files)?;
@@ -50,12 +50,15 @@ fn noticed(
     faults: &[Fault],
 ) -> Result<Vec<Notice>, AllocError>
     requires classes { IfSome classes.now (IsTableOf (bytes_of files.now)) }
-    ensures noticed { IfOk result (λ notices. AreNoticed (bytes_of files.now) notices.items) }
+    requires without { classes.now ≡ None → IsFaulty (bytes_of files.now) }
+    requires list { IsFaultList (bytes_of files.now) faults.now }
+    ensures noticed { IfOk result (λ notices. faults.now ≡ [] → AreNoticed (bytes_of files.now) notices.items) }
     ensures quiet { IfOk result (λ notices. notices.items ≢ [] → faults.now ≡ []) }
 {
     match classes {
         Some(table) if faults.is_empty() => notices(alloc, files, table),
-        _ => Ok(Vec::new(alloc)),
+        Some(_) => Ok(Vec::new(alloc)),
+        None => Ok(Vec::new(alloc)),
     }
 }
 

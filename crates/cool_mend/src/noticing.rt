@@ -1,11 +1,9 @@
 //! What is legal in a program, and likely a mistake.
 
-ghost use Rattle.std.specs.Prelude.{◌≡◌, ◌<◌, IfOk, IfSome, Some, length};
-ghost use Rattle.std.specs.List.{AllByRecursion};
-ghost use Rattle.cool_syntax.specs.declared.file_tree.Feature.{Feature as Definition};
-ghost use Rattle.cool_classes.specs.Chains.{features_of};
-ghost use Rattle.cool_notices.specs.Notices.{IsNotice, words};
-ghost use Rattle.cool_mend.specs.Noticed.{IsNoticed, body_of};
+ghost use Rattle.std.specs.Prelude.{◌≡◌, List, map, take, option_map, IfOk, OnOk};
+ghost use Rattle.cool_notices.specs.declared.kind.Notice.{Notice as Due};
+ghost use Rattle.cool_notices.specs.Notices.{up_to};
+ghost use Rattle.cool_mend.specs.Noticed.{body_of, due_in_feature, due_in_program, due_saying, saying};
 
 use crate::explanation::Notice;
 use cool_classes::{ClassId, ClassTable};
@@ -15,41 +13,37 @@ use cool_syntax::{Body, Feature, Place};
 use std::alloc::{AllocError, Global};
 
 /// The most notices of a program that are told.
-const MOST_NOTICES: usize = 20;
+pub const MOST_NOTICES: usize = 20;
 
-/// The notices of a program, feature by feature in the order of the text, at most so many. `Err` comes only for want of memory.
+/// The first notices that are due in a program, feature by feature in the order of the text. `Err` comes only for want of memory.
 pub(crate) fn notices(
     alloc: Global,
     files: &[Vec<u8>],
     classes: &ClassTable,
 ) -> Result<Vec<Notice>, AllocError>
-    ensures { IfOk result (λ all. AllByRecursion (IsNoticed classes.now) all.items) }
+    ensures { IfOk result (λ all. map saying all.items ≡ map due_saying (take MOST_NOTICES (due_in_program classes.now))) }
 {
     let mut all = Vec::new(alloc);
     for number in 0..classes.count() {
-        let class = ClassId(number);
-        for index in 0..classes.features(class).len() {
-            add_of_feature(alloc, files, classes, class, index, &mut all)?;
+        let features = classes.features(ClassId(number));
+        for index in 0..features.len() {
+            add_of_feature(alloc, files, &features[index], &mut all)?;
         }
     }
     Ok(all)
 }
 
-/// Adds the notices of a feature. `Err` comes only for want of memory.
+/// Adds the notices that are due in a feature, until there are so many. `Err` comes only for want of memory.
 fn add_of_feature(
     alloc: Global,
     files: &[Vec<u8>],
-    classes: &ClassTable,
-    class: ClassId,
-    index: usize,
+    feature: &Feature,
     all: &mut Vec<Notice>,
 ) -> Result<(), AllocError>
-    requires within { class.0 < length classes.now }
-    requires has { index < length (features_of classes.now class) }
-    requires before { AllByRecursion (IsNoticed classes.now) all.old.items }
-    ensures { IfOk result (λ _. AllByRecursion (IsNoticed classes.now) all.new.items) }
+    ensures { (before : List Due) → map saying all.old.items ≡ map due_saying before
+        → OnOk result (map saying all.new.items ≡ map due_saying (up_to MOST_NOTICES before (due_in_feature feature.now))) }
 {
-    let Some(body) = body_of(&classes.features(class)[index]) else {
+    let Some(body) = body_of(feature) else {
         return Ok(());
     };
     let found = body_notices(alloc, body, MOST_NOTICES.saturating_sub(all.len()))?;
@@ -61,7 +55,7 @@ fn add_of_feature(
 
 /// The expression of a feature, where it has one.
 fn body_of(feature: &Feature) -> Option<&Body>
-    ensures { IfSome result (λ body. body_of feature.now ≡ Some body.now) }
+    ensures { option_map (λ body. body.now) result ≡ body_of feature.now }
 {
     match feature {
         Feature::Method(method) => Some(&method.body),
@@ -74,8 +68,7 @@ fn body_of(feature: &Feature) -> Option<&Body>
 
 /// A notice with its range and its words. `Err` comes only for want of memory.
 fn told(alloc: Global, files: &[Vec<u8>], found: Found) -> Result<Notice, AllocError>
-    ensures at { IfOk result (λ notice. notice.at ≡ found.at) }
-    ensures words { IfOk result (λ notice. notice.words.items ≡ words found.kind) }
+    ensures { IfOk result (λ notice. saying notice ≡ due_saying found) }
 {
     let at = found.at;
     let mut end = at.byte as usize;

@@ -1,12 +1,12 @@
 //! The types and methods of faults of typing, as they are written.
 
-ghost use Rattle.std.specs.Prelude.{◌≡◌, ◌≤◌, ◌<◌, ℕ, List, IfOk, IfSome, length, Some};
+ghost use Rattle.std.specs.Prelude.{◌≡◌, ◌≤◌, ◌<◌, ℕ, List, IfOk, IfSome, length, None, Some};
 ghost use Rattle.std.specs.List.{AllByRecursion};
 ghost use Rattle.cool_syntax.specs.declared.TheConstants.{MOST_FILES, MOST_SOURCE_BYTES};
 ghost use Rattle.cool_classes.specs.Chains.{IsChain, name_of};
 ghost use Rattle.cool_classes.specs.Features.{implementation};
 ghost use Rattle.cool_faults.specs.Files.{bytes_of, total};
-ghost use Rattle.cool_mend.specs.Explanations.{AreMethods, AreTypes, HaveMethods, HaveTypes, IsMethod, IsTableOf, type_text};
+ghost use Rattle.cool_mend.specs.Explanations.{AreMethods, AreTypes, HaveMethods, HaveTypes, IsFaulty, IsMethod, IsTableOf, type_text};
 
 use crate::explanation::{Methods, Types};
 use cool_check::TypeFault;
@@ -26,7 +26,8 @@ pub(crate) fn class_table(
 ) -> Result<Option<ClassTable>, AllocError>
     requires few { length files.now ≤ MOST_FILES }
     requires small { total (bytes_of files.now) ≤ MOST_SOURCE_BYTES }
-    ensures { IfOk result (λ classes. IfSome classes (IsTableOf (bytes_of files.now))) }
+    ensures is { IfOk result (λ classes. IfSome classes (IsTableOf (bytes_of files.now))) }
+    ensures without { IfOk result (λ classes. classes ≡ None → IsFaulty (bytes_of files.now)) }
 {
     match class_phase(alloc, files)? {
         ClassVerdict::Untyped(untyped) => Ok(Some(untyped.classes)),

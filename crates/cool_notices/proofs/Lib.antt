@@ -1,1 +1,1 @@
-pub mod NoticesCalled
+pub mod NoticesInOrder

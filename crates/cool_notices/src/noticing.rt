@@ -1,20 +1,18 @@
 //! The notices of a body.
 
-ghost use Rattle.std.specs.Prelude.{◌≡◌, ◌<◌, ℕ, List, IfOk, IfSome, true};
-ghost use Rattle.std.specs.List.{AllByRecursion};
-ghost use Rattle.cool_syntax.specs.declared.operator.ArithOp.TheVariants.{Div};
-ghost use Rattle.cool_syntax.specs.declared.place.Place.{Place};
-ghost use Rattle.cool_syntax.specs.Tree.{Tree, Assign, Id, Int, place_of, tree_size};
+ghost use Rattle.std.specs.Prelude.{◌≡◌, ◌<◌, take, option_map, OnOk, IfOk};
+ghost use Rattle.std.specs.Option.{option_to_list};
+ghost use Rattle.cool_syntax.specs.Tree.{tree_size};
 ghost use Rattle.cool_syntax.specs.NodeLists.{tree_at};
-ghost use Rattle.cool_notices.specs.Notices.{Calls, IsIdle, IsNotice};
+ghost use Rattle.cool_notices.specs.Notices.{are_one_name, block_notices, due_notices, idle_kind, idle_notice, is_by_zero, is_name, is_zero, name_of, notice_if, own_notice, test_notice, up_to};
 
 use crate::kind::{Notice, NoticeKind};
 use cool_syntax::{ArithOp, Body, CompareOp, Name, Node, NodeId, Place};
 use std::alloc::{AllocError, Global};
 
-/// The notices of a body, at most so many: those of an expression after those of its parts. `Err` comes only for want of memory.
+/// The first of the notices that are due in a body, so many: those of an expression after those of its parts. `Err` comes only for want of memory.
 pub fn body_notices(alloc: Global, body: &Body, most: usize) -> Result<Vec<Notice>, AllocError>
-    ensures { IfOk result (λ all. AllByRecursion (IsNotice body.now) all.items) }
+    ensures { IfOk result (λ all. all.items ≡ take most (due_notices body.now)) }
 {
     let mut all = Vec::new(alloc);
     for number in 0..body.len() {
@@ -27,8 +25,7 @@ pub fn body_notices(alloc: Global, body: &Body, most: usize) -> Result<Vec<Notic
 
 /// Adds a notice, where there is one and there are not so many yet. `Err` comes only for want of memory.
 fn add(all: &mut Vec<Notice>, most: usize, notice: Option<Notice>) -> Result<(), AllocError>
-    ensures { (body : Tree) → AllByRecursion (IsNotice body) all.old.items → IfSome notice (IsNotice body)
-        → IfOk result (λ _. AllByRecursion (IsNotice body) all.new.items) }
+    ensures { OnOk result (all.new.items ≡ up_to most all.old.items (option_to_list notice)) }
 {
     match notice {
         Some(notice) if all.len() < most => all.push(notice)?,
@@ -40,8 +37,7 @@ fn add(all: &mut Vec<Notice>, most: usize, notice: Option<Notice>) -> Result<(),
 /// Adds the notices of the items of a block but the last; none of another expression. `Err` comes only for want of memory.
 fn add_idle(body: &Body, id: NodeId, most: usize, all: &mut Vec<Notice>) -> Result<(), AllocError>
     requires below { id.0 < tree_size body.now }
-    requires before { AllByRecursion (IsNotice body.now) all.old.items }
-    ensures { IfOk result (λ _. AllByRecursion (IsNotice body.now) all.new.items) }
+    ensures { OnOk result (all.new.items ≡ up_to most all.old.items (block_notices (tree_at body.now id))) }
 {
     let Node::Block { items, .. } = body.node(id) else {
         return Ok(());
@@ -56,8 +52,7 @@ fn add_idle(body: &Body, id: NodeId, most: usize, all: &mut Vec<Notice>) -> Resu
 /// The notice that is due at an expression whose value is not used.
 fn idle_notice(body: &Body, id: NodeId) -> Option<Notice>
     requires below { id.0 < tree_size body.now }
-    ensures idle { IfSome result (λ notice. IsIdle notice.kind (tree_at body.now id)) }
-    ensures at { IfSome result (λ notice. notice.at ≡ place_of (tree_at body.now id)) }
+    ensures { result ≡ idle_notice (tree_at body.now id) }
 {
     let kind = idle_kind(body, id)?;
     Some(Notice {
@@ -69,16 +64,16 @@ fn idle_notice(body: &Body, id: NodeId) -> Option<Notice>
 /// Which notice is due at an expression whose value is not used.
 fn idle_kind(body: &Body, id: NodeId) -> Option<NoticeKind>
     requires below { id.0 < tree_size body.now }
-    ensures { IfSome result (λ kind. IsIdle kind (tree_at body.now id)) }
+    ensures { result ≡ idle_kind (tree_at body.now id) }
 {
     match body.node(id) {
         Node::Compare {
             op: CompareOp::Equal,
             left,
             ..
-        } => match body.node(*left) {
-            Node::Id { .. } => Some(NoticeKind::Comparison),
-            _ => Some(NoticeKind::Unused),
+        } => match name_at(body, *left) {
+            Some(_) => Some(NoticeKind::Comparison),
+            None => Some(NoticeKind::Unused),
         },
         Node::Compare { .. }
         | Node::Arith { .. }
@@ -96,25 +91,24 @@ fn idle_kind(body: &Body, id: NodeId) -> Option<NoticeKind>
 /// The notice that is due at an expression itself.
 fn notice_at(body: &Body, id: NodeId) -> Option<Notice>
     requires below { id.0 < tree_size body.now }
-    ensures { IfSome result (λ notice. Calls (tree_at body.now id) notice.kind notice.at) }
+    ensures { result ≡ own_notice (tree_at body.now id) }
 {
     match body.node(id) {
-        Node::Assign { at, name, value } => noted(
-            is_name(body, *value, name),
-            NoticeKind::OwnValue,
-            *at,
-        ),
-        Node::If { test, .. } => noted_at(assignment(body, *test), NoticeKind::AssignedTest),
-        Node::While { test, .. } => noted_at(assignment(body, *test), NoticeKind::AssignedTest),
+        Node::Assign { at, name, value } => {
+            noted(is_name(body, *value, name), NoticeKind::OwnValue, *at)
+        }
+        Node::If { test, .. } => test_notice(body, *test),
+        Node::While { test, .. } => test_notice(body, *test),
         Node::Compare {
             at,
             left,
             right,
             ..
-        } => match name_at(body, *left) {
-            Some(name) => noted(is_name(body, *right, name), NoticeKind::SameSides, *at),
-            None => None,
-        },
+        } => noted(
+            are_one_name(body, *left, *right),
+            NoticeKind::SameSides,
+            *at,
+        ),
         Node::Arith { at, op, right, .. } => {
             noted(is_by_zero(body, *op, *right), NoticeKind::ByZero, *at)
         }
@@ -124,7 +118,7 @@ fn notice_at(body: &Body, id: NodeId) -> Option<Notice>
 
 /// A notice, where it is due.
 fn noted(is_due: bool, kind: NoticeKind, at: Place) -> Option<Notice>
-    ensures { (t : Tree) → (is_due ≡ true → Calls t kind at) → IfSome result (λ notice. Calls t notice.kind notice.at) }
+    ensures { result ≡ notice_if is_due kind at }
 {
     if is_due {
         Some(Notice { kind, at })
@@ -133,23 +127,16 @@ fn noted(is_due: bool, kind: NoticeKind, at: Place) -> Option<Notice>
     }
 }
 
-/// A notice, where there is a place for it.
-fn noted_at(at: Option<Place>, kind: NoticeKind) -> Option<Notice>
-    ensures { (t : Tree) → IfSome at (Calls t kind) → IfSome result (λ notice. Calls t notice.kind notice.at) }
-{
-    match at {
-        Some(at) => Some(Notice { kind, at }),
-        None => None,
-    }
-}
-
-/// The place of an assignment.
-fn assignment(body: &Body, id: NodeId) -> Option<Place>
+/// The notice of a predicate.
+fn test_notice(body: &Body, id: NodeId) -> Option<Notice>
     requires below { id.0 < tree_size body.now }
-    ensures { IfSome result (λ at. (name : List ℕ) × (value : Tree) × (tree_at body.now id ≡ Assign at name value)) }
+    ensures { result ≡ test_notice (tree_at body.now id) }
 {
     match body.node(id) {
-        Node::Assign { at, .. } => Some(*at),
+        Node::Assign { at, .. } => Some(Notice {
+            kind: NoticeKind::AssignedTest,
+            at: *at,
+        }),
         _ => None,
     }
 }
@@ -157,7 +144,7 @@ fn assignment(body: &Body, id: NodeId) -> Option<Place>
 /// The name that an expression is.
 fn name_at(body: &Body, id: NodeId) -> Option<&Name>
     requires below { id.0 < tree_size body.now }
-    ensures { IfSome result (λ name. (at : Place) × (tree_at body.now id ≡ Id at name.now)) }
+    ensures { option_map (λ name. name.now) result ≡ name_of (tree_at body.now id) }
 {
     match body.node(id) {
         Node::Id { name, .. } => Some(name),
@@ -168,10 +155,22 @@ fn name_at(body: &Body, id: NodeId) -> Option<&Name>
 /// Whether an expression is this name.
 fn is_name(body: &Body, id: NodeId, name: &Name) -> bool
     requires below { id.0 < tree_size body.now }
-    ensures { result ≡ true → (at : Place) × (tree_at body.now id ≡ Id at name.now) }
+    ensures { result ≡ is_name (tree_at body.now id) name.now }
 {
     match name_at(body, id) {
-        Some(found) => found.as_slice() == name.as_slice(),
+        Some(found) => found.is(name),
+        None => false,
+    }
+}
+
+/// Whether two expressions are one name.
+fn are_one_name(body: &Body, left: NodeId, right: NodeId) -> bool
+    requires left { left.0 < tree_size body.now }
+    requires right { right.0 < tree_size body.now }
+    ensures { result ≡ are_one_name (tree_at body.now left) (tree_at body.now right) }
+{
+    match name_at(body, left) {
+        Some(name) => is_name(body, right, name),
         None => false,
     }
 }
@@ -179,7 +178,7 @@ fn is_name(body: &Body, id: NodeId, name: &Name) -> bool
 /// Whether an operation is a division by the constant 0.
 fn is_by_zero(body: &Body, op: ArithOp, right: NodeId) -> bool
     requires below { right.0 < tree_size body.now }
-    ensures { result ≡ true → (op ≡ Div) × ((at : Place) × (tree_at body.now right ≡ Int at 0)) }
+    ensures { result ≡ is_by_zero op (tree_at body.now right) }
 {
     match op {
         ArithOp::Div => is_zero(body, right),
@@ -190,7 +189,7 @@ fn is_by_zero(body: &Body, op: ArithOp, right: NodeId) -> bool
 /// Whether an expression is the constant 0.
 fn is_zero(body: &Body, id: NodeId) -> bool
     requires below { id.0 < tree_size body.now }
-    ensures { result ≡ true → (at : Place) × (tree_at body.now id ≡ Int at 0) }
+    ensures { result ≡ is_zero (tree_at body.now id) }
 {
     match body.node(id) {
         Node::Int { value, .. } => *value == 0,

@@ -2,7 +2,7 @@
 use Rattle.std.proofs.Common.{ℕ, ◌+◌, ◌∙◌, List, ◌∷◌, ◌++◌, length, drop, ap, sym, subst, arith}
 use Rattle.std.proofs.lemmas.List.{drop_all}
 use Rattle.cool_faults.specs.Files.{bytes_of}
-use Rattle.cool_faults.proofs.LexicalFaults.{file_small}
+use Rattle.cool_editor.proofs.TreesOfFiles.{file_small}
 use Rattle.cool_editor.specs.TokenLines.{AreTokensOf}
 use Rattle.cool_editor.proofs.PiecesOfFiles.{piece_more, piece_end}
 use Rattle.cool_editor.proofs.tokens.token_lines.Goals as goal

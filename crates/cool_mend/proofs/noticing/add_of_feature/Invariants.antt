@@ -1,7 +1,7 @@
--- Each notice so far is one of the program.
-use Rattle.std.specs.List.{AllByRecursion}
-use Rattle.cool_mend.specs.Noticed.{IsNoticed}
+-- The notices so far are told.
+use Rattle.std.proofs.Common.{◌≡◌, ◌++◌, map, take}
+use Rattle.cool_mend.specs.Noticed.{due_saying, saying}
 use Rattle.cool_mend.proofs.noticing.add_of_feature.Given as goal
 
 abbrev pub invariant-loop-number : goal.invariant-loop-number
-invariant-loop-number l = AllByRecursion (IsNoticed l.classes) l.all.items
+invariant-loop-number l = map saying l.all.items ≡ map saying l.fn.all.items ++ map due_saying (take l.number l.found.items)

@@ -1,10 +1,13 @@
--- Each notice so far is one of the program.
-use Rattle.std.specs.List.{AllByRecursion}
-use Rattle.cool_mend.specs.Noticed.{IsNoticed}
+-- The notices of the classes so far are told, and of the features so far of the next.
+use Rattle.std.proofs.Common.{◌≡◌, ◌++◌, [], map, take}
+use Rattle.std.specs.List.{flat_map}
+use Rattle.cool_notices.specs.Notices.{up_to}
+use Rattle.cool_mend.specs.declared.noticing.TheConstants.{MOST_NOTICES}
+use Rattle.cool_mend.specs.Noticed.{due_in_class, due_in_feature, due_saying, saying}
 use Rattle.cool_mend.proofs.noticing.notices.Given as goal
 
 abbrev pub invariant-loop-number : goal.invariant-loop-number
-invariant-loop-number l = AllByRecursion (IsNoticed l.classes) l.all.items
+invariant-loop-number l = map saying l.all.items ≡ map due_saying (up_to MOST_NOTICES [] (flat_map due_in_class (take l.number l.classes)))
 
 abbrev pub invariant-loop-index : goal.invariant-loop-index
-invariant-loop-index l = AllByRecursion (IsNoticed l.classes) l.all.items
+invariant-loop-index l = map saying l.all.items ≡ map due_saying (up_to MOST_NOTICES [] (flat_map due_in_class (take l.number l.classes) ++ flat_map due_in_feature (take l.index l.features)))

@@ -1,7 +1,9 @@
--- Each notice so far is one of the body.
-use Rattle.std.specs.List.{AllByRecursion}
-use Rattle.cool_notices.specs.Notices.{IsNotice}
+-- The notices at the nodes so far are told.
+use Rattle.std.proofs.Common.{◌≡◌, take, []}
+use Rattle.std.specs.List.{flat_map}
+use Rattle.cool_syntax.specs.NodeLists.{all_trees}
+use Rattle.cool_notices.specs.Notices.{notices_at, up_to}
 use Rattle.cool_notices.proofs.noticing.body_notices.Given as goal
 
 abbrev pub invariant-loop-number : goal.invariant-loop-number
-invariant-loop-number l = AllByRecursion (IsNotice l.body) l.all.items
+invariant-loop-number l = l.all.items ≡ up_to l.most [] (flat_map notices_at (take l.number (all_trees l.body)))

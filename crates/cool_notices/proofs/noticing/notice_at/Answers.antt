@@ -1,25 +1,26 @@
 -- The nodes of an expression and of its parts are those trees.
-use Rattle.std.proofs.Common.{ap, ◌∙◌}
+use Rattle.std.proofs.Common.{ap, sym, ◌∙◌}
 use Rattle.cool_syntax.specs.NodeLists.{all_trees, made}
-use Rattle.cool_notices.proofs.NoticesCalled.{if_called, own_called, sides_called, some_follows, while_called, zero_called}
+use Rattle.cool_notices.specs.Notices.{own_notice}
+use Rattle.cool_notices.specs.declared.kind.NoticeKind.TheVariants as kind
+use Rattle.cool_notices.proofs.NoticesInOrder.{due_by}
 use Rattle.cool_notices.proofs.noticing.notice_at.Goals as goal
 
 pub returns-in-Assign : goal.returns-in-Assign
-returns-in-Assign c = c.noted.ensures _ (λ due. own_called _ _ _ _ (c.node.ensures.tree ∙ ap (made (all_trees c.args.body.now)) c.in-Assign.is) (c.is_name.ensures due))
+returns-in-Assign c = due_by kind.OwnValue _ _ _ _ c.noted.ensures c.is_name.ensures ∙ sym (ap own_notice (c.node.ensures.tree ∙ ap (made (all_trees c.args.body.now)) c.in-Assign.is))
 
 pub returns-in-If : goal.returns-in-If
-returns-in-If c = c.noted_at.ensures _ (some_follows _ (λ at is. if_called _ _ _ _ _ at (c.node.ensures.tree ∙ ap (made (all_trees c.args.body.now)) c.in-If.is) is) c.assignment.ensures)
+returns-in-If c = c.test_notice.ensures ∙ sym (ap own_notice (c.node.ensures.tree ∙ ap (made (all_trees c.args.body.now)) c.in-If.is))
 
 pub returns-in-While : goal.returns-in-While
-returns-in-While c =
-    c.noted_at-in-While.ensures _
-    (some_follows _ (λ at is. while_called _ _ _ _ at (c.node.ensures.tree ∙ ap (made (all_trees c.args.body.now)) c.in-While.is) is) c.assignment-in-While.ensures)
+returns-in-While c = c.test_notice-in-While.ensures ∙ sym (ap own_notice (c.node.ensures.tree ∙ ap (made (all_trees c.args.body.now)) c.in-While.is))
 
-pub returns-in-Some : goal.returns-in-Some
-returns-in-Some c =
-    c.noted-in-Some.ensures _
-    (λ due. sides_called _ _ _ _ _ _ (c.node.ensures.tree ∙ ap (made (all_trees c.args.body.now)) c.in-Compare.is) c.in-Some.ensures (c.is_name-in-Some.ensures due))
+pub returns-in-Compare : goal.returns-in-Compare
+returns-in-Compare c =
+    due_by kind.SameSides _ _ _ _ c.noted-in-Compare.ensures c.are_one_name.ensures
+    ∙ sym (ap own_notice (c.node.ensures.tree ∙ ap (made (all_trees c.args.body.now)) c.in-Compare.is))
 
 pub returns-in-Arith : goal.returns-in-Arith
 returns-in-Arith c =
-    c.noted-in-Arith.ensures _ (λ due. zero_called _ _ _ _ _ (c.node.ensures.tree ∙ ap (made (all_trees c.args.body.now)) c.in-Arith.is) (c.is_by_zero.ensures due).0 (c.is_by_zero.ensures due).1)
+    due_by kind.ByZero _ _ _ _ c.noted-in-Arith.ensures c.is_by_zero.ensures
+    ∙ sym (ap own_notice (c.node.ensures.tree ∙ ap (made (all_trees c.args.body.now)) c.in-Arith.is))
