@@ -8,6 +8,8 @@ const { kill, start, whyNot } = require("./processes.js");
 
 const TOP = path.join(fs.realpathSync(__dirname), "..", "..");
 const PICKS = path.join(TOP, "release", "program");
+// How the line begins by which that script tells, once in a checkout, that it runs a released program: no log of an editor needs it.
+const TELLS = "cool: running release/";
 
 // There is no program; the words say why.
 class Missing extends Error {}
@@ -69,7 +71,7 @@ function ofRepository(name, seconds) {
             clearTimeout(timer);
             if (isLate) return fail(new Missing(`${PICKS} did not end within ${seconds} seconds: call ./cool once`));
             const lines = Buffer.concat(notes).toString().split("\n").slice(0, -1), found = Buffer.concat(said).toString().replace(/\n+$/, "");
-            lines.forEach(log);
+            lines.filter((it) => !it.startsWith(TELLS)).forEach(log);
             if (status === 0 && found) answer(found);
             else fail(new Missing(lines.at(-1) ?? `${PICKS} ended with status ${status}`));
         });

@@ -1,10 +1,10 @@
--- What is promised over devices that did nothing before is promised from the start on.
+-- Promises over devices that did nothing before hold from the start.
 use Rattle.std.proofs.Common.{◌≡◌, ℕ, List, [], subst, sym}
 use Rattle.std.specs.Prelude.{Option, Some, None}
 use Rattle.cool_ports.specs.Answers.{Past, Leaves, nothing_yet}
 use Rattle.cool_driver.specs.{Calls.{call_of}, Ends.{Ends}, System.{RunsAsSource, shelf_since_made, sink_since_made}}
 
--- how a call ends
+-- the end of a call
 pub fresh_ends : (words : List (List ℕ)) (status : ℕ) (refused refused' : ℕ) (asked gave : List (List ℕ)) (past past' : Past) (unread unread' : ℕ)
     (held held' : Option (List ℕ)) (unwritten unwritten' : ℕ) (puts puts' : List (List ℕ))
     (noted noted' : Option (List ℕ)) (unnoted unnoted' : ℕ) (notes notes' : List (List ℕ))

@@ -1,4 +1,4 @@
-//! The program: `cool` over the words of the command line, the system's files and the standard streams.
+//! The program: `cool` over the arguments of the command line, the system's files and the standard streams.
 //!
 //! `perform` is all that it does where the words are text; its clauses are the promise over the process itself.
 #![tactic(auto)]
@@ -13,8 +13,8 @@ use std::io::{BufReader, ErrorKind};
 use std::process::ExitCode;
 use std::{env, io};
 
-/// How many bytes of standard input a session reads at once, where so many are there. Any other command reads byte by byte, since what it leaves is
-/// there for the next command of a script.
+/// The number of bytes of standard input that a session reads at once, if there are so many. All other commands read byte by byte, since the input that
+/// they leave is there for the next command of a script.
 const BYTES_AHEAD_IN_SESSION: usize = 8_192;
 
 fn main(rt: HostRuntime) -> ExitCode {

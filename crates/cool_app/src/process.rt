@@ -1,4 +1,4 @@
-//! What a process does: one call over the system's files and streams, from nothing.
+//! The action of a process: one call over the system's files and streams, which are new.
 
 ghost use Rattle.std.specs.Prelude.{◌≡◌, ℕ, List, Some, []};
 ghost use Rattle.cool_ports.specs.Answers.{Leaves, nothing_yet};
@@ -33,10 +33,10 @@ pub fn perform<R: Files, S: Read + Drop, O: Write, E: Write>(
     out: O,
     notes: E,
 ) -> Process<R, S, O, E>
-    // The system is asked for the files of the command line alone, in order, each once, up to one that is refused.
+    // The system is asked only for the files of the command line, in order, each once, up to one that is refused.
     ensures asked { AskedFront (names_asked (asked_for (words_of words.now))) [] (⟦<FileShelf<R> as Shelf>⟧.asked result.files) }
 
-    // How each command ends, by its status: what the writers took, byte for byte, is what is promised for the bytes that the files and the reader gave.
+    // The end of each command, by its status: the writers took, byte for byte, what is promised for the bytes that the files and the reader gave.
     ensures ends { (given rest : List ℕ) → Leaves nothing_yet (⟦<StdSource<S> as Source>⟧.past result.input) given rest
         → Ends (call_of (words_of words.now)
         (shelf_since_made (⟦<FileShelf<R> as Shelf>⟧.faults result.files) (⟦<FileShelf<R> as Shelf>⟧.asked result.files) (⟦<FileShelf<R> as Shelf>⟧.gave result.files))
@@ -44,7 +44,7 @@ pub fn perform<R: Files, S: Read + Drop, O: Write, E: Write>(
         (sink_since_made (⟦<StdSink<O> as Sink>⟧.held result.out) (⟦<StdSink<O> as Sink>⟧.faults result.out) (⟦<StdSink<O> as Sink>⟧.puts result.out))
         (sink_since_made (⟦<StdSink<E> as Sink>⟧.held result.notes) (⟦<StdSink<E> as Sink>⟧.faults result.notes) (⟦<StdSink<E> as Sink>⟧.puts result.notes))) result.status }
 
-    // What this says of a program that `run` runs to its end, or to a limit: the bytes that the output took are those of the rules of Cool.
+    // The consequence for a program that `run` runs to its end, or to a limit: the bytes that the output took are those of the rules of Cool.
     ensures ran { RunsAsSource (words_of words.now)
         (shelf_since_made (⟦<FileShelf<R> as Shelf>⟧.faults result.files) (⟦<FileShelf<R> as Shelf>⟧.asked result.files) (⟦<FileShelf<R> as Shelf>⟧.gave result.files))
         nothing_yet (⟦<StdSource<S> as Source>⟧.past result.input) (Some []) (⟦<StdSink<O> as Sink>⟧.held result.out) result.status }

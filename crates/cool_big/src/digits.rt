@@ -5,7 +5,7 @@ ghost use Rattle.cool_big.specs.BigPrograms.{four_digits, numbered};
 
 use std::alloc::AllocError;
 
-/// Adds words, and after them a number below 10000 in four digits. `Err` comes only for want of memory.
+/// Adds words, and after them a number below 10000 in four digits. Returns `Err` only if memory runs out.
 pub(crate) fn push_numbered(text: &mut Vec<u8>, words: &[u8], number: u32) -> Result<(), AllocError>
     requires { number < 10000 }
     ensures { OnOk result (text.new.items ≡ text.old.items ++ numbered words.now number) }
@@ -14,7 +14,7 @@ pub(crate) fn push_numbered(text: &mut Vec<u8>, words: &[u8], number: u32) -> Re
     push_four_digits(text, number)
 }
 
-/// Adds a number below 10000 in four digits. `Err` comes only for want of memory.
+/// Adds a number below 10000 in four digits. Returns `Err` only if memory runs out.
 fn push_four_digits(text: &mut Vec<u8>, number: u32) -> Result<(), AllocError>
     requires { number < 10000 }
     ensures { OnOk result (text.new.items ≡ text.old.items ++ four_digits number) }

@@ -1,6 +1,6 @@
-//! Large valid Cool programs, from a number.
+//! Large valid Cool programs, generated from a number.
 //!
-//! Comes in: a number. Goes out: the text of the program that `specs/BigPrograms.antt` names.
+//! Input: a number. Output: the text of the program that `specs/BigPrograms.antt` names.
 #![tactic(auto)]
 
 mod digits;

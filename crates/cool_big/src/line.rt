@@ -1,4 +1,4 @@
-//! The lines that stand once for each number.
+//! The lines that are written once for each number.
 
 ghost use Rattle.std.specs.Prelude.{◌≡◌, ◌≤◌, ◌++◌, OnOk};
 ghost use Rattle.cool_big.specs.declared.program.TheConstants.{MOST_BIG};
@@ -13,13 +13,13 @@ use std::alloc::AllocError;
 pub(crate) enum Line {
     /// A class that inherits from the one before it.
     Class,
-    /// The method of Main that writes what a method of the class gives.
+    /// The method of Main that writes the result of a method of the class.
     Method,
     /// The call of that method.
     Call,
 }
 
-/// Adds the lines of the numbers from 1 to n, in order. `Err` comes only for want of memory.
+/// Adds the lines of the numbers from 1 to n, in order. Returns `Err` only if memory runs out.
 pub(crate) fn push_lines(text: &mut Vec<u8>, line: Line, n: u32) -> Result<(), AllocError>
     requires { n ≤ MOST_BIG }
     ensures { OnOk result (text.new.items ≡ text.old.items ++ line_texts line n) }
@@ -30,7 +30,7 @@ pub(crate) fn push_lines(text: &mut Vec<u8>, line: Line, n: u32) -> Result<(), A
     Ok(())
 }
 
-/// Adds the line of a number. `Err` comes only for want of memory.
+/// Adds the line of a number. Returns `Err` only if memory runs out.
 fn push_line(text: &mut Vec<u8>, line: Line, number: u32) -> Result<(), AllocError>
     requires { (1 ≤ number) × (number ≤ MOST_BIG) }
     ensures { OnOk result (text.new.items ≡ text.old.items ++ line_text line number) }
@@ -42,7 +42,7 @@ fn push_line(text: &mut Vec<u8>, line: Line, number: u32) -> Result<(), AllocErr
     }
 }
 
-/// Adds the class of a number. `Err` comes only for want of memory.
+/// Adds the class of a number. Returns `Err` only if memory runs out.
 fn push_class(text: &mut Vec<u8>, number: u32) -> Result<(), AllocError>
     requires { (1 ≤ number) × (number ≤ MOST_BIG) }
     ensures { OnOk result (text.new.items ≡ text.old.items ++ class_text number) }
@@ -52,7 +52,7 @@ fn push_class(text: &mut Vec<u8>, number: u32) -> Result<(), AllocError>
     text.extend_from_slice(b" { f(x : Int) : Int { x * 2 + a }; };\n")
 }
 
-/// Adds the method of Main of a number. `Err` comes only for want of memory.
+/// Adds the method of Main of a number. Returns `Err` only if memory runs out.
 fn push_method(text: &mut Vec<u8>, number: u32) -> Result<(), AllocError>
     requires { number ≤ MOST_BIG }
     ensures { OnOk result (text.new.items ≡ text.old.items ++ method_text number) }
@@ -63,7 +63,7 @@ fn push_method(text: &mut Vec<u8>, number: u32) -> Result<(), AllocError>
     text.extend_from_slice(b")).out_string(\"\\n\") };\n")
 }
 
-/// Adds the call of that method. `Err` comes only for want of memory.
+/// Adds the call of that method. Returns `Err` only if memory runs out.
 fn push_call(text: &mut Vec<u8>, number: u32) -> Result<(), AllocError>
     requires { number ≤ MOST_BIG }
     ensures { OnOk result (text.new.items ≡ text.old.items ++ call_text number) }

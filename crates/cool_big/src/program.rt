@@ -1,4 +1,4 @@
-//! The whole program.
+//! The whole generated program.
 
 ghost use Rattle.std.specs.Prelude.{◌≡◌, ◌≤◌, ◌+◌, ◌*◌, ◌++◌, length, IfOk, OnOk};
 ghost use Rattle.cool_big.specs.BigPrograms.{big_text, body_text, main_text, root_text};
@@ -11,8 +11,7 @@ pub const MOST_BIG: u32 = 300;
 
 /// The text of a valid program of n + 2 classes and 154 + 151 n bytes.
 ///
-/// Run, it writes 2001 + 2 i and a newline for each i from 1 to n, and ends normally; no clause says this. `Err` comes
-/// only for want of memory.
+/// Run, it writes 2001 + 2 i and a newline for each i from 1 to n, and ends normally; no clause says this. Returns `Err` only if memory runs out.
 pub fn big_program(alloc: Global, n: u32) -> Result<Vec<u8>, AllocError>
     requires { (1 ≤ n) × (n ≤ MOST_BIG) }
     ensures text { IfOk result (λ bytes. bytes.items ≡ big_text n) }
@@ -25,7 +24,7 @@ pub fn big_program(alloc: Global, n: u32) -> Result<Vec<u8>, AllocError>
     Ok(text)
 }
 
-/// Adds the first class of the chain. `Err` comes only for want of memory.
+/// Adds the first class of the chain. Returns `Err` only if memory runs out.
 fn push_root(text: &mut Vec<u8>) -> Result<(), AllocError>
     ensures { OnOk result (text.new.items ≡ text.old.items ++ root_text) }
 {
@@ -34,7 +33,7 @@ fn push_root(text: &mut Vec<u8>) -> Result<(), AllocError>
     )
 }
 
-/// Adds the class Main. `Err` comes only for want of memory.
+/// Adds the class Main. Returns `Err` only if memory runs out.
 fn push_main(text: &mut Vec<u8>, n: u32) -> Result<(), AllocError>
     requires { n ≤ MOST_BIG }
     ensures { OnOk result (text.new.items ≡ text.old.items ++ main_text n) }
@@ -45,7 +44,7 @@ fn push_main(text: &mut Vec<u8>, n: u32) -> Result<(), AllocError>
     text.extend_from_slice(b"};\n")
 }
 
-/// Adds the method main. `Err` comes only for want of memory.
+/// Adds the method main. Returns `Err` only if memory runs out.
 fn push_body(text: &mut Vec<u8>, n: u32) -> Result<(), AllocError>
     requires { n ≤ MOST_BIG }
     ensures { OnOk result (text.new.items ≡ text.old.items ++ body_text n) }

@@ -1,4 +1,4 @@
--- A whole table that keeps the rules of classes is a typed table exactly where checking finds no fault in it.
+-- A whole table that keeps the rules of classes is a typed table exactly if checking finds no fault in it.
 use Rattle.std.proofs.Common.{◌≡◌, ◌↔◌, ℕ, zero, suc, ◌+◌, ◌<◌, List, [], ◌∷◌, ◌++◌, length, get_or, Some, ap, refl, subst, sym, arith}
 use Rattle.std.specs.Prelude.{Ok, Err, slice_get}
 use Rattle.cool_syntax.specs.declared.file_tree.Feature.{Feature}
@@ -16,7 +16,7 @@ use Rattle.cool_check.proofs.FeaturesDecide.{feature_decided}
 use Rattle.lists.proofs.JoinedLists.{none_both}
 use Rattle.lists.proofs.AllItems.{all_get}
 
--- what is decided and has no fault holds
+-- a claim that is decided without a fault holds
 decided_typed : (r : Checked (Unit {0})) (P : Type 0) → IsDecided r (λ u. P) → fault_of r ≡ [] → P
 decided_typed r P d h = by r d.decided h
   where
@@ -24,7 +24,7 @@ decided_typed r P d h = by r d.decided h
     by (Ok u) d h = d.0
     by (Err f) d h = absurd (cc)
 
--- what is decided and holds is checked without a fault
+-- a claim that is decided and holds is checked without a fault
 decided_ok : (r : Checked (Unit {0})) (P : Type 0) → IsDecided r (λ u. P) → P → r ≡ Ok tt
 decided_ok r P d h = by r d.decided
   where

@@ -1,4 +1,4 @@
--- An expression has a type by the declarative rules exactly where checking it finds no fault, and it is the one that checking gives.
+-- An expression has a type by the declarative rules exactly if checking it finds no fault, and it is the one that checking gives.
 use Rattle.std.proofs.Common.{◌≡◌, ◌≢◌, inl, inr, ℕ, ◌<◌, List, [], ◌∷◌, ◌++◌, length, Option, Some, None, Bool, true, false, not, ◌&&◌, ◌||◌, ap, sym, ◌∙◌, refl, subst, arith, true≢false, append-nil, append_assoc}
 use Rattle.std.specs.Option.{option_or}
 use Rattle.std.specs.Prelude.{Contains, Ok, Err, if◌then◌else◌, nat_eq, unwrap_or}
@@ -37,7 +37,7 @@ use Rattle.cool_rules.proofs.RulesOfTables.{do_conform_true, true_do_conform, jo
 use Rattle.lists.specs.Different.{AreDifferent}
 use Rattle.std.proofs.lemmas.List.Elements.{Contains-append_right}
 
--- what is given is the only one of which this holds; where there is a fault, it holds of none
+-- the value given is the only one of which this holds; if there is a fault, it holds of none
 abbrev pub Decides : {A : Type 0} → Checked A → (A → Type 0) → Type 0
 Decides {A} (Ok a) P = P a × ((b : A) → P b → b ≡ a)
 Decides {A} (Err fault) P = (b : A) → P b → ⊥
@@ -73,7 +73,7 @@ unless_decided : {B : Type 0} (test : Bool) (fault : TypeFault) (r : Checked B) 
 unless_decided true fault r X f g k = record { decided = λ b w. absurd (true≢false (g w.0)) }
 unless_decided false fault r X f g k = decided_as (λ b q. (f refl, q)) (λ b w. w.1) (k (f refl))
 
--- what is decided holds of one thing at most
+-- a decided claim holds of at most one thing
 one_by : {A : Type 0} (P : A → Type 0) (r : Checked A) → Decides r P → (a b : A) → P a → P b → a ≡ b
 one_by P (Ok x) h a b ha hb = h.1 a ha ∙ sym (h.1 b hb)
 one_by P (Err fault) h a b ha hb = absurd (h a ha)
@@ -270,7 +270,7 @@ module _ (s : Context) (whole : IsWholeTable s.table) (within : s.class.0 < leng
 
   -- Initial values
 
-  -- what an initial value has, where there is one
+  -- the type of an initial value, if there is one
   InitHas : List Binding → MaybeTree → Option Ty → Type 0
   InitHas scope Without o = o ≡ None
   InitHas scope (With e) None = ⊥

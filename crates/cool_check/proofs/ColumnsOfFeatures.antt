@@ -16,7 +16,7 @@ use Rattle.cool_check.specs.Contexts.{attribute_bindings, formal_bindings}
 use Rattle.lists.proofs.AllItems.{all_get}
 
 module _ (p : List Class) (table : IsTable p) (lawful : IsLawful p) (c : ClassId) (within : c.0 < length p) where
-  -- those of the body of a method
+  -- the column of the body of a method
   pub body_types : (k : ℕ) (m : MethodDef) → slice_get (features_of p c) k ≡ Some (Method m)
       → node_types p c (formal_bindings p m.formals ++ attribute_bindings p c) m.body ≡ node_types p c (formals_in_scope p m.formals ++ own_scope p c) m.body
   body_types k m at =
@@ -24,6 +24,6 @@ module _ (p : List Class) (table : IsTable p) (lawful : IsLawful p) (c : ClassId
       types_same p c m.body (formal_bindings p m.formals ++ attribute_bindings p c) (formals_in_scope p m.formals ++ own_scope p c)
       (entered_beside (formals_in_scope p m.formals) (own_scope p c) (formals_differ p m.formals different) (own_differ p table lawful c within))
 
-  -- those of an initial value
+  -- the column of an initial value
   pub first_types : (e : Tree) → node_types p c (attribute_bindings p c) e ≡ node_types p c (own_scope p c) e
   first_types e = types_same p c e (attribute_bindings p c) (own_scope p c) (entered_alone (own_scope p c) (own_differ p table lawful c within))

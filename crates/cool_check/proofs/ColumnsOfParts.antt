@@ -14,7 +14,7 @@ use Rattle.cool_rules.specs.Scopes.{Binding}
 use Rattle.cool_rules.specs.StaticTypes.{type_of}
 use Rattle.cool_check.specs.FirstFaults.{bind}
 
--- what follows where there is a value
+-- a consequence, if there is a value
 pub on_ok : {T E P Q : Type 0} (r : Result T E) → (P → Q) → OnOk r P → OnOk r Q
 on_ok (Ok a) f h = f h
 on_ok (Err e) f h = tt
@@ -30,7 +30,7 @@ module _ (p : List Class) (c : ClassId) where
       ∙ sym (ap (λ (t : Ty). before ++ (part_types p c scope e ++ t ∷ [])) same)
 
   module _ (attributes : List Binding) where
-    -- those of the body of a `let`, with its variable in scope, after those of the initial value
+    -- the types of the body of a `let`, with its variable in scope, after those of the initial value
     pub let_added : (locals inner : List Binding) (at : Place) (name : List ℕ) (declared : TypeRef) (o : MaybeTree) (e : Tree) (bound : Ty) (before first all : List Ty) → type_meant p declared.name ≡ bound
         → inner ≡ locals → first ≡ before ++ types_of_maybe p c (locals ++ attributes) o → all ≡ first ++ node_types p c (bind name bound inner ++ attributes) e
         → all ≡ before ++ part_types p c (locals ++ attributes) (trees.Let at name declared o e)
@@ -41,7 +41,7 @@ module _ (p : List Class) (c : ClassId) where
         ∙ ap (λ (ts : List Ty). ts ++ node_types p c (bind name (type_meant p declared.name) locals ++ attributes) e) is
         ∙ append_assoc before (types_of_maybe p c (locals ++ attributes) o) (node_types p c (bind name (type_meant p declared.name) locals ++ attributes) e)
 
-    -- those of a branch, with its variable in scope, before those of the branches that are left
+    -- the types of a branch, with its variable in scope, before those of the branches that are left
     pub branch_added : (locals inner : List Binding) (at : Place) (name : List ℕ) (declared : TypeRef) (e : Tree) (cs : Cases) (bound : Ty) (before all : List Ty) → type_meant p declared.name ≡ bound
         → inner ≡ locals → all ≡ before ++ node_types p c (bind name bound inner ++ attributes) e
         → all ++ types_of_cases p c (locals ++ attributes) cs ≡ before ++ types_of_cases p c (locals ++ attributes) (CaseOf at name declared e cs)

@@ -1,4 +1,4 @@
--- A feature is typed by the rules exactly where checking it finds no fault, where its names are different.
+-- If its names are different, a feature is typed by the rules exactly if checking it finds no fault.
 use Rattle.std.proofs.Common.{◌≡◌, ◌<◌, ℕ, List, [], ◌∷◌, ◌++◌, map, length, Option, Some, None, sym, refl, subst}
 use Rattle.std.specs.Prelude.{Ok}
 use Rattle.cool_syntax.specs.declared.file_tree.Feature.{Feature}
@@ -33,7 +33,7 @@ use Rattle.cool_check.specs.TypingFaults.{class_context, initial_checked, featur
 use Rattle.cool_check.proofs.CheckedDecides.{IsDecided, decided_as, bind_decided, ok_decided, conform_decided, checked_decides}
 
 module _ (p : List Class) (whole : IsWholeTable p) (c : ClassId) (within : c.0 < length p) where
-  -- what a name of the table means is what it denotes
+  -- the type that a name of the table means is the one that it denotes
   meant_denotes : (name : List ℕ) → IsTypeName p name → Denotes p name (type_meant p name)
   meant_denotes name (t, denotes) = subst (λ (x : Ty). Denotes p name x) (type_meant_is p name t whole.table denotes) denotes
 

@@ -11,7 +11,7 @@ use Rattle.cool_check.specs.Contexts.{Context}
 use Rattle.cool_check.specs.declared.fault.TypeKind.TheVariants.{E6}
 use Rattle.cool_check.specs.FirstFaults.{conform, misfit, unfit}
 
--- what is sought from one position on is sought from the next, where the argument there conforms
+-- a search from one position on is one from the next, if the argument there conforms
 past_one : (s : Context) (fs : List (List ℕ)) (types : List Ty) (ts : List Tree) (ids : List NodeId) (i : ℕ) (d : Ty) (e : List ℕ) → i < length fs → i < length types → i < length ids
     → conform s (get_or types i d) (type_meant s.table (get_or fs i e)) ≡ true
     → misfit s (drop (suc i) fs) (drop (suc i) types) (of_list (map (at_id ts) (drop (suc i) ids))) ≡ misfit s (drop i fs) (drop i types) (of_list (map (at_id ts) (drop i ids)))

@@ -42,13 +42,13 @@ there E16 = refl
 there E17 = refl
 there E18 = refl
 
--- what passes at all of some kinds passes at the one of a number
+-- a test that passes at all of some kinds passes at the one of a number
 passes : (test : TypeKind → Bool) (ks : List TypeKind) (i : ℕ) (k : TypeKind) → AllByRecursion (λ x. test x ≡ true) ks → slice_get ks i ≡ Some k → test k ≡ true
 passes test [] i k h e = absurd (cc)
 passes test (x ∷ ks) zero k h e = subst (λ y. test y ≡ true) (same_Some x k e) h.0
 passes test (x ∷ ks) (suc i) k h e = passes test ks i k h.1 e
 
--- what passes at all kinds passes at each
+-- a test that passes at all kinds passes at each
 at_each : (test : TypeKind → Bool) → list_all test all_kinds ≡ true → (k : TypeKind) → test k ≡ true
 at_each test h k = passes test all_kinds (rank k) k (recursion_from_All (λ x. test x ≡ true) all_kinds (AllPass-from_list_all test all_kinds h)) (there k)
 

@@ -1,4 +1,4 @@
--- What is entered and found from one position on: the part there, and what comes after it.
+-- Formals and features from one position on: the one there, and those after it.
 use Rattle.std.proofs.Common.{◌≡◌, ℕ, zero, suc, ◌+◌, ◌<◌, List, [], ◌∷◌, ◌++◌, length, map, drop, get_or, Option, Some, ap, sym, ◌∙◌, refl, subst, arith, append_assoc}
 use Rattle.std.specs.List.{AllByRecursion}
 use Rattle.cool_syntax.specs.declared.file_tree.Feature.{Feature}
@@ -31,7 +31,7 @@ formal_there (g ∷ fs) (suc i) f within is = formal_there fs i f (omega arith) 
 pub formal_declared : (o : Option Feature) (m : MethodDef) (i : ℕ) (f : Formal) → o ≡ Some (Method m) → i < length m.formals → f ≡ get_or m.formals i f → get_or (formals_in o) i [] ≡ f.declared.name
 formal_declared o m i f is within there = ap (λ (x : Option Feature). get_or (formals_in x) i []) is ∙ formal_there m.formals i f within there
 
--- what a feature gives is found before the faults of the features after it
+-- the findings of a feature come before the faults of the features after it
 pub features_later : (p : List Class) (c : ClassId) (fs gs : List Feature) (before : List TypeFault) (i : ℕ) (x : Feature) (r : Checked (Unit {0})) → gs ≡ fs → i < length gs → x ≡ get_or gs i x
     → feature_checked p c x ≡ r → (before ++ fault_of r) ++ features_faults p c (drop (i + 1) fs) ≡ before ++ features_faults p c (drop i fs)
 features_later p c fs gs before i x r same within is gives =
@@ -72,7 +72,7 @@ columns_later p c fs gs before i x column same within is gives =
     ∙ ap (λ (t : List Ty). before ++ t ∷ features_types p c (drop (i + 1) fs)) gives
     ∙ sym (ap (λ (hs : List Feature). before ++ features_types p c hs) there)
 
--- what holds of all holds of each
+-- a property of all holds of each
 holds_there : {X : Type 0} (P : X → Type 0) (xs : List X) (i : ℕ) (x : X) → AllByRecursion P xs → i < length xs → x ≡ get_or xs i x → P x
 holds_there P [] i x h within is = absurd (omega arith)
 holds_there P (y ∷ xs) zero x h within is = subst P (sym is) h.0

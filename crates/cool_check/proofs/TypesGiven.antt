@@ -1,4 +1,4 @@
--- What checking gives is what the rules say as functions: the static type of an expression, and the types that declared names mean.
+-- The results of checking are those of the rules as functions: the static type of an expression, and the types that declared names mean.
 use Rattle.std.proofs.Common.{◌≡◌, ◌<◌, ℕ, List, ◌++◌, length, Option, Some, None, Bool, true, false, ap, subst, ◌∙◌, refl}
 use Rattle.std.specs.Prelude.{Ok, Err, if◌then◌else◌, unwrap_or}
 use Rattle.cool_syntax.specs.declared.place.Place.{Place}
@@ -19,7 +19,7 @@ use Rattle.cool_check.specs.FirstFaults.{Checked, refuse, refuse_type, and_then,
 use Rattle.cool_check.specs.declared.fault.TypeKind.TheVariants.{E10, E13, E17}
 use Rattle.cool_check.proofs.CheckedDecides.{Decides, both_types, checked_decides}
 
--- what is decided and given holds
+-- a claim that is decided and given holds
 given_holds : {A : Type 0} (P : A → Type 0) (r : Checked A) (a : A) → r ≡ Ok a → Decides r P → P a
 given_holds P (Ok b) a e d = let same : b ≡ a = cc in subst P same d.0
 given_holds P (Err fault) a e d = absurd (cc)

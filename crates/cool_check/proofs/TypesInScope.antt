@@ -1,4 +1,4 @@
--- Where all names in scope have types of the table, so has what is found there.
+-- If all names in scope have types of the table, so has each name found there.
 use Rattle.std.proofs.Common.{ℕ, List, [], ◌∷◌, Bool, true, false, Option, Some, None}
 use Rattle.std.specs.Prelude.{bytes_eq, if◌then◌else◌, IfSome}
 use Rattle.std.specs.Option.{option_or}

@@ -1,4 +1,4 @@
--- How often a typer was called: a number that rises by one at each call, and that stands still at its last value.
+-- Counts of the calls of a typer: a number that rises by one at each call, and that stays at its greatest value.
 use Rattle.std.specs.Prelude.{ℕ, ◌+◌, min}
 
 -- the last value of the number

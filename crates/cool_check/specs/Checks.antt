@@ -1,5 +1,5 @@
--- What the checks of expressions are asked and answer: what the definition gives, a value or the first fault, or that memory is wanting;
--- and which types of nodes they add to those before.
+-- The arguments and results of checks of expressions: a value, the first fault or out of memory, as the definition gives it; and the types of nodes that
+-- they add to those before.
 use Rattle.std.specs.Prelude.{◌≡◌, ℕ, ◌<◌, List, ◌++◌, length, Result, Ok, IfOk, IfErr}
 use Rattle.std.specs.List.{AllByRecursion}
 use Rattle.cool_syntax.specs.declared.file_tree.Feature.{Feature}
@@ -27,7 +27,7 @@ nodes_typed s locals t = node_types s.table.now s.class (locals ++ s.attributes.
 abbrev pub parts_typed : TypingSetting → List Binding → Tree → List Ty
 parts_typed s locals t = part_types s.table.now s.class (locals ++ s.attributes.now) t
 
--- those of the nodes of several expressions, of one that may be missing, and of the branches of a case
+-- the types of the nodes of several expressions, of one that may be missing, and of the branches of a case
 abbrev pub all_typed : TypingSetting → List Binding → Trees → List Ty
 all_typed s locals ts = types_of_all s.table.now s.class (locals ++ s.attributes.now) ts
 
@@ -49,8 +49,7 @@ pub record AreArguments (s : TypingSetting) (ids : List NodeId) (types : List Ty
   pub given : AllByRecursion (IsType s.table.now) types
   pub each : length types ≡ length ids
 
--- The answer where the definition gives this: the value, which is good, or the first fault, which stands in one of the files; or want of
--- memory.
+-- The answer if the definition gives this: the value, which is good, or the first fault, which stands in one of the files; or out of memory.
 pub record IsAnswer {X : Type 0} (given : Checked X) (IsGood : X → Type 0) (IsWithin : ℕ → Type 0) (result : Result X CheckError) : Type 0 where
   pub good : IfOk result IsGood
   pub typed : IfOk result (λ x. given ≡ Ok x)

@@ -1,4 +1,4 @@
--- Where an expression is checked: in a class of a table, with the names in scope that its feature has from the first.
+-- The context in which an expression is checked: a class of a table, with the names in scope at the root of its feature.
 use Rattle.std.specs.Prelude.{List, [], map}
 use Rattle.cool_syntax.specs.declared.file_tree.Formal.{Formal}
 use Rattle.cool_classes.specs.declared.class_id.ClassId.{ClassId}

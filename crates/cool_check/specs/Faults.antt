@@ -39,7 +39,7 @@ rank E18 = 17
 abbrev pub standing_of : TypeFault → Standing
 standing_of f = record { at = f.at; rank = rank f.kind }
 
--- the fault stands in one of so many files; want of memory stands nowhere
+-- the fault stands in one of so many files; out of memory has no place
 abbrev pub IsPlacedError : ℕ → CheckError → Type 0
 IsPlacedError files error.Memory = Unit {0}
 IsPlacedError files (error.Fault f) = IsPlaced files f.at
@@ -49,7 +49,7 @@ abbrev pub StandsAt : Place → CheckError → Type 0
 StandsAt at error.Memory = ⊥
 StandsAt at (error.Fault f) = f.at ≡ at
 
--- An error is want of memory, or some faults in order.
+-- An error is out of memory, or some faults in order.
 abbrev pub IsRefusal : CheckAllError → Type 0
 IsRefusal all.Memory = Unit {0}
 IsRefusal (all.Faults faults) = (faults ≢ []) × AreInOrder standing_of faults

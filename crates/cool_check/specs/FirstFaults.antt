@@ -27,7 +27,7 @@ use Rattle.cool_check.specs.declared.fault.TypeKind.TheVariants.{E1, E2, E3, E4,
 use Rattle.cool_rules.specs.Rules.{do_conform, join_in, type_of_name, type_meant, method_of, is_among, same_type}
 use Rattle.cool_check.specs.Contexts.{Context}
 
--- what a check gives: a value, or the first fault
+-- the result of a check: a value, or the first fault
 abbrev pub Checked : Type 0 → Type 0
 Checked X = Result X TypeFault
 
@@ -45,7 +45,7 @@ unfit kind at found due = record { kind = kind; at = at; found = Some found; due
 abbrev pub refuse_type : {X : Type 0} → TypeKind → Place → Ty → Ty → Checked X
 refuse_type kind at found due = Err (unfit kind at found due)
 
--- a check, and after it what its value gives
+-- a check, and after it the one that its value gives
 abbrev pub and_then : {X Y : Type 0} → Checked X → (X → Checked Y) → Checked Y
 and_then (Ok x) f = f x
 and_then (Err e) f = Err e
@@ -59,11 +59,11 @@ bind name type o = record { name = name; value = type } ∷ o
 abbrev pub conform : Context → Ty → Ty → Bool
 conform s = do_conform s.table s.class
 
--- what comes where a type is the one that is due
+-- the continuation if a type is the one that is due
 abbrev pub expect : {X : Type 0} → Ty → Ty → TypeKind → Place → Checked X → Checked X
 expect found due kind at r = if same_type found due then r else refuse_type kind at found due
 
--- what comes where a type conforms to the one that is due
+-- the continuation if a type conforms to the one that is due
 abbrev pub fits : {X : Type 0} → Context → Ty → Ty → TypeKind → Place → Checked X → Checked X
 fits s found due kind at r = if conform s found due then r else refuse_type kind at found due
 
@@ -204,13 +204,13 @@ abbrev mutual
       and_then (branch_class s at name declared earlier) (λ c. and_then (checked s (bind name (IsClass c) o) t)
       (λ a. cases_checked s o (earlier ++ c ∷ []) (Some (joined s join a)) cs))
 
--- an error is want of memory or the first fault
+-- an error is out of memory or the first fault
 abbrev pub IsFirst : {X : Type 0} → Checked X → CheckError → Type 0
 IsFirst r error.Memory = Unit {0}
 IsFirst r (error.Fault f) = r ≡ Err f
 
--- Worked examples: `1 + true` is refused at its operator, where Bool was found and Int was due; a predicate is judged only after both branches, so `if 1 then x else 2 fi`
--- with no x in scope is refused at x; a `let` brings its variable into scope.
+-- Worked examples: `1 + true` is refused at its operator, where Bool was found and Int was due; a predicate is judged only after both branches, so `if 1
+-- then x else 2 fi` with no x in scope is refused at x; a `let` brings its variable into scope.
 sum_of_bool : (s : Context) (p q r : Place) → checked s [] (trees.Arith p Add (trees.Int q 1) (trees.Bool r true)) ≡ refuse_type E14 p bool_type int_type
 sum_of_bool s p q r = refl
 

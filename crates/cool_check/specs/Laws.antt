@@ -1,4 +1,4 @@
--- Laws on checking: what it finds is what the rules of types say, and these give an expression one type.
+-- Laws on checking: its result agrees with the rules of types, and these give an expression one type.
 use Rattle.std.specs.Prelude.{◌≡◌, ◌<◌, ◌↔◌, ℕ, List, [], length, slice_get, Some, Ok}
 use Rattle.std.specs.List.{AllByRecursion}
 use Rattle.cool_syntax.specs.declared.file_tree.Feature.{Feature}

@@ -51,7 +51,7 @@ classes_faults p k (x ∷ cs) = features_faults p (class_number k) x.features ++
 abbrev pub typing_faults : List Class → List TypeFault
 typing_faults p = classes_faults p 0 p
 
--- an error is want of memory, or the typing faults, of which there is one at least, in the order of files, bytes and kinds
+-- an error is out of memory, or the typing faults, at least one, in the order of files, bytes and kinds
 abbrev pub IsExactRefusal : List Class → CheckAllError → Type 0
 IsExactRefusal p all.Memory = Unit {0}
 IsExactRefusal p (all.Faults faults) = (faults ≢ []) × IsPermutation (typing_faults p) faults × AreInOrder standing_of faults

@@ -1,4 +1,4 @@
--- In what an expression is checked: a class of a whole table, where all names in scope have types of the table.
+-- The settings in which an expression is checked: a class of a whole table, where all names in scope have types of the table.
 use Rattle.std.specs.Prelude.{◌<◌, List, length}
 use Rattle.cool_classes.specs.declared.class_id.ClassId.{ClassId}
 use Rattle.cool_classes.specs.Chains.{Class}

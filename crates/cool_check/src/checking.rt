@@ -24,8 +24,7 @@ use cool_rules::{NodeTypes, TypedProgram};
 use cool_syntax::Listed;
 use std::alloc::{AllocError, Global};
 
-/// What checking finds in classes: the first fault of each feature that has one, and the types of the nodes of the expressions of all others,
-/// class by class.
+/// The findings in classes: the first fault of each feature that has one, and the types of the nodes of the expressions of all others, class by class.
 #[derive(Drop)]
 struct Findings {
     faults: Vec<TypeFault>,
@@ -34,8 +33,8 @@ struct Findings {
 
 /// Checks all features of a program (Cool manual, section 12).
 ///
-/// `Ok` comes exactly where each feature is well typed. `Err(Faults(..))` comes exactly where one is not: it holds the first fault of
-/// each such feature (`specs/TypingFaults.antt`), in the order of files, bytes and kinds. `Err(Memory)` comes only for want of memory.
+/// `Ok` comes exactly if each feature is well typed. `Err(Faults(..))` comes exactly if one is not: it holds the first fault of each such feature
+/// (`specs/TypingFaults.antt`), in the order of files, bytes and kinds. `Err(Memory)` comes only if memory runs out.
 pub fn check(alloc: Global, t: ClassTable) -> Result<TypedProgram, CheckAllError>
     requires fits { Fits t MOST_FILES }
     ensures program { IfOk result (λ p. p ≡ t) }
@@ -63,7 +62,7 @@ pub fn in_order(mut faults: Vec<TypeFault>) -> Vec<TypeFault>
     faults
 }
 
-/// Checks all features of all classes. `Err` comes only for want of memory.
+/// Checks all features of all classes. Returns `Err` only if memory runs out.
 fn check_classes(alloc: Global, t: &ClassTable) -> Result<Findings, AllocError>
     ensures faults { IfOk result (λ found. found.faults.items ≡ typing_faults t.now) }
     ensures types { IfOk result (λ found. found.faults.items ≡ [] → columns_of found.types.items ≡ table_types t.now) }
@@ -79,8 +78,8 @@ fn check_classes(alloc: Global, t: &ClassTable) -> Result<Findings, AllocError>
     Ok(Findings { faults, types })
 }
 
-/// Checks all features of a class, and adds the first fault of each that has one. Gives the types of the nodes of the expressions of all
-/// others. `Err` comes only for want of memory.
+/// Checks all features of a class, and adds the first fault of each that has one. Gives the types of the nodes of the expressions of all others. Returns
+/// `Err` only if memory runs out.
 fn check_class(
     alloc: Global,
     t: &ClassTable,

@@ -51,13 +51,13 @@ pub enum TypeKind {
     E18,
 }
 
-/// A fault, the place where it stands, and what did not fit there.
+/// A fault, its place, and the types found and due there.
 #[derive(Clone, Copy)]
 pub struct TypeFault {
     pub kind: TypeKind,
     pub at: Place,
-    /// The type that was found, where one did not fit: of the value (E3), argument (E6), receiver (E8), predicate (E9), operand (E14, E16),
-    /// right operand (E15), initial value (E17) or body (E18). Of a dispatch (E4, E5) the class in which its method is looked for.
+    /// The type that was found, if one did not fit: of the value (E3), argument (E6), receiver (E8), predicate (E9), operand (E14, E16), right operand
+    /// (E15), initial value (E17) or body (E18). If a dispatch is at fault (E4, E5), the class in which its method is looked for.
     pub found: Option<Ty>,
     /// The type that was due where one was found that did not fit: that of the variable (E3, E17), formal (E6) or result (E18), the class
     /// after `@` (E8), Bool (E9, E16), Int (E14), or the type of the left operand (E15).
@@ -78,7 +78,7 @@ impl TypeFault {
     }
 }
 
-/// Why a feature was not found to be well typed.
+/// The reason why a feature was not found to be well typed.
 #[derive(Clone, Copy)]
 pub enum CheckError {
     /// Want of memory.
@@ -136,7 +136,7 @@ impl<T: Drop> From<AllocFailed<T>> for CheckError {
     }
 }
 
-/// Why there is no program.
+/// The reason why there is no program.
 #[derive(Drop)]
 pub enum CheckAllError {
     /// Want of memory.

@@ -27,9 +27,8 @@ use std::alloc::{AllocError, Global};
 
 /// Checks one feature of a class, by its number among the features of the class (Cool manual, section 12).
 ///
-/// `Ok` comes exactly where the feature is well typed. `Err(Fault(..))` comes exactly where it is not: it is the first fault in the
-/// order of checking, which goes through the parts of an expression from left to right (`specs/FirstFaults.antt`). `Err(Memory)` comes
-/// only for want of memory.
+/// `Ok` comes exactly if the feature is well typed. `Err(Fault(..))` comes exactly if it is not: it is the first fault in the order of checking, which goes
+/// through the parts of an expression from left to right (`specs/FirstFaults.antt`). `Err(Memory)` comes only if memory runs out.
 pub fn check_feature(
     alloc: Global,
     t: &ClassTable,
@@ -57,7 +56,7 @@ pub fn check_feature(
     Ok(())
 }
 
-/// The attributes of a class with those that it inherits, as a scope. `Err` comes only for want of memory.
+/// The attributes of a class with those that it inherits, as a scope. Returns `Err` only if memory runs out.
 pub(crate) fn attribute_scope(
     alloc: Global,
     t: &ClassTable,
@@ -130,7 +129,7 @@ fn check_method<'a>(
     }
 }
 
-/// The formals of the method at this position, as a scope. `Err` comes only for want of memory.
+/// The formals of the method at this position, as a scope. Returns `Err` only if memory runs out.
 fn formal_scope<'a>(
     setting: &TypingSetting<'a, '_>,
     index: u32,

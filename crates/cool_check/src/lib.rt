@@ -1,7 +1,7 @@
 //! The type checker of Cool (the Cool manual, section 12).
 //!
-//! Comes in: a class table. Goes out: the program, where each feature is well typed, or the first fault of each feature that is not.
-//! `TypeKind` says when each fault comes and where it stands.
+//! Input: a class table. Output: the program if each feature is well typed, or else the first fault of each feature that is not. `TypeKind` says when each
+//! fault comes and where it stands.
 #![tactic(auto)]
 
 mod binding;

@@ -1,4 +1,4 @@
-//! Who checks features one by one, and counts how often it was asked.
+//! The trait of checkers of single features, which count how often they were called.
 
 ghost use Rattle.std.specs.Prelude.{◌≡◌, ◌<◌, ℕ, length, IfErr, OnOk, Ok, Some};
 ghost use Rattle.std.specs.List.{AllByRecursion, slice_get};
@@ -17,7 +17,7 @@ use std::alloc::Global;
 
 /// Checks features of class tables.
 pub trait Typer {
-    /// How often it was asked.
+    /// The number of its calls.
     ghost calls: { Self → ℕ };
 
     /// Checks one feature of a class, by its number among the features of the class, as `check_feature` does.

@@ -1,4 +1,4 @@
-//! What stays the same while the expression of a feature is checked, and the rules of types there.
+//! The constant context of type-checking one feature, with the typing rules in that context.
 
 ghost use Rattle.std.specs.Prelude.{◌≡◌, ◌<◌, [], length, get_or, IfSome};
 ghost use Rattle.cool_classes.specs.Features.{HasAttribute, HasMethod, attribute_type, formals_of, result_of};

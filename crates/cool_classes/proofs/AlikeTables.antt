@@ -1,4 +1,4 @@
--- Tables that differ in bodies, initial values and places alone: what is looked up in the one is what is found in the other.
+-- If two tables differ only in bodies, initial values and places, look-ups in one find the same as look-ups in the other.
 use Rattle.std.proofs.Common.{◌≡◌, ℕ, zero, suc, ◌+◌, List, [], ◌∷◌, length, take, Option, Some, refl, sym, ap, arith}
 use Rattle.std.specs.Prelude.{slice_get, bytes_eq, nat_lt, option_map, if◌then◌else◌}
 use Rattle.std.specs.List.{AllByRecursion}
@@ -12,7 +12,7 @@ use Rattle.cool_classes.specs.Declarations.{DeclareSame, AllDeclareSame, AreAlik
 use Rattle.cool_classes.specs.Chains.{Class, class_at, name_of, parent_of, features_of}
 use Rattle.cool_classes.specs.Features.{method_among, basic_methods, user_method, first_method, is_method_named, own_method, own_attributes, name_in, attribute_name, formals_in, formals_of, result_in, result_of}
 
--- what look-ups find in two tables is the same
+-- look-ups in two tables find the same
 pub record FindSame (p p' : List Class) : Type 0 where
   pub count : length p' ≡ length p
   pub names : (c : ClassId) → name_of p' c ≡ name_of p c
@@ -59,7 +59,7 @@ own_alike c k (Attribute a ∷ xs) (Method m ∷ xs') (h, hs) = absurd h
 own_alike c k (Attribute a ∷ xs) (Attribute a' ∷ xs') (h, hs) =
     ap (λ (rs : List AttributeRef). record { owner = c; index = k } ∷ rs) (own_alike c (k + 1) xs xs' hs)
 
--- what a feature at an index declares
+-- the declaration of a feature at an index
 record GotAlike (o o' : Option Feature) : Type 0 where
   pub name : name_in o' ≡ name_in o
   pub formals : formals_in o' ≡ formals_in o

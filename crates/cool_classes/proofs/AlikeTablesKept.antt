@@ -1,4 +1,4 @@
--- Of tables that differ in bodies, initial values and places alone, the one is whole and keeps the rules of classes where the other is and does.
+-- If two tables differ only in bodies, initial values and places, and one is whole and keeps the rules of classes, so does the other.
 use Rattle.std.proofs.Common.{◌≡◌, ℕ, suc, ◌<◌, List, [], ◌∷◌, ◌++◌, map, length, take, Option, Some, None, refl, sym, ap, ◌∙◌, subst}
 use Rattle.std.specs.Prelude.{codes}
 use Rattle.std.specs.List.{AllByRecursion}

@@ -16,16 +16,16 @@ all_with P (y ∷ ys) x all p = (all.0, all_with P ys x all.1 p)
 pub class_within : (n : ℕ) (ds : List ClassDef) (k : ℕ) (d : ClassDef) → k < length ds → d ≡ get_or ds k d → AreClassesWithin n ds → IsClassWithin n d
 class_within n ds k d within is all = subst (IsClassWithin n) (sym is) (all_at (IsClassWithin n) ds k d all within)
 
--- what holds of each holds of all
+-- a property of each holds of all
 all_of : {X : Type 0} (P : X → Type 0) (xs : List X) → All P xs → AllByRecursion P xs
 all_of P [] all = tt
 all_of P (x ∷ xs) all = (all zero x (omega arith), all_of P xs (λ k d less. all (suc k) d (omega arith)))
 
--- what holds of all holds of them in another order
+-- a property of all holds of them in another order
 pub all_permuted : {X : Type 0} (P : X → Type 0) (xs ys : List X) → IsPermutation xs ys → AllByRecursion P xs → AllByRecursion P ys
 all_permuted P xs ys moved all = all_of P ys (All-permutation P xs ys moved (λ k d less. all_at P xs k d all less))
 
--- what holds of the images of all holds of all images
+-- a property of the images of all holds of all images
 pub all_map : {X Y : Type 0} (P : Y → Type 0) (f : X → Y) (xs : List X) → AllByRecursion (λ (x : X). P (f x)) xs → AllByRecursion P (map f xs)
 all_map P f [] h = tt
 all_map P f (x ∷ xs) h = (h.0, all_map P f xs h.1)

@@ -21,7 +21,7 @@ pub one_more : (p : List Class) (ids : List ClassId) (k : ℕ) (d : ClassId) (al
 one_more p ids k d all above within is =
     ap (λ (xs : List AttributeRef). xs ++ own_attributes (get_or ids (k - 1) d) 0 (features_of p (get_or ids (k - 1) d))) is ∙ ap (attributes_of p) (sym (before ids k d above within))
 
--- what stands after a front stands at the front's length
+-- the item after a front stands at the front's length
 after : (front fs : List Feature) (x : Feature) → slice_get (front ++ x ∷ fs) (length front) ≡ Some x
 after [] fs x = refl
 after (y ∷ front) fs x = after front fs x

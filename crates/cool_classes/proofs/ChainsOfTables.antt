@@ -1,4 +1,4 @@
--- The chains that a climb gives: of each class of a whole table its own, since no chain has a class twice.
+-- The chains that a climb returns: for each class of a whole table its own, since no chain has a class twice.
 use Rattle.std.proofs.Common.{◌≡◌, ◌≢◌, ℕ, zero, suc, ◌<◌, ◌≤◌, min, ◌⊎◌, inl, inr, List, [], ◌∷◌, length, map, Option, Some, None, Bool, true, false, cond, ap, sym, ◌∙◌, refl, subst, arith}
 use Rattle.std.specs.Prelude.{nat_eq, ltb, if◌then◌else◌}
 use Rattle.std.specs.List.{AllByRecursion}
@@ -141,7 +141,7 @@ different p c (d ∷ ds) k =
     different_by p d (parent_of p d) refl ds (subst (λ (x : ClassId). IsChain p (parent_of p x) ds) (sym k.0) k.1)
     (subst (λ (x : ClassId). IsChain p (Some x) (d ∷ ds)) (sym k.0) k) (λ q h. different p q ds h)
 
--- so a chain is no longer than the table, but for a class that is none of it
+-- so a chain is no longer than the table, except that of a class outside the table
 chain_few : (p : List Class) (c : ClassId) (ds : List ClassId) → IsChain p (Some c) ds → length ds ≤ suc (length p)
 chain_few p c ds k =
     let few = few_numbers (suc (length p)) (capped (length p) ds) (capped_low (length p) ds) (different p c ds k) in

@@ -26,7 +26,7 @@ found_at k (x ∷ p) f j h = by (bytes_eq f x.name) refl h (found_at (k + 1) p f
     by true e h more = let here : k ≡ j = cc in (0, omega arith, omega arith, sym ((bytes_eq-Decides f x.name).0 e))
     by false e h more = let w = more h in let s = w.1 in let less = w.2 in (suc w.0, omega arith, omega arith, w.3)
 
--- where a name has no first index, no class has it
+-- if a name has no first index, no class has it
 missing_at : (k : ℕ) (p : List Class) (f : List ℕ) → first_index k (name_row p) f ≡ None → (i : ℕ) → i < length p → (get_or p i nothing).name ≢ f
 missing_at k [] f h i less = absurd (omega arith)
 missing_at k (x ∷ p) f h i less = by (bytes_eq f x.name) refl h (missing_at (k + 1) p f) i less

@@ -1,4 +1,4 @@
--- Chains of parents, and what a climb along one keeps.
+-- Chains of parents, and the invariants of a climb along one.
 use Rattle.std.proofs.Common.{◌≡◌, ◌≢◌, ℕ, zero, suc, ◌+◌, ◌<◌, ◌≤◌, ◌⊎◌, List, [], ◌∷◌, ◌++◌, length, get_or, Option, Some, None, ap, sym, ◌∙◌, refl, subst, arith, inl, inr, append_assoc}
 use Rattle.std.specs.Prelude.{Contains, IfSome}
 use Rattle.cool_classes.specs.declared.class_id.ClassId.{ClassId}
@@ -6,7 +6,7 @@ use Rattle.cool_classes.specs.Chains.{Class, class_number, parent_of, IsChain, B
 use Rattle.cool_classes.specs.Tables.{IsGrounded}
 use Rattle.lists.proofs.Membership.{contains_cases}
 
--- what is among a list's items is its first one or among the others
+-- an item of a list is its first one or among the others
 contains_cons : (d b : ClassId) (ds : List ClassId) → Contains ds b → Contains (d ∷ ds) b
 contains_cons d b ds (k, within, is) = (suc k, omega arith, is)
 
@@ -81,17 +81,17 @@ below_self p depth g c within = let w = chain_there p depth g c within in (w.0, 
 pub below_end : (p : List Class) (depth : ClassId → ℕ) → IsGrounded p depth → (c b : ClassId) → c ≡ b → c.0 < length p → Below p c b
 below_end p depth g c b same within = subst (λ (x : ClassId). Below p c x) same (below_self p depth g c within)
 
--- what the parent is below, the class is below
+-- the class is below all that the parent is below
 pub below_up : (p : List Class) (a q b : ClassId) → parent_of p a ≡ Some q → Below p q b → Below p a b
 below_up p a q b e (ds, chain, there) = (a ∷ ds, chain_up p a q ds e chain, contains_cons a b ds there)
 
--- what the class is below and is not itself, the parent is below
+-- the parent is below all that the class is below, except itself
 pub below_rest : (p : List Class) (a q b : ClassId) → a ≢ b → parent_of p a ≡ Some q → Below p a b → Below p q b
 below_rest p a q b other e ([], chain, there) = absurd chain
 below_rest p a q b other e (d ∷ ds, chain, there) =
     (ds, subst (λ (o : Option ClassId). IsChain p o ds) e chain.1, elim (contains_cases d b ds there) [ inl s ↦ absurd (other (sym chain.0 ∙ s)) | inr t ↦ t ])
 
--- a class with no parent is below itself alone
+-- a class with no parent is below itself only
 alone : (p : List Class) (d b : ClassId) (ds : List ClassId) → IsChain p None ds → Contains (d ∷ ds) b → d ≡ b
 alone p d b [] h there = elim (contains_cases d b [] there) [ inl s ↦ s | inr t ↦ nothing_in b t ]
 alone p d b (e ∷ es) h there = absurd h
@@ -100,7 +100,7 @@ pub below_top : (p : List Class) (a b : ClassId) → parent_of p a ≡ None → 
 below_top p a b e ([], chain, there) = absurd chain
 below_top p a b e (d ∷ ds, chain, there) = sym chain.0 ∙ alone p d b ds (subst (λ (o : Option ClassId). IsChain p o ds) e chain.1) there
 
--- what stands on the chain of a class, and is not the class, stands higher
+-- a class on the chain of another one stands higher
 higher_by : (p : List Class) (depth : ClassId → ℕ) → IsGrounded p depth → (a b : ClassId) → a.0 < length p → (o : Option ClassId) → parent_of p a ≡ o
     → (ds : List ClassId) → IsChain p o ds → Contains ds b → ((q : ClassId) → q.0 < length p → IsChain p (Some q) ds → (q ≡ b) ⊎ (depth b < depth q)) → depth b < depth a
 higher_by p depth g a b within None e [] h there more = nothing_in b there

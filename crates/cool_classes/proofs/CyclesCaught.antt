@@ -1,4 +1,4 @@
--- Cycles of parents, and what walks catch of them.
+-- Cycles of parents, and the cycles that walks find.
 use Rattle.std.proofs.Common.{◌≡◌, ◌≢◌, ◌⊎◌, inl, inr, ℕ, zero, suc, ◌+◌, ◌-◌, ◌<◌, ◌≤◌, List, [], ◌∷◌, ◌++◌, length, get_or, Option, Some, None, Contains, Bool, true, false, sym, ap, ◌∙◌, refl, subst, cond, arith}
 use Rattle.std.specs.Prelude.{is_some, IsSome, nat_eq, nat_lt, replicate}
 use Rattle.std.specs.List.{AllByRecursion}
@@ -37,7 +37,7 @@ on_ahead : (all : List (Option ClassId)) (a n b c : ℕ) → StepsTo all a n b �
 on_ahead all a zero b c e ahead = subst (λ (x : ℕ). LiesAhead all x c) (sym e) ahead
 on_ahead all a (suc n) b c (q, is, rest) ahead = (q, is, steps_on all q.0 n b c rest (ahead_reaches all b c ahead))
 
--- what a class that lies ahead of itself reaches lies ahead of itself too, and reaches it
+-- a class reached from one that lies ahead of itself lies ahead of itself too, and reaches it
 orbit : (all : List (Option ClassId)) (x m y : ℕ) → StepsTo all x m y → LiesAhead all x x → LiesAhead all y y × Reaches all y x
 orbit all x zero y e ahead = (subst (λ (z : ℕ). LiesAhead all z z) e ahead, (0, sym e))
 orbit all x (suc m) y (q, is, rest) (p, also, back) =
@@ -82,7 +82,7 @@ basic_stays parents (suc (suc (suc (suc (suc c))))) (suc n) x low h = absurd (om
 abbrev IsClosed : List ClassId → List ℕ → Type 0
 IsClosed parents xs = (k j : ℕ) (q : ClassId) → Contains xs k → get_or (parents_with_basic parents) (k + 5) None ≡ Some q → q.0 ≡ j + 5 → Contains xs j
 
--- what they reach is one of them
+-- each definition that they reach is one of them
 closed_on : (parents : List ClassId) (xs : List ℕ) → IsClosed parents xs → (n k x : ℕ) → Contains xs k → StepsTo (parents_with_basic parents) (k + 5) n (x + 5) → Contains xs x
 closed_on parents xs closed zero k x there e = subst (λ (j : ℕ). Contains xs j) (let same : k ≡ x = omega arith in same) there
 closed_on parents xs closed (suc n) k x there (q, is, rest) =
@@ -97,7 +97,7 @@ closed_on parents xs closed (suc n) k x there (q, is, rest) =
 pub nothing_in : {X : Type 0} (k : ℕ) → Contains {X = ℕ} [] k → X
 nothing_in k (i, less, e) = absurd (omega arith)
 
--- what holds of each holds of all, and the other way round
+-- a property of each holds of all, and the other way round
 pub all_from : (P : ℕ → Type 0) (xs : List ℕ) → ((k : ℕ) → Contains xs k → P k) → AllByRecursion P xs
 all_from P [] h = tt
 all_from P (x ∷ xs) h = (h x (contains_first x x xs refl), all_from P xs (λ k there. h k (contains_rest x k xs there)))
@@ -219,7 +219,7 @@ lies_ahead parents k (n, (q, is, rest)) = (q, is, (n, rest))
 on_cycle : (parents : List ClassId) (k : ℕ) → LiesAhead (parents_with_basic parents) (k + 5) (k + 5) → IsOnCycle parents k
 on_cycle parents k (q, is, (n, rest)) = (n, (q, is, rest))
 
--- what is met so far
+-- the definitions met so far
 met_by : (known more passed after : List (Option ℕ)) (start k : ℕ) → k < start + 1 → ((j : ℕ) → j < start → IsSome (get_or known j None) ⊎ IsSome (get_or passed j None))
     → (IsSome (get_or known start None) ⊎ IsSome (get_or after start None)) → ((j : ℕ) → IsSome (get_or known j None) → IsSome (get_or more j None))
     → ((j : ℕ) → IsSome (get_or passed j None) → IsSome (get_or after j None)) → IsSome (get_or more k None) ⊎ IsSome (get_or after k None)

@@ -1,4 +1,4 @@
--- Entries of definitions, one after another.
+-- The entries of definitions, one after another.
 use Rattle.std.proofs.Common.{◌≡◌, ◌≢◌, ℕ, suc, ◌+◌, ◌<◌, List, [], ◌∷◌, ◌++◌, length, drop, get_or, Option, Some, None, sym, ap, ◌∙◌, append_assoc, arith, drop-cons}
 use Rattle.std.proofs.lemmas.List.{get_or-map}
 use Rattle.cool_syntax.specs.declared.file_tree.ClassDef.{ClassDef}

@@ -27,7 +27,7 @@ pub refused_table : (ds : List ClassDef) (e : TableError) → HasClassFaults ds 
 refused_table ds error.Memory h = tt
 refused_table ds (error.Faults faults) h = (h.0, h.1, inl h.2)
 
--- where classes have none, the faults of features are refused
+-- if classes have none, the faults of features are refused
 pub refused_features : (ds : List ClassDef) (fs : List ClassFault) (e : TableError) → HasClassPhase ds [] → fs ≡ feature_phase ds → HasExactly fs e → HasTableFaults ds e
 refused_features ds fs error.Memory none is h = tt
 refused_features ds fs (error.Faults faults) none is h = (h.0, h.2, inr (none, subst (λ (xs : List ClassFault). IsPermutation xs faults) is h.1))

@@ -40,7 +40,7 @@ adds_one W (Some kind) at fs low placed = record {
   places = λ n w all. all_with (λ (f : ClassFault). IsPlaced n f.at) fs (record { kind = kind; at = at }) all (placed n w);
 }
 
--- where no fault is there, none was added
+-- if no fault is there, none was added
 pub no_fault : (kind : Option ClassKind) (at : Place) (fs : List ClassFault) → with_fault kind at fs ≡ [] → kind ≡ None
 no_fault None at fs e = refl
 no_fault (Some kind) at fs e = absurd (some_fault fs (record { kind = kind; at = at }) e)

@@ -13,7 +13,7 @@ use Rattle.cool_classes.specs.declared.fault.ClassKind.{ClassKind}
 use Rattle.cool_classes.specs.declared.fault.ClassKind.TheVariants.{C1, C2, C3, C4, C5, C6, C7, F1, F2, F3, F4, F5, F6, F7, F8, F9}
 use Rattle.cool_classes.specs.FaultLists.{rank, standing_of}
 
--- what faults are sorted by
+-- the key by which faults are sorted
 abbrev pub key_of : ClassFault → ℕ × ℕ × ClassKind × ℕ
 key_of f = (f.at.file, f.at.byte, f.kind, f.at.line)
 
@@ -43,7 +43,7 @@ kinds_by_rank F7 b = elim b as (AreRanked F7) [ C1 ↦ refl | _ ↦ refl ]
 kinds_by_rank F8 b = elim b as (AreRanked F8) [ C1 ↦ refl | _ ↦ refl ]
 kinds_by_rank F9 b = elim b as (AreRanked F9) [ C1 ↦ refl | _ ↦ refl ]
 
--- what two kinds say of their ranks
+-- the order of two kinds, by their ranks
 kinds_ranked : (a b : ClassKind) → MatchOrdering (cmp-value.it a b) (rank a < rank b) (rank a ≡ rank b) (rank b < rank a)
 kinds_ranked a b = ranked (rank a) (rank b) (cmp-value.it a b) (kinds_by_rank a b)
 
@@ -62,7 +62,7 @@ later_by f g Equal Equal Equal Less file byte kind line h = absurd (true≢false
 later_by f g Equal Equal Equal Equal file byte kind line h = inr (sym file, inr (sym byte, inr (sym kind, omega arith)))
 later_by f g Equal Equal Equal Greater file byte kind line h = inr (sym file, inr (sym byte, inr (sym kind, omega arith)))
 
--- where the second is not before the first, the first is no later
+-- if the second is not before the first, the first is no later
 no_later : (f g : ClassFault) → is_lt (key_cmp (key_of g) (key_of f)) ≡ false → IsNoLater (standing_of f) (standing_of g)
 no_later f g h =
     later_by f g (nat_cmp g.at.file f.at.file) (nat_cmp g.at.byte f.at.byte) (cmp-value.it g.kind f.kind) (nat_cmp g.at.line f.at.line) (ranks g.at.file f.at.file) (ranks g.at.byte f.at.byte)

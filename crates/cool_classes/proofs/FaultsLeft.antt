@@ -21,7 +21,7 @@ drop_first [] i d within = absurd (omega arith)
 drop_first (y ∷ xs) zero d within = refl
 drop_first (y ∷ xs) (suc i) d within = drop_first xs i d (omega arith)
 
--- what comes first of what is left is found next
+-- the first item of those left is found next
 pub next_found : {X : Type 0} (before more rest left now : List X) → left ≡ more ++ rest → now ≡ before ++ more → now ++ rest ≡ before ++ left
 next_found before more rest left now first is =
     ap (λ xs. xs ++ rest) is ∙ append_assoc before more rest ∙ sym (ap (λ xs. before ++ xs) first)
@@ -60,7 +60,7 @@ parents_next names ds k d before now within here is =
     next_found before (parent_faults names d.parent) (parents_faults names (drop (k + 1) ds)) (parents_faults names (drop k ds)) now
     (ap (parents_faults names) (drop_more ds k d within ∙ ap (λ (x : ClassDef). x ∷ drop (k + 1) ds) (sym here))) is
 
--- where a definition stands
+-- the place of a definition
 pub place_there : (ds : List ClassDef) (k : ℕ) (d : ClassDef) → k < length ds → (get_or ds k d).at ≡ place_at ds k
 place_there ds k d within = sym (get_or-map (λ (x : ClassDef). x.at) ds k d (record { file = 0; line = 0; byte = 0 }) within)
 

@@ -36,7 +36,7 @@ use Rattle.lists.proofs.Options.{some_value}
 abbrev pub fault : ClassKind → Place → ClassFault
 fault kind at = record { kind = kind; at = at }
 
--- what is noted
+-- the noted fault
 noted_only : (P : ClassFault → Type 0) (b : Bool) (kind : ClassKind) (at : Place) → (b ≡ true → P (fault kind at)) → AllByRecursion P (noted b kind at)
 noted_only P true kind at make = (make refl, tt)
 noted_only P false kind at make = tt
@@ -156,7 +156,7 @@ formal_only p P before f three four five six =
     (all_append P c d (noted_only P (bytes_eq f.declared.name self_type) F5 f.declared.at (λ e. five ((bytes_eq-Decides f.declared.name self_type).0 e)))
     (noted_only P (not (bytes_eq f.declared.name self_type || is_class p f.declared.name)) F6 f.declared.at (λ e. six (no_type p f.declared.name e)))))
 
--- what a property of each formal's faults makes of all
+-- a property of each formal's faults holds of all
 formals_only : (p : List Class) (P : ClassFault → Type 0) (m : MethodDef) (done fs : List Formal) → done ++ fs ≡ m.formals
     → ((j : ℕ) (f : Formal) → IsFormalAt m j f → f.name ≡ codes "self" → P (fault F3 f.at))
     → ((j k : ℕ) (f g : Formal) → IsFormalAt m j f → k < j → IsFormalAt m k g → g.name ≡ f.name → P (fault F4 f.at))

@@ -1,4 +1,4 @@
--- The faults of the features of the classes so far, and what a table has where there are none.
+-- The faults of the features of the classes so far, and the properties of a table that has none.
 use Rattle.std.proofs.Common.{◌≡◌, ℕ, zero, suc, ◌+◌, ◌-◌, ◌<◌, ◌≤◌, List, [], ◌∷◌, ◌++◌, length, get_or, Some, Bool, true, false, ◌||◌, sym, ◌∙◌, refl, subst, arith, true≢false}
 use Rattle.std.specs.Prelude.{nat_lt}
 use Rattle.std.specs.List.{AllByRecursion}
@@ -110,7 +110,7 @@ all_good es count resolved number each =
       };
     }
 
--- what holds of all holds of one
+-- a property of all holds of one
 pub all_at : {X : Type 0} (P : X → Type 0) (xs : List X) (k : ℕ) (d : X) → k < length xs → AllByRecursion P xs → P (get_or xs k d)
 all_at P [] k d less h = absurd (omega arith)
 all_at P (x ∷ xs) zero d less h = h.0

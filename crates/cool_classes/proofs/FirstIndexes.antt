@@ -1,4 +1,4 @@
--- Where names stand first, and what stands at positions of lists.
+-- The first indexes of names, and the items at positions of lists.
 use Rattle.std.proofs.Common.{◌≡◌, ℕ, zero, suc, ◌+◌, ◌<◌, ◌≤◌, List, [], ◌∷◌, ◌++◌, length, map, take, Option, Some, None, Bool, true, false, sym, ap, ◌∙◌, refl, arith, true≢false}
 use Rattle.std.specs.Prelude.{slice_get, bytes_eq, if◌then◌else◌}
 use Rattle.std.proofs.lemmas.Option.{none-some, same_Some}
@@ -39,7 +39,7 @@ first_found {X} has at k (z ∷ xs) (suc i) x e holds = by (has z) refl (first_f
     by true t w = (zero, z, ap (λ (n : ℕ). Some (at n)) (let n : k ≡ k + 0 = omega arith in n), omega arith, refl, t)
     by false t w = (suc w.0, w.1, w.2 ∙ ap (λ (n : ℕ). Some (at n)) (let n : k + 1 + w.0 ≡ k + suc w.0 = omega arith in n), (let l = w.3 in omega arith), w.4, w.5)
 
--- for the first item the test holds
+-- the test holds for the first item found
 pub first_holds : {X Y : Type 0} (has : X → Bool) (at : ℕ → Y) (k : ℕ) (xs : List X) (y : Y) → first_with has at k xs ≡ Some y
     → (j : ℕ) × (z : X) × (y ≡ at (k + j)) × (slice_get xs j ≡ Some z) × (has z ≡ true)
 first_holds {X} has at k [] y e = absurd (none-some y e)

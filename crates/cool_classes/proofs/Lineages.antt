@@ -1,4 +1,4 @@
--- Classes above one are classes of the table, and what is counted for them sums up to what they have.
+-- Classes above one are classes of the table; the counts of a chain's classes add up to its numbers of attributes and of names of methods.
 use Rattle.std.proofs.Common.{◌≡◌, ℕ, ◌<◌, List, [], ◌∷◌, length, Option, Some, None, sym, refl, subst, arith}
 use Rattle.std.specs.Prelude.{IfSome}
 use Rattle.std.proofs.lemmas.List.{length-append}

@@ -60,7 +60,7 @@ same_without m (n ∷ ns) h = by (bytes_eq n m) refl (same_without m ns h.1)
     by true e r = absurd (h.0 ((bytes_eq-Decides n m).0 e))
     by false e r = ap (λ (xs : List (List ℕ)). n ∷ xs) r
 
--- of different names one at most is the same as another
+-- at most one of different names is the same as another
 length_without : (m : List ℕ) (ns : List (List ℕ)) → AreDifferent ns → length ns ≤ length (without m ns) + 1
 length_without m [] h = omega arith
 length_without m (n ∷ ns) h = by (bytes_eq n m) refl (length_without m ns h.1)

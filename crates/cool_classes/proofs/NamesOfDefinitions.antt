@@ -54,7 +54,7 @@ pub all_names : (ds : List ClassDef) (k : ℕ) → length ds ≡ k → basic_nam
 all_names ds k e =
     ap (λ (n : ℕ). basic_names ++ take n (names_in ds)) (sym (names_long ds ∙ e)) ∙ ap (λ (xs : List (List ℕ)). basic_names ++ xs) (take-length (names_in ds))
 
--- where the answer is that no class has a name, none is found
+-- if the answer is that no class has a name, none is found
 none_named : (o : Option ClassId) (known : Bool) → known ≡ is_some o → known ≡ false → o ≡ None
 none_named None known is no_class = refl
 none_named (Some c) known is no_class = absurd (true≢false (sym is ∙ no_class))

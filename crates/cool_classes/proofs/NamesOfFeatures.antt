@@ -1,4 +1,4 @@
--- Where the features of a class have no fault, its formals and its attributes have different names.
+-- If the features of a class have no fault, its formals and its attributes have different names.
 use Rattle.std.proofs.Common.{◌≡◌, ◌≢◌, ℕ, suc, ◌+◌, ◌<◌, List, [], ◌∷◌, ◌++◌, map, length, Option, Some, None, Bool, true, false, not, ◌||◌, cond, ap, sym, ◌∙◌, refl, subst, arith}
 use Rattle.std.specs.Prelude.{bytes_eq, slice_get, is_some}
 use Rattle.std.specs.List.{AllByRecursion}
@@ -205,7 +205,7 @@ module _ (p : List Class) where
   abbrev IsFaultless : ClassId → Type 0
   IsFaultless d = (up : List ClassId) → IsChain p (parent_of p d) up → features_faults p d up 0 (features_of p d) ≡ []
 
-  -- where the features of no class have a fault, its attributes have different names, those that it inherits among them
+  -- if the features of no class have a fault, its attributes have different names, those that it inherits among them
   pub attributes_named : IsWholeTable p → ((d : ClassId) → d.0 < length p → IsFaultless d) → (c : ClassId) → c.0 < length p → (ds : List ClassId) → IsChain p (Some c) ds → AreDifferent (names (attributes_of p ds))
   attributes_named whole free c within [] h = absurd h
   attributes_named whole free c within (d ∷ ds) h =
@@ -271,7 +271,7 @@ module _ (p : List Class) where
       (index_is k (first_method 0 (features_of p d) m.name) (not-false (is_index k (first_method 0 (features_of p d) m.name)) twice), first_methods d up (k + 1) fs both.1)
   first_methods d up k (Attribute a ∷ fs) h = first_methods d up (k + 1) fs (none_both (one_feature_faults p d up k (Attribute a)) (features_faults p d up (k + 1) fs) h).1
 
-  -- where the features of no class have a fault, the methods of each have different names
+  -- if the features of no class have a fault, the methods of each have different names
   pub methods_named : IsWholeTable p → ((d : ClassId) → d.0 < length p → IsFaultless d) → (c : ClassId) → c.0 < length p → AreDifferent (method_names (features_of p c))
   methods_named whole free c within =
       let (ds, chain) = whole.table.chains c within in

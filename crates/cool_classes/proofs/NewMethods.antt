@@ -1,4 +1,4 @@
--- The names that a class adds to those of the classes above it, and how many there are.
+-- The names that a class adds to those of the classes above it, and their number.
 use Rattle.std.proofs.Common.{◌≡◌, ℕ, ◌+◌, ◌<◌, ◌≤◌, List, [], ◌∷◌, ◌++◌, length, get_or, Bool, true, false, not, ◌&&◌, cond, is_none, ap, sym, ◌∙◌, refl, arith}
 use Rattle.std.proofs.lemmas.List.{length-append, get_or_append_left, get_or_push}
 use Rattle.cool_syntax.specs.declared.file_tree.Feature.{Feature}
@@ -29,7 +29,7 @@ new_counts p above own k x m a b is here there =
     by true = refl
     by false = refl
 
--- what one more class adds
+-- the numbers that one more class adds
 pub counted_next : (k : ℕ) (p : List Class) (gs ms : List ℕ) (a m : ℕ) → AreCounted k p gs ms
     → a ≡ length (own_attributes (class_number k) 0 (features_of p (class_number k)))
     → ((ds : List ClassId) → IsChain p (parent_of p (class_number k)) ds → m ≡ length (new_methods p ds (class_number k)))

@@ -1,4 +1,4 @@
--- The names of features and of classes, when one more is noted, and what they find.
+-- Look-ups among the names of features and of classes when one more is noted.
 use Rattle.std.proofs.Common.{◌≡◌, ℕ, ◌+◌, ◌<◌, ◌≤◌, List, [], ◌∷◌, ◌++◌, map, length, get_or, drop, Option, Some, None, is_some, ◌||◌, Bool, true, false, cond, ap, sym, ◌∙◌, refl, subst, arith}
 use Rattle.std.specs.Prelude.{bytes_eq, nat_lt, option_map}
 use Rattle.std.specs.Global.{Vec}
@@ -97,6 +97,6 @@ pub attribute_later : (p : List Class) (ds : List ClassId) (k : ℕ) (d : ClassI
 attribute_later p ds k d f within h =
     sym (at_drop_more (λ (xs : List ClassId). have_attribute p xs f) ds k d within ∙ ap (λ (b : Bool). b || have_attribute p (drop (k + 1) ds) f) h)
 
--- what holds of a rest of a list holds of its first item and of the rest after it
+-- a property of a rest of a list holds of its first item and of the rest after it
 pub all_first : {X : Type 0} (P : X → Type 0) (xs : List X) (k : ℕ) (d : X) → k < length xs → AllByRecursion P (drop k xs) → P (get_or xs k d) × AllByRecursion P (drop (k + 1) xs)
 all_first P xs k d within h = subst (AllByRecursion P) (drop_more xs k d within) h

@@ -62,7 +62,7 @@ none_before : (b a : Option ℕ) → (IsSome b → IsSome a) → a ≡ None → 
 none_before None a keeps none = refl
 none_before (Some w) a keeps none = some_or_none a (keeps refl) none
 
--- what is passed stays passed
+-- a passed definition stays passed
 all_marked : (passed : List (Option ℕ)) (class start : ℕ) → class < length passed → (path : List ℕ) → AllByRecursion (λ (k : ℕ). IsSome (get_or passed k None)) path
     → AllByRecursion (λ (k : ℕ). IsSome (get_or (set passed class (Some start)) k None)) path
 all_marked passed class start within [] all = tt
@@ -84,7 +84,7 @@ fresh_one before passed path class start within none f = record {
   kept = λ k some. known_set passed class start k within (f.kept k some);
 }
 
--- what stands after a definition is passed
+-- the state after a definition is passed
 pub record Passing (parents : List ClassId) (before : List (Option ℕ)) (start : ℕ) (passed : List (Option ℕ)) (path : List ℕ) : Type 0 where
   pub same_passed : length passed ≡ length parents
   pub within : AllByRecursion (λ (k : ℕ). k < length parents) path

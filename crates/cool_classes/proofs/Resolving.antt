@@ -36,7 +36,7 @@ use Rattle.cool_classes.proofs.LawfulByFaults.{names_of_meant}
 pub all_seen : (ds : List ClassDef) (os : List (Option ℕ)) → length os ≡ length ds → classes (entries_of ds os) ≡ classes_meant ds
 all_seen ds os long = ap (λ (cs : List Class). basic_classes ++ cs) (meant_in (names_with_basic ds) ds os long)
 
--- what holds of the basic classes and of those of definitions holds of all
+-- a property of the basic classes and of those of definitions holds of all
 each_class : (P : Class → Type 0) (ds : List ClassDef) → AllByRecursion P basic_classes → AllByRecursion (λ (d : ClassDef). P (class_meant (names_with_basic ds) d)) ds
     → (c : ClassId) → c.0 < length (classes_meant ds) → P (class_at (classes_meant ds) c)
 each_class P ds basic all c within =

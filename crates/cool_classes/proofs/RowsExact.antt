@@ -353,7 +353,7 @@ rows_permuted R xs ys moved h = record {
 pub phase_rows : (ds : List ClassDef) (fs : List ClassFault) → HasClassPhase ds fs → AreRows (IsClassFault ds) fs
 phase_rows ds fs (cyclic, on, is) = subst (AreRows (IsClassFault ds)) (sym is) (record { only = phase_only ds cyclic on; all = phase_there ds cyclic on })
 
--- what a table is refused with are rows
+-- the faults that a table is refused with are rows
 pub refused_rows : (ds : List ClassDef) (e : TableError) → HasTableFaults ds e → HasRows ds e
 refused_rows ds error.Memory h = tt
 refused_rows ds (error.Faults faults) h =
@@ -362,7 +362,7 @@ refused_rows ds (error.Faults faults) h =
       | inr (none, moved) ↦ inr (rows_permuted (IsTableFault ds) (feature_phase ds) faults moved (table_rows ds))
     ]
 
--- where there is no fault, no row holds
+-- if there is no fault, no row holds
 nothing_in : (f : ClassFault) → Contains [] f → ⊥
 nothing_in f (i, less, e) = absurd (omega arith)
 
@@ -372,7 +372,7 @@ accepted_rows ds phase none = (
   (λ kind at row. nothing_in (fault kind at) (subst (λ (fs : List ClassFault). Contains fs (fault kind at)) none ((table_rows ds).all kind at row))),
 )
 
--- where classes may have no fault, none are theirs
+-- if classes may have no fault, none are theirs
 pub no_phase : (ds : List ClassDef) (fs : List ClassFault) → HasClassPhase ds [] → HasClassPhase ds fs → fs ≡ []
 no_phase ds [] none phase = refl
 no_phase ds (f ∷ fs) none phase = absurd (nothing_in (fault f.kind f.at) ((phase_rows ds [] none).all f.kind f.at (phase_rows ds (f ∷ fs) phase).only.0))

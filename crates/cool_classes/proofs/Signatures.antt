@@ -26,7 +26,7 @@ five (a ∷ b ∷ c ∷ []) e = absurd (omega (arith, e))
 five (a ∷ b ∷ c ∷ d ∷ []) e = absurd (omega (arith, e))
 five (a ∷ b ∷ c ∷ d ∷ f ∷ p) e = omega arith
 
--- what a name denotes among the basic classes it denotes in every table
+-- a name that denotes a type among the basic classes denotes it in every table
 pub denotes_there : (p : List Class) (name : List ℕ) (t : Ty) → take 5 p ≡ basic_classes → Denotes basic_classes name t → Denotes p name t
 denotes_there p name (IsClass c) basic (within, is) =
     let low : c.0 < 5 = within in

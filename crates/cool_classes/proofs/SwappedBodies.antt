@@ -1,4 +1,4 @@
--- What a swap of a body or of a feature leaves: the classes that the entries are seen as, and all that they must be.
+-- Swapping a body or a feature: the classes that the entries are then seen as, and the properties that they keep.
 use Rattle.std.proofs.Common.{◌≡◌, ℕ, zero, suc, ◌+◌, ◌<◌, List, [], ◌∷◌, map, length, get_or, set, Option, Some, None, refl, sym, ap, ◌∙◌, subst}
 use Rattle.std.specs.Prelude.{slice_get}
 use Rattle.std.specs.Global.{Vec}

@@ -1,4 +1,4 @@
--- What walks find: depths that are right, or a cycle.
+-- The results of walks: depths that are right, or a cycle.
 use Rattle.std.proofs.Common.{◌≡◌, ◌≢◌, ◌⊎◌, inl, inr, ℕ, suc, ◌+◌, ◌-◌, ◌<◌, ◌≤◌, List, [], ◌∷◌, ◌++◌, length, take, drop, get_or, set, Option, Some, None, Contains, Bool, true, false, sym, ap, ◌∙◌, refl, subst, cond, arith, get_or-set_other, get_or-set_same, true≢false}
 use Rattle.std.specs.Prelude.{is_some, is_none, IsSome, nat_eq, replicate}
 use Rattle.std.specs.List.{AllByRecursion}
@@ -79,7 +79,7 @@ settled_knows (k ∷ ks) d j known within there =
       | inr rest ↦ settled_knows ks (d + 1) j (set known k (Some (d + 1))) (all_longer known k (Some (d + 1)) ks within.1) rest
     ]
 
--- what is found stays found
+-- a found definition stays found
 found_more : (known more : List (Option ℕ)) (cyclic : List ℕ) (k : ℕ) → (IsSome (get_or known k None) → IsSome (get_or more k None)) → IsFound known cyclic k → IsFound more cyclic k
 found_more known more cyclic k keeps found = elim found [ inl some ↦ inl (keeps some) | inr no_more ↦ inr no_more ]
 
@@ -118,7 +118,7 @@ reaches parents start known cyclic before after path d w climb =
       | inr (low, has) ↦ record { number = above.0; leads = above.1; has = has; low = omega arith }
     ]
 
--- what is found up to a definition and there
+-- the definitions found up to one, and that one
 done_by : (known : List (Option ℕ)) (cyclic : List ℕ) (start k : ℕ) → k < start + 1 → (k < start → IsFound known cyclic k) → (k ≡ start → IsFound known cyclic k) → IsFound known cyclic k
 done_by known cyclic start k less earlier here =
     elim (cases_eq k start) [ inl same ↦ here same | inr other ↦ earlier (omega arith) ]
@@ -248,7 +248,7 @@ walked_none parents known passed cyclic n long unknown clear none =
 pub written_back : (n : ℕ) (xs ys : List (Option ℕ)) → length xs ≡ n → take n (xs ++ drop (length xs) ys) ≡ xs
 written_back n xs ys e = ap (λ (m : ℕ). take m (xs ++ drop (length xs) ys)) (sym e) ∙ take-append_seam xs (drop (length xs) ys)
 
--- where no cycle is found, each depth is known
+-- if no cycle is found, each depth is known
 pub all_known : (parents : List ClassId) (known : List (Option ℕ)) (cyclic : List ℕ) (passed : List (Option ℕ)) (n : ℕ) → length parents ≤ n → AreWalked parents n known cyclic passed → cyclic ≡ []
     → AreDepths parents known
 all_known parents known cyclic passed n most w none = record {

@@ -1,5 +1,5 @@
--- The tables of the methods of the basic classes, as the code has them: they say what `basic_methods`, `basic_formals` and `basic_result` of
--- `Features.antt` say.
+-- The tables of the methods of the basic classes, as the code has them: they agree with `basic_methods`, `basic_formals` and `basic_result` of
+-- `Features.antt`.
 use Rattle.std.specs.Prelude.{◌≡◌, ◌<◌, ◌≤◌, List, map, length}
 use Rattle.std.specs.List.{AllByRecursion}
 use Rattle.cool_classes.specs.declared.basic_methods.BasicSignature.{BasicSignature}

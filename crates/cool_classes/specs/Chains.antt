@@ -1,4 +1,4 @@
--- Chains of parents: what a contract sees of a class table, the classes from one up to Object, and what is below what (the Cool manual,
+-- Chains of parents: the view that contracts have of a class table, the classes from one up to Object, and which class is below which (the Cool manual,
 -- sections 3.2 and 4).
 use Rattle.std.specs.Prelude.{◌≡◌, ℕ, List, [], ◌∷◌, get_or, Contains, Option, Some, None, codes, refl}
 use Rattle.cool_syntax.specs.declared.file_tree.Feature.{Feature}

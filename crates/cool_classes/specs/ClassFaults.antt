@@ -69,7 +69,7 @@ first_fault (d ∷ ds) = record { kind = C7; at = d.at } ∷ []
 abbrev pub number_faults : List ClassDef → List ClassFault
 number_faults ds = first_fault (drop MOST_CLASSES ds)
 
--- where the definition at a position stands
+-- the place of the definition at a position
 abbrev pub places : List ClassDef → List Place
 places = map (λ d. d.at)
 
@@ -108,13 +108,13 @@ feature_phase ds = features_from (classes_meant ds) 5 (places ds)
 abbrev pub HasClassPhase : List ClassDef → List ClassFault → Type 0
 HasClassPhase ds faults = (cyclic : List ℕ) × AreOnCycles ds cyclic × (faults ≡ class_phase ds cyclic)
 
--- an error is want of memory, or has the faults of classes, of which there is one at least, in order
+-- an error is out of memory, or has the faults of classes, at least one, in order
 abbrev pub HasClassFaults : List ClassDef → TableError → Type 0
 HasClassFaults ds error.Memory = Unit {0}
 HasClassFaults ds (error.Faults faults) =
     (faults ≢ []) × AreInOrder standing_of faults × ((fs : List ClassFault) × HasClassPhase ds fs × IsPermutation fs faults)
 
--- an error is want of memory, or has the faults of classes where there are any, and else those of features
+-- an error is out of memory, or has the faults of classes if there are any, and else those of features
 abbrev pub HasTableFaults : List ClassDef → TableError → Type 0
 HasTableFaults ds error.Memory = Unit {0}
 HasTableFaults ds (error.Faults faults) =

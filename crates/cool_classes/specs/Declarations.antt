@@ -1,4 +1,4 @@
--- What features declare: names and types, with no regard to places, bodies and initial values.
+-- The declarations of features: names and types, without places, bodies and initial values.
 use Rattle.std.specs.Prelude.{◌≡◌, refl, ℕ, List, [], ◌∷◌, map, codes, Option, Some, None}
 use Rattle.cool_syntax.specs.declared.file_tree.Feature.{Feature}
 use Rattle.cool_syntax.specs.declared.file_tree.Feature.TheVariants.{Method, Attribute}
@@ -35,7 +35,7 @@ AllDeclareSame [] (x' ∷ xs') = ⊥
 AllDeclareSame (x ∷ xs) [] = ⊥
 AllDeclareSame (x ∷ xs) (x' ∷ xs') = DeclareSame x x' × AllDeclareSame xs xs'
 
--- classes that differ in bodies, initial values and places alone
+-- classes that differ only in bodies, initial values and places
 abbrev pub AreAlike : Class → Class → Type 0
 AreAlike d d' = (d'.name ≡ d.name) × (d'.parent ≡ d.parent) × AllDeclareSame d.features d'.features
 

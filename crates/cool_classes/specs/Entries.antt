@@ -1,4 +1,4 @@
--- How the entries of a table are seen: as classes, with the number of classes above each.
+-- The entries of a table seen as classes, with the number of classes above each.
 use Rattle.std.specs.Prelude.{◌≡◌, ℕ, List, [], map, get_or, Option, Some, None, refl}
 use Rattle.cool_syntax.specs.declared.file_tree.Feature.{Feature}
 use Rattle.cool_syntax.specs.Tree.{Tree}

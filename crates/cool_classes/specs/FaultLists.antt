@@ -38,13 +38,13 @@ IsOfFeatures f = 6 < rank f.kind
 abbrev pub standing_of : ClassFault → Standing
 standing_of f = record { at = f.at; rank = rank f.kind }
 
--- The faults of a phase: there is one, they are of that phase alone, and they stand in order.
+-- The faults of a phase: there is at least one, they are of that phase only, and they stand in order.
 pub record IsFaultList (faults : List ClassFault) : Type 0 where
   pub some : faults ≢ []
   pub phase : AllByRecursion IsOfClasses faults ⊎ AllByRecursion IsOfFeatures faults
   pub order : AreInOrder standing_of faults
 
--- an error is want of memory or such a list
+-- an error is out of memory or such a list
 abbrev pub IsRefusal : TableError → Type 0
 IsRefusal Memory = Unit {0}
 IsRefusal (Faults faults) = IsFaultList faults
@@ -54,7 +54,7 @@ abbrev pub IsPlacedRefusal : ℕ → TableError → Type 0
 IsPlacedRefusal files Memory = Unit {0}
 IsPlacedRefusal files (Faults faults) = AllByRecursion (λ f. IsPlaced files f.at) faults
 
--- an error is want of memory, or has exactly these faults, of which there is one at least, in order
+-- an error is out of memory, or has exactly these faults, at least one, in order
 abbrev pub HasExactly : List ClassFault → TableError → Type 0
 HasExactly fs Memory = Unit {0}
 HasExactly fs (Faults faults) = (faults ≢ []) × IsPermutation fs faults × AreInOrder standing_of faults

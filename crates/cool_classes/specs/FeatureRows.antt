@@ -1,5 +1,4 @@
--- The faults of features by the rows of the Cool manual's rules (sections 5, 6 and 8) and of the limits: which fault comes for what, and where
--- it stands.
+-- The faults of features by the rows of the Cool manual's rules (sections 5, 6 and 8) and of the limits: which fault each violation has, and its place.
 use Rattle.std.specs.Prelude.{◌≡◌, ◌≢◌, ◌⊎◌, ℕ, ◌<◌, List, [], ◌∷◌, length, slice_get, Contains, Some, codes}
 use Rattle.std.specs.List.{AllByRecursion}
 use Rattle.cool_syntax.specs.declared.place.Place.{Place}

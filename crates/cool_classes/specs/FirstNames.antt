@@ -5,7 +5,7 @@ use Rattle.std.specs.Global.{Vec}
 use Rattle.cool_syntax.specs.declared.file_tree.Feature.{Feature}
 use Rattle.cool_syntax.specs.declared.file_tree.Feature.TheVariants.{Method, Attribute}
 
--- the first item of a list for which a test holds, by what its number stands for, where the list begins at a number
+-- the value at the number of the first item of a list for which a test holds, if the list begins at a number
 abbrev pub first_with : {X Y : Type 0} → (X → Bool) → (ℕ → Y) → ℕ → List X → Option Y
 first_with has at k [] = None
 first_with has at k (x ∷ xs) = if has x then Some (at k) else first_with has at (k + 1) xs

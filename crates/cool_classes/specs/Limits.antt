@@ -1,4 +1,4 @@
--- The limits of a table: how many classes there are, and how many attributes and methods a class has with those that it inherits.
+-- The limits of a table: the number of classes, and the numbers of attributes and methods of a class with those that it inherits.
 use Rattle.std.specs.Prelude.{◌≡◌, ◌≢◌, ℕ, ◌+◌, ◌≤◌, ◌<◌, List, [], ◌∷◌, length, Some, None, refl}
 use Rattle.std.specs.List.{AllByRecursion}
 use Rattle.cool_classes.specs.declared.TheConstants.{MOST_CLASSES, MOST_ATTRIBUTES, MOST_METHODS}

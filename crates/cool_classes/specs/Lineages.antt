@@ -20,12 +20,12 @@ pub record IsLineage (es : List Entry) (lineage : Lineage) : Type 0 where
   pub above : AreWithin es lineage.above.items
   pub chain : IsChain (classes es) (parent_of (classes es) lineage.class) lineage.above.items
 
--- the sum of what is counted for each of these classes
+-- the sum of the counts of these classes
 abbrev pub sum_at : List ℕ → List ClassId → ℕ
 sum_at counts [] = 0
 sum_at counts (d ∷ ds) = get_or counts d.0 0 + sum_at counts ds
 
--- how many attributes, and names of methods, each of so many classes adds to those above it
+-- the numbers of attributes, and of names of methods, that each of so many classes adds to those above it
 pub record AreCounted (count : ℕ) (p : List Class) (of_attributes of_methods : List ℕ) : Type 0 where
   pub same_attributes : length of_attributes ≡ count
   pub same_methods : length of_methods ≡ count

@@ -1,4 +1,4 @@
--- Names of classes in the order of their definitions: which class a name means where several have it; and the name that is not that of a class.
+-- Names of classes in the order of their definitions: which class a name means if several have it; and the name that no class has.
 use Rattle.std.specs.Prelude.{◌≡◌, ℕ, List, [], ◌∷◌, Option, Some, codes, bytes_eq, refl}
 use Rattle.cool_classes.specs.declared.class_id.ClassId.{ClassId}
 use Rattle.cool_classes.specs.Chains.{class_number}

@@ -1,4 +1,4 @@
--- Entries of a table after its classes were checked, before their features are: all of a whole table but for the types of features.
+-- Entries of a table after its classes were checked, and before their features are: everything of a whole table except the types of features.
 use Rattle.std.specs.Prelude.{◌≡◌, ◌≢◌, ℕ, ◌+◌, ◌<◌, ◌≤◌, ◌^◌, List, length, take}
 use Rattle.std.specs.List.{AllByRecursion}
 use Rattle.cool_syntax.specs.declared.place.Place.{Place}
@@ -24,7 +24,7 @@ pub record AreResolved (es : List Entry) : Type 0 where
   pub few_features : (c : ClassId) → c.0 < length (classes es) → length (features_of (classes es) c) < 2 ^ 32
   pub few_formals : (c : ClassId) → c.0 < length (classes es) → AllByRecursion HasFewFormals (features_of (classes es) c)
 
--- What a table still lacks where its features have no fault: their types are types, and their number keeps the limits.
+-- The properties that a table has once its features have no fault: their types are types, and their number keeps the limits.
 pub record AreGood (p : List Class) : Type 0 where
   pub types : (c : ClassId) → c.0 < length p → AllByRecursion (IsTyped p) (features_of p c)
   pub limits : KeepsLimits p

@@ -7,7 +7,7 @@ use Rattle.cool_classes.specs.declared.depths.Above.TheVariants.{Known, Cycle, L
 use Rattle.cool_classes.specs.Cycles.{IsOnCycle, AreApart}
 use Rattle.cool_classes.specs.Depths.{parents_with_basic, HasDepth}
 
--- how many definitions no walk has passed
+-- the number of definitions that no walk has passed
 abbrev pub unpassed : List (Option ℕ) → ℕ
 unpassed = count_by is_none
 
@@ -26,7 +26,7 @@ abbrev pub LeadsTo : List ClassId → List ℕ → ℕ → Type 0
 LeadsTo parents [] c = Unit {0}
 LeadsTo parents (k ∷ ks) c = (q : ClassId) × (get_or (parents_with_basic parents) (k + 5) None ≡ Some q) × (q.0 ≡ c) × LeadsTo parents ks (k + 5)
 
--- what a climb comes to
+-- the end of a climb
 abbrev pub IsAbove : List ClassId → List (Option ℕ) → List (Option ℕ) → ℕ → List (Option ℕ) → List ℕ → Above → Type 0
 IsAbove parents known before start after path (Known d) =
     (c : ℕ) × LeadsTo parents path c × (((k : ℕ) × (c ≡ k + 5) × (get_or known k None ≡ Some d)) ⊎ ((d < 2) × HasDepth (parents_with_basic parents) c d))
@@ -46,7 +46,7 @@ pub record AreFresh (before after : List (Option ℕ)) (path : List ℕ) : Type 
   pub apart : AreApart path
   pub kept : (k : ℕ) → IsSome (get_or before k None) → IsSome (get_or after k None)
 
--- what a climb from a definition leaves
+-- the state after a climb from a definition
 pub record IsClimb (parents : List ClassId) (known before : List (Option ℕ)) (start : ℕ) (after : List (Option ℕ)) (path : List ℕ) (above : Above) : Type 0 where
   pub comes_to : IsAbove parents known before start after path above
   pub within : AllByRecursion (λ (k : ℕ). k < length parents) path

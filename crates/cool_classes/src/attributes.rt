@@ -14,7 +14,7 @@ use crate::method::AttributeRef;
 use cool_syntax::{Feature, Name};
 use std::alloc::{AllocError, Global};
 
-/// The attributes of a class, from the greatest ancestor down, in textual order. `Err` comes only for want of memory.
+/// The attributes of a class, from the greatest ancestor down, in textual order. Returns `Err` only if memory runs out.
 pub(crate) fn attributes(
     alloc: Global,
     entries: &[Entry],
@@ -38,7 +38,7 @@ pub(crate) fn attributes(
     Ok(attributes)
 }
 
-/// Adds the attributes that a class has of its own, in textual order. `Err` comes only for want of memory.
+/// Adds the attributes that a class has of its own, in textual order. Returns `Err` only if memory runs out.
 fn add_own(
     attributes: &mut Vec<AttributeRef>,
     owner: ClassId,

@@ -1,4 +1,4 @@
-//! The basic classes: their number, their names, and what stands of them in a table (the Cool manual, section 8).
+//! The basic classes: their number, their names, and their entries in a table (the Cool manual, section 8).
 
 ghost use Rattle.std.specs.Prelude.{◌≡◌, ◌<◌, IfOk, []};
 ghost use Rattle.cool_classes.specs.Chains.{name_of};
@@ -30,7 +30,7 @@ pub(crate) fn class_name(class: ClassId) -> &'static [u8]
     }
 }
 
-/// The names of the basic classes. `Err` comes only for want of memory.
+/// The names of the basic classes. Returns `Err` only if memory runs out.
 pub(crate) fn basic_names(alloc: Global) -> Result<FirstNames, AllocError>
     ensures { IfOk result (λ names. FindsNames names.entries basic_names) }
 {
@@ -41,7 +41,7 @@ pub(crate) fn basic_names(alloc: Global) -> Result<FirstNames, AllocError>
     Ok(names)
 }
 
-/// The basic classes as the first entries of a table. `Err` comes only for want of memory.
+/// The basic classes as the first entries of a table. Returns `Err` only if memory runs out.
 pub(crate) fn basic_entries(alloc: Global) -> Result<Vec<Entry>, AllocError>
     ensures { IfOk result (λ entries. entries.items ≡ basic_entries) }
 {
@@ -54,7 +54,7 @@ pub(crate) fn basic_entries(alloc: Global) -> Result<Vec<Entry>, AllocError>
     Ok(entries)
 }
 
-/// A basic class. `Err` comes only for want of memory.
+/// A basic class. Returns `Err` only if memory runs out.
 fn basic_entry(
     alloc: Global,
     class: ClassId,

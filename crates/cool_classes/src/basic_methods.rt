@@ -1,4 +1,4 @@
-//! The methods of the basic classes: two tables, and what is read off them (the Cool manual, section 8).
+//! The methods of the basic classes: two tables, and functions that read them (the Cool manual, section 8).
 
 ghost use Rattle.std.specs.Prelude.{◌≡◌, ◌<◌, [], length, get_or};
 ghost use Rattle.cool_classes.specs.declared.class_id.Ty.TheVariants.{Class as IsClass};
@@ -18,7 +18,7 @@ use cool_syntax::Formal;
 #[derive(Clone, Copy)]
 pub struct NamedMethod(pub &'static [u8], pub BasicMethod);
 
-/// What a basic method declares.
+/// The declaration of a basic method.
 #[derive(Clone, Copy)]
 struct BasicSignature {
     /// The class of each formal.
@@ -52,7 +52,7 @@ pub fn basic_class_methods(class: u32) -> &'static [NamedMethod]
     }
 }
 
-/// What a basic method declares.
+/// The declaration of a basic method.
 fn signature(method: BasicMethod) -> BasicSignature
     ensures { IsSignature method result }
 {
@@ -95,14 +95,14 @@ pub(crate) fn basic_method(class: u32, name: &[u8]) -> Option<BasicMethod>
     None
 }
 
-/// How many methods a basic class has of its own, by the number of the class.
+/// The number of methods of a basic class's own, by the number of the class.
 pub(crate) fn basic_method_count(class: u32) -> usize
     ensures { result ≡ length (method_names (basic_methods class)) }
 {
     basic_class_methods(class).len()
 }
 
-/// How many formals a basic method has.
+/// The number of formals of a basic method.
 pub(crate) fn basic_formal_count(method: BasicMethod) -> u32
     ensures { result ≡ length (basic_formals method) }
 {

@@ -25,8 +25,8 @@ use std::alloc::{AllocError, Global};
 
 /// The table of the classes that these files define (the Cool manual, sections 3 to 8).
 ///
-/// `Err` comes for want of memory, and with faults. They are the faults C1 to C7 of the classes where there are any, else
-/// the faults F1 to F9 of their features; each list is whole, and in the order of files, bytes and kinds.
+/// Returns `Err` if memory runs out, or with faults. They are the faults C1 to C7 of the classes if there are any, else the faults F1 to F9 of their
+/// features; each list is whole, and in the order of files, bytes and kinds.
 pub fn table(alloc: Global, files: Vec<FileTree>) -> Result<ClassTable, TableError>
     requires few { AreFew (definitions files.items) }
     ensures whole { IfOk result IsTable }
@@ -55,7 +55,7 @@ pub fn table(alloc: Global, files: Vec<FileTree>) -> Result<ClassTable, TableErr
     Ok(ClassTable::from_entries(entries, classes, own))
 }
 
-/// The definitions of all files, in order. `Err` comes only for want of memory.
+/// The definitions of all files, in order. Returns `Err` only if memory runs out.
 fn definitions_of(alloc: Global, files: Vec<FileTree>) -> Result<Vec<ClassDef>, AllocError>
     ensures { IfOk result (λ all. all.items ≡ definitions files.items) }
 {
@@ -66,7 +66,7 @@ fn definitions_of(alloc: Global, files: Vec<FileTree>) -> Result<Vec<ClassDef>, 
     Ok(all)
 }
 
-/// Where the names of definitions stand. `Err` comes only for want of memory.
+/// The places of the names of definitions. Returns `Err` only if memory runs out.
 fn places_of(alloc: Global, definitions: &[ClassDef]) -> Result<Vec<Place>, AllocError>
     ensures { IfOk result (λ places. places.items ≡ map (λ (d : tree.ClassDef). d.at) definitions.now) }
 {
@@ -77,7 +77,7 @@ fn places_of(alloc: Global, definitions: &[ClassDef]) -> Result<Vec<Place>, Allo
     Ok(places)
 }
 
-/// The entries of the basic classes and of definitions without faults. `Err` comes only for want of memory.
+/// The entries of the basic classes and of definitions without faults. Returns `Err` only if memory runs out.
 fn entries_of(
     alloc: Global,
     definitions: Vec<ClassDef>,

@@ -23,7 +23,7 @@ use crate::self_type::is_self_type;
 use cool_syntax::{ClassDef, Place, TypeRef};
 use std::alloc::{AllocError, Global};
 
-/// Where the definitions stand in the table: the names of all classes, and the parent of each definition and its depth.
+/// The definitions as the table will have them: the names of all classes, and the parent of each definition and its depth.
 #[derive(Drop)]
 pub(crate) struct Ancestry {
     pub(crate) names: FirstNames,
@@ -31,8 +31,7 @@ pub(crate) struct Ancestry {
     pub(crate) depths: Vec<Option<u32>>,
 }
 
-/// Where the definitions stand. `Err` comes with the faults C1 to C7 in their order where there are any, and for want of
-/// memory.
+/// The definitions as the table will have them. Returns `Err` with the faults C1 to C7 in their order if there are any, or if memory runs out.
 pub(crate) fn settle_classes(
     alloc: Global,
     definitions: &[ClassDef],
@@ -59,8 +58,8 @@ pub(crate) fn settle_classes(
     })
 }
 
-/// Adds C5, C6 and C7: for these definitions, which stand on cycles, where no class is named Main, and for the definition past
-/// the most. `Err` comes only for want of memory.
+/// Adds C5, C6 and C7: for these definitions, which stand on cycles, where no class is named Main, and for the definition past the most. Returns `Err` only
+/// if memory runs out.
 fn check_whole(
     definitions: &[ClassDef],
     names: &FirstNames,
@@ -79,8 +78,7 @@ fn check_whole(
     Ok(())
 }
 
-/// The first class of each name, the basic classes first. Adds C1 and C2 for the names of definitions. `Err` comes only for
-/// want of memory.
+/// The first class of each name, the basic classes first. Adds C1 and C2 for the names of definitions. Returns `Err` only if memory runs out.
 fn find_names(
     alloc: Global,
     definitions: &[ClassDef],
@@ -119,7 +117,7 @@ fn name_fault(name: &[u8], known: bool) -> Option<ClassKind>
     }
 }
 
-/// The parent of each definition. Adds C2, C3 and C4 for their names. `Err` comes only for want of memory.
+/// The parent of each definition. Adds C2, C3 and C4 for their names. Returns `Err` only if memory runs out.
 fn find_parents(
     alloc: Global,
     definitions: &[ClassDef],
@@ -140,8 +138,7 @@ fn find_parents(
     Ok(parents)
 }
 
-/// The parent of a definition: Object where it names none or no class. Adds C2, C3 or C4. `Err` comes only for want of
-/// memory.
+/// The parent of a definition: Object where it names none or no class. Adds C2, C3 or C4. Returns `Err` only if memory runs out.
 fn find_parent(
     names: &FirstNames,
     parent: &Option<TypeRef>,
@@ -186,7 +183,7 @@ fn is_barred(class: ClassId) -> bool
     class == INT || class == BOOL || class == STRING
 }
 
-/// Adds C5 for each of these definitions, which stand on cycles. `Err` comes only for want of memory.
+/// Adds C5 for each of these definitions, which stand on cycles. Returns `Err` only if memory runs out.
 fn add_cyclic(
     definitions: &[ClassDef],
     cyclic: &[usize],
@@ -203,7 +200,7 @@ fn add_cyclic(
     Ok(())
 }
 
-/// Adds C6 where no class is named Main. `Err` comes only for want of memory.
+/// Adds C6 where no class is named Main. Returns `Err` only if memory runs out.
 fn check_main(names: &FirstNames, faults: &mut Vec<ClassFault>) -> Result<(), AllocError>
     ensures exact { OnOk result ((all : List (List ℕ)) → FindsNames names.now.entries all → faults.new.items ≡ faults.old.items ++ main_faults all) }
     ensures adds { OnOk result (AddsFaults (λ n. 0 < n) faults.old.items faults.new.items) }
@@ -219,7 +216,7 @@ fn check_main(names: &FirstNames, faults: &mut Vec<ClassFault>) -> Result<(), Al
     Ok(())
 }
 
-/// Adds C7 for the definition past the most, where there is one. `Err` comes only for want of memory.
+/// Adds C7 for the definition past the most, where there is one. Returns `Err` only if memory runs out.
 fn check_number(definitions: &[ClassDef], faults: &mut Vec<ClassFault>) -> Result<(), AllocError>
     ensures adds { OnOk result (AddsFaults (λ n. AreClassesWithin n definitions.now) faults.old.items faults.new.items) }
     ensures exact { OnOk result (faults.new.items ≡ faults.old.items ++ number_faults definitions.now) }

@@ -69,7 +69,7 @@ impl ClassTable {
         }
     }
 
-    /// How many classes there are.
+    /// The number of classes.
     pub fn count(&self) -> u32
         ensures count { result ≡ length self.now }
         ensures table { IsTable self.now }
@@ -87,7 +87,7 @@ impl ClassTable {
         &self.entries[c.0 as usize].name
     }
 
-    /// How many classes stand above a class: 0 for Object.
+    /// The number of classes above a class: 0 for Object.
     pub fn depth(&self, c: ClassId) -> u32
         requires within { c.0 < length self.now }
         ensures { (ds : List number.ClassId) → IsChain self.now (Some c) ds → length ds ≡ result + 1 }
@@ -111,7 +111,7 @@ impl ClassTable {
         lookup::class_named(&self.names, name.as_slice())
     }
 
-    /// The parent of a class: none for Object alone.
+    /// The parent of a class: `None` only for Object.
     pub fn parent(&self, c: ClassId) -> Option<ClassId>
         requires within { c.0 < length self.now }
         ensures parent { result ≡ parent_of self.now c }
@@ -153,8 +153,7 @@ impl ClassTable {
         )
     }
 
-    /// The attributes of a class with those that it inherits: from the greatest ancestor down, in textual order. `Err`
-    /// comes only for want of memory.
+    /// The attributes of a class with those that it inherits: from the greatest ancestor down, in textual order. Returns `Err` only if memory runs out.
     pub fn attributes(&self, alloc: Global, c: ClassId) -> Result<Vec<AttributeRef>, AllocError>
         requires within { c.0 < length self.now }
         ensures attributes { IfOk result (λ all. (ds : List number.ClassId) → IsChain self.now (Some c) ds → all.items ≡ attributes_of self.now ds) }
@@ -179,7 +178,7 @@ impl ClassTable {
         signature::attribute_type(self.entries.as_slice(), &self.names, attribute)
     }
 
-    /// How many formals a method has.
+    /// The number of formals of a method.
     pub fn formal_count(&self, method: MethodRef) -> u32
         requires has { HasMethod self.now method }
         ensures { result ≡ length (formals_of self.now method) }

@@ -18,7 +18,7 @@ pub(crate) fn parent(entries: &[Entry], c: ClassId) -> Option<ClassId>
     entries[c.0 as usize].parent
 }
 
-/// How many classes stand above a class.
+/// The number of classes above a class.
 pub(crate) fn depth(entries: &[Entry], c: ClassId) -> u32
     requires within { c.0 < length entries.now }
     ensures { result ≡ depth_at entries.now c }
@@ -62,7 +62,7 @@ pub(crate) fn join(entries: &[Entry], a: ClassId, b: ClassId) -> ClassId
     left
 }
 
-/// The classes from one up to Object. `Err` comes only for want of memory.
+/// The classes from one up to Object. Returns `Err` only if memory runs out.
 pub(crate) fn chain(
     alloc: Global,
     entries: &[Entry],

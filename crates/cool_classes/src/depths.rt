@@ -1,8 +1,7 @@
-//! How many classes stand above each definition, and which definitions stand on cycles of parents (the Cool manual,
-//! section 3).
+//! The number of classes above each definition, and the definitions on cycles of parents (the Cool manual, section 3).
 //!
-//! A definition is named by its position among the definitions, its class by its number, which is higher by the number of
-//! the basic classes. Each definition is passed once, so the cost is linear.
+//! A definition is named by its position among the definitions, its class by its number, which is higher by the number of the basic classes. Each
+//! definition is passed once, so the cost is linear.
 
 ghost use Rattle.std.specs.Prelude.{◌≡◌, ◌+◌, ◌-◌, ◌<◌, ◌^◌, ◌++◌, List, [], length, IfOk, OnOk};
 ghost use Rattle.cool_classes.specs.declared.class_id.ClassId as number;
@@ -16,16 +15,16 @@ use crate::class_id::{ClassId, OBJECT};
 use crate::path::Path;
 use std::alloc::{AllocError, Global};
 
-/// What is found of the definitions.
+/// The result of walking the definitions.
 #[derive(Drop)]
 pub(crate) struct Hierarchy {
-    /// How many classes stand above each definition: none for one on a cycle or below one.
+    /// The number of classes above each definition: none for one on a cycle or below one.
     pub(crate) known: Vec<Option<u32>>,
     /// The definitions on cycles.
     pub(crate) cyclic: Vec<usize>,
 }
 
-/// What a climb comes to.
+/// The end of a climb.
 #[derive(Clone, Copy)]
 pub(crate) enum Above {
     /// A class of this depth.
@@ -36,7 +35,7 @@ pub(crate) enum Above {
     Lost,
 }
 
-/// The depth of each definition that has a chain, and the definitions on cycles. `Err` comes only for want of memory.
+/// The depth of each definition that has a chain, and the definitions on cycles. Returns `Err` only if memory runs out.
 pub(crate) fn depths(alloc: Global, parents: &[ClassId]) -> Result<Hierarchy, AllocError>
     requires parents { AllByRecursion (λ q. q.0 < length parents.now + 5) parents.now }
     requires few { length parents.now < 2 ^ 32 - 5 }
@@ -55,7 +54,7 @@ pub(crate) fn depths(alloc: Global, parents: &[ClassId]) -> Result<Hierarchy, Al
     Ok(found)
 }
 
-/// Finds the depth of a definition and of all above it, or a cycle that they lead to. `Err` comes only for want of memory.
+/// Finds the depth of a definition and of all above it, or a cycle that they lead to. Returns `Err` only if memory runs out.
 fn walk(
     alloc: Global,
     parents: &[ClassId],
@@ -78,8 +77,7 @@ fn walk(
     Ok(())
 }
 
-/// Climbs from a definition to a class whose depth is known, or to a definition that was passed. `Err` comes only for want
-/// of memory.
+/// Climbs from a definition to a class whose depth is known, or to a definition that was passed. Returns `Err` only if memory runs out.
 fn climb(
     parents: &[ClassId],
     known: &[Option<u32>],
@@ -116,7 +114,7 @@ fn climb(
     }
 }
 
-/// How many classes stand above a basic class.
+/// The number of classes above a basic class.
 fn basic_depth(class: ClassId) -> u32
     requires { class.0 < 5 }
     ensures depth { (parents : List number.ClassId) → HasDepth (parents_with_basic parents) class.0 result }
@@ -138,7 +136,7 @@ fn settle(known: &mut [Option<u32>], mut path: Path, above: u32)
     }
 }
 
-/// Notes the definitions of a path from its last one back to this one. `Err` comes only for want of memory.
+/// Notes the definitions of a path from its last one back to this one. Returns `Err` only if memory runs out.
 fn note_cycle(cyclic: &mut Vec<usize>, mut path: Path, first: usize) -> Result<(), AllocError>
     ensures { OnOk result (cyclic.new.items ≡ cyclic.old.items ++ cycle_of first path) }
 {

@@ -3,7 +3,7 @@
 use crate::class_id::ClassId;
 use cool_syntax::{Feature, Listed, Name};
 
-/// A class, and how many classes its chain has above it.
+/// A class, and the number of classes above it on its chain.
 #[derive(Drop)]
 pub(crate) struct Entry {
     pub(crate) name: Name,

@@ -3,7 +3,7 @@
 use cool_syntax::{Listed, Place};
 use std::alloc::AllocError;
 
-/// Why there is no table.
+/// The reason why there is no table.
 #[derive(Drop)]
 pub enum TableError {
     /// Want of memory.
@@ -30,8 +30,8 @@ pub struct ClassFault {
     pub at: Place,
 }
 
-/// A kind of fault. The faults of the classes are C1 to C7, those of their features F1 to F9. A list of faults has those of
-/// the classes alone, or where there are none those of the features.
+/// A kind of fault. The faults of the classes are C1 to C7, those of their features F1 to F9. A list of faults has only those of the classes, or if there
+/// are none those of the features.
 #[derive(Clone, Copy, PartialEq, Eq, PartialOrd, Ord)]
 pub enum ClassKind {
     /// A class whose name is that of a basic class or of an earlier class. At its name.

@@ -13,7 +13,7 @@ use crate::fault::{ClassFault, ClassKind, TableError};
 use cool_syntax::{Listed, Place};
 use std::alloc::AllocError;
 
-/// Adds a fault of this kind, where there is one. `Err` comes only for want of memory.
+/// Adds a fault of this kind, where there is one. Returns `Err` only if memory runs out.
 pub(crate) fn add_fault(
     faults: &mut Vec<ClassFault>,
     kind: Option<ClassKind>,
@@ -27,7 +27,7 @@ pub(crate) fn add_fault(
     Ok(())
 }
 
-/// Refuses where there are faults, with them in order. `Err` comes then, and for want of memory.
+/// Refuses if there are faults, with them in order. Returns `Err` then, or if memory runs out.
 pub(crate) fn refuse_faults(mut faults: Vec<ClassFault>) -> Result<(), TableError>
     requires phase { AllByRecursion IsOfClasses faults.items ⊎ AllByRecursion IsOfFeatures faults.items }
     ensures none { OnOk result (faults.items ≡ []) }
@@ -42,7 +42,7 @@ pub(crate) fn refuse_faults(mut faults: Vec<ClassFault>) -> Result<(), TableErro
     Err(TableError::Faults(Listed::new(faults)))
 }
 
-/// Puts faults in the order of their files, their bytes, their kinds and their lines. `Err` comes only for want of memory.
+/// Puts faults in the order of their files, their bytes, their kinds and their lines. Returns `Err` only if memory runs out.
 fn sort_faults(faults: &mut Vec<ClassFault>) -> Result<(), AllocError>
     ensures order { OnOk result (AreInOrder standing_of faults.new.items) }
     ensures same { IsPermutation faults.old.items faults.new.items }

@@ -1,4 +1,4 @@
-//! How many attributes and methods classes have, with those that they inherit.
+//! The numbers of attributes and methods of classes, with those that they inherit.
 
 ghost use Rattle.std.specs.Prelude.{◌≡◌, ◌<◌, ◌^◌, ◌∷◌, length, if◌then◌else◌, nat_lt, IfOk};
 ghost use Rattle.std.specs.List.{AllByRecursion};
@@ -21,14 +21,14 @@ use crate::{MOST_ATTRIBUTES, MOST_METHODS};
 use cool_syntax::Feature;
 use std::alloc::{AllocError, Global};
 
-/// How many attributes, and how many names of methods, each class adds to those of the classes above it.
+/// The numbers of attributes and of names of methods that each class adds to those of the classes above it.
 #[derive(Drop)]
 pub(crate) struct Counts {
     attributes: Vec<usize>,
     methods: Vec<usize>,
 }
 
-/// What each class adds to the classes above it. `Err` comes only for want of memory.
+/// The numbers that each class adds to the classes above it. Returns `Err` only if memory runs out.
 pub(crate) fn counts_of(alloc: Global, table: &TableNames<'_>) -> Result<Counts, AllocError>
     requires table { AreTableNames table.now }
     ensures { IfOk result (λ counts. AreCounts (length table.now.entries.now) (classes table.now.entries.now) counts) }
@@ -47,7 +47,7 @@ pub(crate) fn counts_of(alloc: Global, table: &TableNames<'_>) -> Result<Counts,
     })
 }
 
-/// How many attributes there are among features.
+/// The number of attributes among features.
 fn attribute_count(features: &[Feature]) -> usize
     ensures { (c : number.ClassId) → result ≡ length (own_attributes c 0 features.now) }
 {
@@ -60,7 +60,7 @@ fn attribute_count(features: &[Feature]) -> usize
     count
 }
 
-/// How many names of methods a class adds to those of the classes above it.
+/// The number of names of methods that a class adds to those of the classes above it.
 fn new_method_count(table: &TableNames<'_>, lineage: &Lineage) -> usize
     requires table { AreTableNames table.now }
     requires lineage { IsLineage table.now.entries.now lineage.now }
@@ -108,7 +108,7 @@ pub(crate) fn is_over_limit(table: &TableNames<'_>, counts: &Counts, lineage: &L
         || exceed(counts.methods.as_slice(), lineage, MOST_METHODS)
 }
 
-/// Whether a class and those above it have more than so many, by what is counted for each.
+/// Whether a class and those above it have more than so many, by the counts of each.
 fn exceed(counts: &[usize], lineage: &Lineage, most: usize) -> bool
     requires class { lineage.now.class.0 < length counts.now }
     requires above { AllByRecursion (λ c. c.0 < length counts.now) lineage.now.above.items }

@@ -25,9 +25,9 @@ use crate::signature_faults::{declares_otherwise, note, note_formals, note_type}
 use cool_syntax::{AttributeDef, Feature, MethodDef, Place};
 use std::alloc::{AllocError, Global};
 
-/// The faults of the features of all classes, F1 to F9 as `ClassKind` says them, in no order that is promised. The places
-/// are those of the names of the classes after the basic ones, in order. `Err` comes only for want of memory. The cost is
-/// that of climbing from each feature to the first class above it that has its name.
+/// The faults of the features of all classes, F1 to F9 as `ClassKind` defines them, in no promised order. The places are those of the names of the classes
+/// after the basic ones, in order. Returns `Err` only if memory runs out. The cost is that of climbing from each feature to the first class above it that
+/// has its name.
 pub(crate) fn feature_faults(
     alloc: Global,
     table: &TableNames<'_>,
@@ -49,7 +49,7 @@ pub(crate) fn feature_faults(
     Ok(faults)
 }
 
-/// Notes the faults of a class whose name stands at a place. `Err` comes only for want of memory.
+/// Notes the faults of a class whose name stands at a place. Returns `Err` only if memory runs out.
 fn note_class(
     alloc: Global,
     faults: &mut Vec<ClassFault>,
@@ -73,7 +73,7 @@ fn note_class(
     )
 }
 
-/// Notes the faults of the features of a class. `Err` comes only for want of memory.
+/// Notes the faults of the features of a class. Returns `Err` only if memory runs out.
 fn note_features(
     alloc: Global,
     faults: &mut Vec<ClassFault>,
@@ -98,7 +98,7 @@ fn note_features(
     Ok(())
 }
 
-/// Notes the faults of the feature at an index of a class. `Err` comes only for want of memory.
+/// Notes the faults of the feature at an index of a class. Returns `Err` only if memory runs out.
 fn note_feature(
     alloc: Global,
     faults: &mut Vec<ClassFault>,
@@ -118,7 +118,7 @@ fn note_feature(
     }
 }
 
-/// Notes the faults of the method at an index of a class. `Err` comes only for want of memory.
+/// Notes the faults of the method at an index of a class. Returns `Err` only if memory runs out.
 fn note_method(
     alloc: Global,
     faults: &mut Vec<ClassFault>,
@@ -153,7 +153,7 @@ fn redefines_otherwise(table: &TableNames<'_>, lineage: &Lineage, method: &Metho
     }
 }
 
-/// Notes the faults of the attribute at an index of a class. `Err` comes only for want of memory.
+/// Notes the faults of the attribute at an index of a class. Returns `Err` only if memory runs out.
 fn note_attribute(
     faults: &mut Vec<ClassFault>,
     table: &TableNames<'_>,

@@ -26,7 +26,7 @@ pub(crate) fn is_first_at(names: &FirstNames, name: &[u8], index: u32) -> bool
     }
 }
 
-/// Notes the name at the next index, unless it stands at an earlier one. `Err` comes only for want of memory.
+/// Notes the name at the next index, unless it stands at an earlier one. Returns `Err` only if memory runs out.
 pub(crate) fn add_name(
     alloc: Global,
     names: &mut FirstNames,

@@ -1,7 +1,7 @@
 //! The class table of a Cool program: its classes with their parents, methods and attributes (the Cool manual, sections 3 to 8).
 //!
-//! Comes in: the trees of source files. Goes out: a table of classes that is whole, or the faults of the classes.
-//! `specs/Chains.antt`, `specs/Features.antt` and `specs/Tables.antt` define what the answers mean.
+//! Input: the trees of source files. Output: a table of classes that is whole, or the faults of the classes. `specs/Chains.antt`, `specs/Features.antt` and
+//! `specs/Tables.antt` define the meaning of the answers.
 #![tactic(auto)]
 
 mod attributes;

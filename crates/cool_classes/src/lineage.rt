@@ -18,7 +18,7 @@ pub(crate) struct Lineage {
     pub(crate) above: Vec<ClassId>,
 }
 
-/// The lineage of a class. `Err` comes only for want of memory.
+/// The lineage of a class. Returns `Err` only if memory runs out.
 pub(crate) fn lineage_of(
     alloc: Global,
     entries: &[Entry],
@@ -35,7 +35,7 @@ pub(crate) fn lineage_of(
     })
 }
 
-/// The classes above a class. `Err` comes only for want of memory.
+/// The classes above a class. Returns `Err` only if memory runs out.
 fn above(alloc: Global, entries: &[Entry], class: ClassId) -> Result<Vec<ClassId>, AllocError>
     requires within { class.0 < length entries.now }
     requires grounded { IsGrounded (classes entries.now) (depth_at entries.now) }

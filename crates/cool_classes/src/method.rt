@@ -1,4 +1,4 @@
-//! Methods and attributes, named by where they stand.
+//! Methods and attributes, identified by class and index.
 
 use crate::class_id::ClassId;
 

@@ -37,7 +37,7 @@ pub(crate) struct OwnNames {
     pub(crate) attributes: FirstNames,
 }
 
-/// The names of classes and of their features. `Err` comes only for want of memory.
+/// The names of classes and of their features. Returns `Err` only if memory runs out.
 pub(crate) fn names_of<'a>(
     alloc: Global,
     entries: &'a [Entry],
@@ -55,7 +55,7 @@ pub(crate) fn names_of<'a>(
     })
 }
 
-/// The names of the features of each class. `Err` comes only for want of memory.
+/// The names of the features of each class. Returns `Err` only if memory runs out.
 fn all_own_names(alloc: Global, entries: &[Entry]) -> Result<Vec<OwnNames>, AllocError>
     requires few_features { (c : number.ClassId) → c.0 < length (classes entries.now) → length (features_of (classes entries.now) c) < 2 ^ 32 }
     ensures { IfOk result (λ all. AreAllOwn (length entries.now) all.items (classes entries.now)) }
@@ -67,7 +67,7 @@ fn all_own_names(alloc: Global, entries: &[Entry]) -> Result<Vec<OwnNames>, Allo
     Ok(all)
 }
 
-/// The names of the features of a class. `Err` comes only for want of memory.
+/// The names of the features of a class. Returns `Err` only if memory runs out.
 fn own_names(alloc: Global, features: &[Feature]) -> Result<OwnNames, AllocError>
     requires few { length features.now < 2 ^ 32 }
     ensures { IfOk result (λ own. AreOwn own features.now) }
@@ -82,7 +82,7 @@ fn own_names(alloc: Global, features: &[Feature]) -> Result<OwnNames, AllocError
     Ok(own)
 }
 
-/// Notes the name of the next feature. `Err` comes only for want of memory.
+/// Notes the name of the next feature. Returns `Err` only if memory runs out.
 fn add_feature(
     alloc: Global,
     own: &mut OwnNames,

@@ -29,7 +29,7 @@ impl Path {
         }
     }
 
-    /// Adds a definition. `Err` comes only for want of memory.
+    /// Adds a definition. Returns `Err` only if memory runs out.
     pub(crate) fn push(&mut self, class: usize) -> Result<(), AllocError>
         ensures { OnOk result (self.new ≡ class ∷ self.old) }
     {

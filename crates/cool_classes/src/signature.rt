@@ -1,4 +1,4 @@
-//! What features declare: the types of the formals and the results of methods, and of attributes.
+//! The declarations of features: the types of the formals and the results of methods, and of attributes.
 
 ghost use Rattle.std.specs.Prelude.{◌≡◌, ◌<◌, List, [], length, get_or};
 ghost use Rattle.cool_classes.specs.declared.entry.Entry as entry;
@@ -16,7 +16,7 @@ use crate::method::{AttributeRef, MethodRef};
 use crate::self_type::is_self_type;
 use cool_syntax::Feature;
 
-/// How many formals a method has.
+/// The number of formals of a method.
 pub(crate) fn formal_count(entries: &[Entry], method: MethodRef) -> u32
     requires whole { AreWhole entries.now }
     requires has { HasMethod (classes entries.now) method }

@@ -1,4 +1,4 @@
-//! The faults of what features declare: types, formals, and methods that are defined again (the Cool manual, sections 5 and 6).
+//! The faults of declarations: types, formals, and methods that are defined again (the Cool manual, sections 5 and 6).
 
 ghost use Rattle.std.specs.Prelude.{◌≡◌, ℕ, ◌<◌, ◌^◌, ◌++◌, List, [], ◌∷◌, length, Option, OnOk};
 ghost use Rattle.cool_classes.specs.Features.{HasMethod};
@@ -16,7 +16,7 @@ use crate::self_type::is_self_type;
 use cool_syntax::{Formal, MethodDef, Place, TypeRef};
 use std::alloc::{AllocError, Global};
 
-/// Notes a fault where a test holds. `Err` comes only for want of memory.
+/// Notes a fault where a test holds. Returns `Err` only if memory runs out.
 pub(crate) fn note(
     faults: &mut Vec<ClassFault>,
     holds: bool,
@@ -31,7 +31,7 @@ pub(crate) fn note(
     Ok(())
 }
 
-/// Notes a type that is neither a class nor `SELF_TYPE` (F6). `Err` comes only for want of memory.
+/// Notes a type that is neither a class nor `SELF_TYPE` (F6). Returns `Err` only if memory runs out.
 pub(crate) fn note_type(
     faults: &mut Vec<ClassFault>,
     table: &TableNames<'_>,
@@ -45,7 +45,7 @@ pub(crate) fn note_type(
     note(faults, !known, ClassKind::F6, declared.at)
 }
 
-/// Notes the faults of formals. `Err` comes only for want of memory.
+/// Notes the faults of formals. Returns `Err` only if memory runs out.
 pub(crate) fn note_formals(
     alloc: Global,
     faults: &mut Vec<ClassFault>,
@@ -65,7 +65,7 @@ pub(crate) fn note_formals(
     Ok(())
 }
 
-/// Notes the faults of a formal after those of these names (F3 to F6). `Err` comes only for want of memory.
+/// Notes the faults of a formal after those of these names (F3 to F6). Returns `Err` only if memory runs out.
 fn note_formal(
     faults: &mut Vec<ClassFault>,
     table: &TableNames<'_>,

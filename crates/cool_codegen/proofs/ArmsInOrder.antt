@@ -45,7 +45,7 @@ module _ {S : Type 0} where
   put_in [] (suc k) x = refl
   put_in (y ∷ ys) (suc k) x = ap (λ zs. branch_of y ∷ zs) (put_in ys k x)
 
-  -- what all branches have, all have with one more that has it
+  -- if all branches satisfy `P`, and one more does, all with that one do
   pub all_put : (P : Branch S → Type 0) (bs : List (Branch S)) (b : Branch S) → AllByRecursion P bs → P b → AllByRecursion P (with_branch bs b)
   all_put P [] b h k = (k, tt)
   all_put P (a ∷ bs) b h k = by (nat_lt a.arm.depth b.arm.depth) (all_put P bs b h.1 k)

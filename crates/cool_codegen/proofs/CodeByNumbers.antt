@@ -1,4 +1,4 @@
--- What the expression at a number is, is what its node is by the numbers of its parts: the lines, the constants after them, the size.
+-- The code of the expression at a number, computed from its node by the numbers of its parts: the lines, the constants after them, the size.
 use Rattle.std.proofs.Common.{◌≡◌, ℕ, ◌+◌, List, [], ◌∷◌, ◌++◌, Some, length, map, refl, sym, ◌∙◌, ap, subst, arith}
 use Rattle.std.specs.Prelude.{slice_get, codes}
 use Rattle.std.proofs.lemmas.Option.{same_Some}
@@ -55,7 +55,7 @@ same_strings t g ns (b ∷ bs) e = (
 pub stable : (s : Context) (t g : Constants) (vs : List Named) (d k : ℕ) (e : Tree) → Extends (after t (integers_in e) (strings_in s.files e)) g → code s g vs d k e ≡ code s (after t (integers_in e) (strings_in s.files e)) vs d k e
 stable s t g vs d k e x = agrees s g (after t (integers_in e) (strings_in s.files e)) e vs d k (same_integers t g (integers_in e) (strings_in s.files e) x) (same_strings t g (integers_in e) (strings_in s.files e) x)
 
--- what a tree that stands in a body is, is what the expression at the number of its root is
+-- a tree that stands in a body is the expression at the number of its root
 pub asked_is : (files : List (List ℕ)) (b : Tree) (t : Constants) (k : ℕ) (e : Tree) → Stands (nodes 0 b) k e → after t (integers_in e) (strings_in files e) ≡ asked_at files b t (root k e)
 unfolding asked_at
 asked_is files b t k e s = λ i. after t (integers_in (sym (tree_there b k e s) i)) (strings_in files (sym (tree_there b k e s) i))

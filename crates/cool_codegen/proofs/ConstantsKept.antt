@@ -1,4 +1,4 @@
--- A table keeps the numbers of the constants of another one exactly where it goes on from it, as it does when one more is asked for.
+-- A table keeps the numbers of the constants of another one exactly if it extends it, as it does when one more is asked for.
 use Rattle.std.proofs.Common.{◌≡◌, ℕ, suc, ◌<◌, ◌≤◌, List, [], ◌∷◌, ◌++◌, length, refl, sym, ◌∙◌, ap, subst, arith, length-append}
 use Rattle.std.specs.Prelude.{slice_get}
 use Rattle.cool_consts.specs.Constants.{Constants, with_integer, with_string}
@@ -6,7 +6,7 @@ use Rattle.cool_codegen.specs.Asked.{Extends, Keeps}
 use Rattle.cool_codegen.proofs.NumbersAgree.{extends_before, extends_same}
 use Rattle.lists.proofs.ItemsAt.{front_get}
 
--- what stands after a list whose elements are all there
+-- the rest of a list after one whose elements are all there
 behind : {X : Type 0} (xs ys : List X) → length xs ≤ length ys → ((k : ℕ) → k < length xs → slice_get ys k ≡ slice_get xs k) → (rest : List X) × (ys ≡ xs ++ rest)
 behind [] ys l h = (ys, refl)
 behind (x ∷ xs) [] l h = absurd (omega arith)

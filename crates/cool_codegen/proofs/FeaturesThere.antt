@@ -14,7 +14,7 @@ use Rattle.cool_classes.specs.Chains.{Class, features_of}
 use Rattle.cool_rules.specs.Fits.{Fits}
 use Rattle.lists.proofs.AllItems.{all_get}
 
--- what stands at a place
+-- the element at a place
 pub stands : {X : Type 0} (xs ys : List X) (k : ℕ) (x : X) → ys ≡ xs → k < length xs → x ≡ get_or ys k x → slice_get xs k ≡ Some x
 stands {X = X} xs ys k x same less is =
     let there : x ≡ get_or xs k x = subst (λ (zs : List X). x ≡ get_or zs k x) same is in

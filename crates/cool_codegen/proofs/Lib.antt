@@ -6,7 +6,7 @@ mod CodeByNumbers
 mod ConstantsKept
 pub mod NumbersAgree
 mod ScopesOfFeatures
-mod ArmsInOrder
+pub mod ArmsInOrder
 mod SpansNoted
 mod SpansByNumbers
 mod LinesAlone

@@ -1,4 +1,4 @@
--- The spans of code that begins so much later are those of the code, moved on by as much.
+-- The spans of code that begins n lines later are those of the code, moved by n.
 use Rattle.std.proofs.Common.{◌≡◌, ℕ, ◌+◌, List, [], ◌∷◌, ◌++◌, map, refl, ap, ap₂, ◌∙◌, arith}
 use Rattle.std.specs.Prelude.{if◌then◌else◌, codes}
 use Rattle.std.specs.List.{AllByRecursion}

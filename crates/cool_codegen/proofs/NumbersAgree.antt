@@ -1,5 +1,5 @@
--- Code names constants by their numbers: two tables that number alike what an expression asks for give it one code. A table with more
--- constants after its own numbers what was asked for as before.
+-- Code names constants by their numbers: an expression has the same code by two tables that give its constants the same numbers. A table with more
+-- constants after its own keeps the numbers of those that were asked for.
 use Rattle.std.proofs.Common.{◌≡◌, ℕ, ◌+◌, List, [], ◌∷◌, ◌++◌, refl, sym, ◌∙◌, ap, append_assoc, append-nil}
 use Rattle.std.specs.Prelude.{codes, length, nat_eq, bytes_eq, if◌then◌else◌, Bool, true, false}
 use Rattle.std.specs.List.{AllByRecursion, position_or_len, list_any}
@@ -46,7 +46,7 @@ strings_left g h xs ys a = all_left (λ b. string_label g b ≡ string_label h b
 strings_right : (g h : Constants) (xs ys : List (List ℕ)) → SameStrings g h (xs ++ ys) → SameStrings g h ys
 strings_right g h xs ys a = all_right (λ b. string_label g b ≡ string_label h b) xs ys a
 
--- an operation names the file of its place alone
+-- an operation names only the file of its place
 operation_agrees : (s : Context) (g h : Constants) (op : ArithOp) (at : Place) (id : NodeId) → file_label s g at ≡ file_label s h at → arith_code s g op at id ≡ arith_code s h op at id
 operation_agrees s g h arith_op.Add at id e = simp e refl
 operation_agrees s g h arith_op.Sub at id e = simp e refl

@@ -1,4 +1,4 @@
--- What an operation asks for: the name of its file, for a division twice.
+-- The constants that an operation asks for: the name of its file, for a division twice.
 use Rattle.std.proofs.Common.{◌≡◌, ℕ, List, []}
 use Rattle.std.specs.Prelude.{get_or}
 use Rattle.cool_syntax.specs.declared.place.Place.{Place}

@@ -1,4 +1,4 @@
--- What code was added in a setting is the same in one that is equal, with equal constants before it and equal names in scope.
+-- Code that was added in a setting is the same in an equal one, with equal constants before it and equal names in scope.
 use Rattle.std.proofs.Common.{◌≡◌, ℕ, List, length, subst}
 use Rattle.std.specs.Prelude.{Result}
 use Rattle.std.specs.Global.{Vec}

@@ -1,5 +1,4 @@
--- What the spans of the expression at a number show is what those of its tree show, and by the numbers of its parts its own span and theirs.
--- They lie within its lines.
+-- The spans of the expression at a number are those of its tree, and consist of its own span and those of its parts. They lie within its lines.
 use Rattle.std.proofs.Common.{◌≡◌, ℕ, ◌+◌, ◌≤◌, List, [], ◌∷◌, ◌++◌, Some, length, map, Bool as Truth, true, false, refl, sym, ◌∙◌, ap, arith}
 use Rattle.std.specs.Prelude.{if◌then◌else◌, nat_lt, slice_get, codes}
 use Rattle.std.specs.List.{AllByRecursion}
@@ -106,7 +105,7 @@ module _ (s : Context) (b : Tree) where
   many_initial t vs d k type Without there = refl
   many_initial t vs d k type (With e) there = many_at t no_constants vs d k e there
 
-  -- what a span shows that is moved
+  -- a moved span, as it is shown
   later_shown : (n : ℕ) (xs : List Span) → map (later n) (map (shown s no_constants) xs) ≡ map (shown s no_constants) (map (moved n) xs)
   later_shown n [] = refl
   later_shown n (x ∷ xs) =
@@ -169,7 +168,7 @@ module _ (s : Context) (b : Tree) where
       }))
 
   module _ (t : Constants) (vs : List Named) (d k : ℕ) (before : List Line) where
-    -- where the code of a tree ends, by the lines of its node
+    -- the end of the code of a tree, by the lines of its node
     ends : (e : Tree) → Stands (nodes 0 b) k e → length before + length (code s no_constants vs d k e) ≡ length (before ++ node_lines s b t vs d (root k e) (top k e))
     ends e there =
         omega (
@@ -185,7 +184,7 @@ module _ (s : Context) (b : Tree) where
         ≡ whole vs d (length before) (length (before ++ node_lines s b t vs d (root k e) (top k e))) e ∷ ys
     own e there xs ys h = λ i. whole vs d (length before) (ends e there i) e ∷ h i
 
-    -- those of the arguments of a call, and of its receiver
+    -- the spans of the arguments of a call, and of its receiver
     call_spanned : (e : Tree) (ts : Trees) → Stands (nodes 0 b) k e → Lies (nodes 0 b) (k + tree_size e) (nodes_of_all (k + tree_size e) ts)
         → map (shown s no_constants) (of_trees.arguments_spans length s no_constants vs d (k + tree_size e) (length before) ts ++ spans length s no_constants vs (d + trees_count ts) k (length before + length (arguments_code s no_constants vs d (k + tree_size e) ts)) e)
         ≡ arguments_spans Spans s b t vs d before (roots (k + tree_size e) ts)
@@ -311,14 +310,14 @@ within_at s b t vs d from most id fits =
     each [] h = tt
     each (x ∷ xs) h = (((let f = h.0 in omega arith), h.0), each xs h.1)
 
--- what is noted of them lies within, and so does nothing
+-- the spans that are noted lie within the lines; so it is if none is noted
 noted_within : (want : Wanted) (s : Context) (b : Tree) (t : Constants) (vs : List Named) (d from most : ℕ) (id : NodeId) → from + length (lines_at s b t vs d id) ≤ most
     → AllByRecursion (λ x. (x.from ≤ most) × (x.to ≤ most)) (spans_at want s b vs d from id)
 unfolding spans_at
 noted_within Lines s b t vs d from most id fits = tt
 noted_within Spans s b t vs d from most id fits = within_at s b t vs d from most id fits
 
--- those of a branch within the lines of the branch, and so in all branches
+-- the spans of a branch lie within the lines of the branch, and so in all branches
 pub branches_within : (want : Wanted) (s : Context) (b : Tree) (t : Constants) (vs : List Named) (d : ℕ) (end : Name) (before : List (Branch (List Shown))) (ws : List NodeBranch)
     → AllByRecursion IsWithin before → AllByRecursion IsWithin (branches_made want s b t vs d end before ws)
 branches_within want s b t vs d end before [] h = h

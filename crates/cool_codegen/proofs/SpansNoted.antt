@@ -28,7 +28,7 @@ replaced xs before rest x n y to has number is within =
     ap shown_of is ∙ sym (get_or-map shown_of xs n y x within) ∙ (λ i. get_or (has i) (sym number i) x) ∙ get_or-append_seam before x rest x in
     map-set shown_of xs n (until to y) ∙ (λ i. slice_set (has i) (sym number i) (ended to (there i))) ∙ set-append_seam before x rest (ended to x)
 
--- where spans are wanted, the number of one that was noted, whatever was noted behind it
+-- if spans are wanted, the number of one that was noted, whatever was noted behind it
 pub noted_there : (want : Wanted) (xs ys zs : List declared_span.Span) (n : ℕ) (x : Shown) (more : List Shown)
     → n ≡ length xs → map shown_of ys ≡ map shown_of xs ++ noted want (x ∷ []) → map shown_of zs ≡ map shown_of ys ++ more → want ≡ Spans → n < length zs
 noted_there want xs ys zs n x more number begun behind spans =

@@ -1,4 +1,4 @@
--- Each span is the code of its tree: whatever lines have that their parts have too, where those begin, the code of each span has.
+-- Each span is the code of its tree. A property that lines from an address on have, and with them their parts, holds for the code of each span.
 use Rattle.std.proofs.Common.{◌≡◌, ℕ, ◌+◌, List, [], ◌∷◌, ◌++◌, map as each, ap, refl, ◌∙◌, subst}
 use Rattle.std.specs.Prelude.{if◌then◌else◌, codes, flat_map, Option, Some, None}
 use Rattle.std.specs.List.{AllByRecursion}
@@ -25,7 +25,7 @@ use Rattle.lists.proofs.AllItems.{all_append}
 use Rattle.cool_codegen.proofs.ArmsInOrder.{all_put, arm_put}
 use Rattle.cool_codegen.specs.Spans.{Span, code_of, spans, arguments_spans, items_spans, initial_spans, Spanned, with_branch, branches, along, initial_value_spans, feature_spans}
 
--- what is said of lines from an address on, and with them of their parts
+-- a property of lines from an address on, and with them of their parts
 module _ (size : List Line → ℕ) (P : ℕ → List Line → Type 0)
     (front : (xs ys : List Line) (pc : ℕ) → P pc (xs ++ ys) → P pc xs)
     (back : (xs ys : List Line) (pc : ℕ) → P pc (xs ++ ys) → P (pc + size xs) ys)
@@ -34,7 +34,7 @@ module _ (size : List Line → ℕ) (P : ℕ → List Line → Type 0)
     abbrev pub Stands : Span → Type 0
     Stands x = P x.from (code_of s g x)
 
-    -- of a branch, wherever it begins
+    -- the spans of a branch, wherever it begins
     abbrev Fits : Spanned → Type 0
     Fits b = (pc : ℕ) → P pc b.arm.lines → AllByRecursion Stands (b.inside pc)
 
@@ -160,7 +160,7 @@ module _ (size : List Line → ℕ) (P : ℕ → List Line → Type 0)
     law_initial_value pc None has = tt
     law_initial_value pc (Some t) has = law_spans (attributes_in s.table s.class) 0 0 pc t (front (code s g (attributes_in s.table s.class) 0 0 t) _ pc has)
 
-    -- of a feature
+    -- the spans of a feature
     pub law_feature : (pc : ℕ) (f : Feature) → P pc (feature_code s g f) → AllByRecursion Stands (feature_spans size s g pc f)
     law_feature pc (Method m) has =
         let mark = mark_lines (method_label s.table (User s.class s.feature)) in

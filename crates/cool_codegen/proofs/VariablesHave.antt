@@ -19,7 +19,7 @@ found_in_scope (v ∷ vs) name = by (bytes_eq v.name name) (found_in_scope vs na
     by true same = refl
     by false same = same
 
--- where variables have types of a table, their names in scope have them
+-- if variables have types of a table, their names in scope have them
 pub types_in_scope : (p : List Class) (vs : List Named) → HaveTypes p vs → AllByRecursion (λ (b : scopes.Binding). IsType p b.value) (scope_of vs)
 types_in_scope p [] h = tt
 types_in_scope p (v ∷ vs) h = (h.0, types_in_scope p vs h.1)

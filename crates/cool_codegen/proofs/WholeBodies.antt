@@ -1,4 +1,4 @@
--- What is said of the expression at the number of a body's root, said of the body.
+-- The lemmas about the expression at a number, stated for a whole body, at its root.
 use Rattle.std.proofs.Common.{◌≡◌, ℕ, ◌+◌, List, [], ◌∷◌, length, map, ap, sym, subst, refl, ◌∙◌}
 use Rattle.cool_syntax.specs.declared.node.NodeId.{NodeId}
 use Rattle.cool_syntax.specs.Tree.{Tree, tree_size}
@@ -32,12 +32,12 @@ pub whole_lines : (s : Context) (b : Tree) (t g : Constants) (vs : List Named) (
 whole_lines s b t g vs id e x =
     ap (lines_at s b t vs 0) e ∙ sym (lines_is s b t g vs 0 0 b (whole_stands (nodes 0 b)) (subst (λ (u : Constants). Extends u g) (whole_asked s.files b t id e) x))
 
--- what spans show is the same by each table of constants
+-- shown spans are the same by each table of constants
 shown_same : (s : Context) (g u : Constants) (xs : List Span) → map (shown s g) xs ≡ map (shown s u) xs
 shown_same s g u [] = refl
 shown_same s g u (x ∷ xs) = λ i. whole x.scope x.depth x.from (x.from + as_many_lines s g u x.scope x.depth x.first x.tree i) x.tree ∷ shown_same s g u xs i
 
--- what is noted of its spans is what those of the body show by each table
+-- the spans that are noted are those that the body shows by each table
 pub whole_spans : (want : Wanted) (s : Context) (b : Tree) (g : Constants) (vs : List Named) (from : ℕ) (id : NodeId) → id ≡ root 0 b → spans_at want s b vs 0 from id ≡ noted want (map (shown s g) (spans length s g vs 0 0 from b))
 unfolding spans_at
 whole_spans Lines s b g vs from id e = refl

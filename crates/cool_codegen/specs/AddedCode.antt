@@ -1,4 +1,4 @@
--- What a part of a body asks for before its code is made, and what the code adds to the lines and to the constants.
+-- The precondition for making the code of a part of a body, and the lines and constants that the code adds.
 use Rattle.std.specs.Prelude.{◌≡◌, ℕ, ◌+◌, ◌*◌, ◌-◌, ◌^◌, ◌<◌, ◌≤◌, List, ◌++◌, length, map, Result, IfOk, OnOk}
 use Rattle.std.specs.List.{AllByRecursion}
 use Rattle.mips_isa.specs.Lines.{Line, lines_of}
@@ -78,15 +78,15 @@ pub record CanName (s : CodeSetting) (t : Constants) (at : Place) : Type 0 where
   pub few : length t.strings + 2 < 2 ^ 32 - 1
   pub file : at.file < length s.names.now
 
--- But for the spans, code is as before.
+-- Code is as before, except for the spans.
 pub record NotesAlone (before after : Code) : Type 0 where
   pub setting : after.setting ≡ before.setting
   pub scope : after.variables ≡ before.variables
   pub lines : after.lines ≡ before.lines
   pub consts : after.consts ≡ before.consts
 
--- Code of a feature was made with these names in scope in all of it, whose lines are the same by each table that goes on from the constants
--- after it, and what is noted of its spans by each table.
+-- Code of a feature was made with these names in scope in all of it. Its lines are the same by each table that goes on from the constants after it, and
+-- its noted spans are the same by each table.
 pub record MakesCode {E : Type 0} (s : CodeSetting) (code : Constants → List Line) (shows : Constants → List Shown) (variables : List Named) (t u : Constants) (result : Result FeatureCode E) : Type 0 where
   pub lines : IfOk result (λ made. (g : Constants) → Extends u g → lines_of made.lines.items ≡ code g)
   pub spans : IfOk result (λ made. (g : Constants) → map shown_of made.spans.items ≡ noted s.wanted (shows g))

@@ -1,9 +1,9 @@
--- The branches of a case in the order in which they are tried: those of deeper classes first, and else in the order of the text.
+-- The branches of a case in the order in which they are tried: those of deeper classes first, and otherwise in the order of the text.
 use Rattle.std.specs.Prelude.{ℕ, List, [], ◌∷◌, nat_lt, if◌then◌else◌, flat_map}
 use Rattle.mips_isa.specs.Lines.{Line, lines_of}
 use Rattle.cool_codegen.specs.declared.arm.Arm as declared_arm
 
--- the lines of a branch, and how many classes stand above its class
+-- the lines of a branch, and the number of classes above its class
 pub record Arm : Type 0 where
   pub depth : ℕ
   pub lines : List Line

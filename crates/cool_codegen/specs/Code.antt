@@ -37,7 +37,7 @@ use Rattle.cool_rules.specs.Meant.{method_in}
 use Rattle.cool_codegen.specs.Types.{is_self, class_meant, trees_count}
 use Rattle.cool_codegen.specs.Arms.{Arm, with_arm, arms_lines}
 
--- where an expression stands: in which feature of which class, and the names of the files
+-- the context of an expression: its feature and class, and the names of the files
 pub record Context : Type 0 where
   pub table : List Class
   pub class : ClassId
@@ -86,7 +86,7 @@ abbrev pub new_code : List Class → Ty → List Line
 new_code p SelfType = create_self_lines
 new_code p (IsClass c) = create_lines (prototype p c) (initializer p c)
 
--- what a variable of a type holds where it is given no value
+-- the default value of a variable of a type
 abbrev pub default_of_class : ℕ → List Line
 default_of_class c =
     if nat_eq c 2 then take_lines default_int else if nat_eq c 3 then take_lines false_constant
@@ -199,7 +199,7 @@ abbrev mutual
   items_code s g vs d k Last = []
   items_code s g vs d k (More t ts) = code s g vs d k t ++ items_code s g vs d (k + tree_size t) ts
 
-  -- an initial value, or what a variable of this type holds without one
+  -- an initial value, or the default value of a variable of this type
   pub initial_code : Context → Constants → List Named → ℕ → ℕ → Ty → MaybeTree → List Line
   initial_code s g vs d k type Without = default_code type
   initial_code s g vs d k type (With t) = code s g vs d k t

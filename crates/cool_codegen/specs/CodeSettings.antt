@@ -1,4 +1,4 @@
--- In what the code of an expression is made: a class of a whole table, and the layout of that table.
+-- The settings in which the code of an expression is made: a class of a whole table, and the layout of that table.
 use Rattle.std.specs.Prelude.{◌≡◌, ◌<◌, List, length, map, string_bytes}
 use Rattle.std.specs.List.{AllByRecursion}
 use Rattle.cool_classes.specs.Chains.{Class}

@@ -1,5 +1,5 @@
--- Expressions by the numbers of their nodes in a body: their lines, what the spans of these show, the constants after them and their sizes,
--- as functions of the numbers, and the same for a node by the numbers of its parts. Lines name constants by the table after the expression.
+-- Expressions by the numbers of their nodes in a body: their lines, the spans of these as they are shown, the constants after them and their sizes, as
+-- functions of the numbers, and the same for a node by the numbers of its parts. Lines name constants by the table after the expression.
 use Rattle.std.specs.Prelude.{ℕ, ◌+◌, ◌-◌, List, [], ◌∷◌, ◌++◌, length, map, codes, Option, Some, None, get_or}
 use Rattle.cool_syntax.specs.declared.place.Place.{Place}
 use Rattle.cool_syntax.specs.declared.operator.ArithOp.{ArithOp}
@@ -150,19 +150,19 @@ no_constants = record { integers = []; strings = [] }
 
 -- lines: after a table, which names constants by the table after the expression
 
--- how many nodes stand before the expression at a number
+-- the number of nodes before the expression at a number
 abbrev pub nodes_before : Tree → NodeId → ℕ
 nodes_before b id = id.0 + 1 - tree_size (tree_at b id)
 
 unfoldable pub lines_at : Context → Tree → Constants → List Named → ℕ → NodeId → List Line
 lines_at s b t vs d id = code s (asked_at s.files b t id) vs d (nodes_before b id) (tree_at b id)
 
--- those of expressions in order
+-- the lines of expressions in order
 abbrev pub items_lines : Context → Tree → Constants → List Named → ℕ → List NodeId → List Line
 items_lines s b t vs d [] = []
 items_lines s b t vs d (id ∷ ids) = lines_at s b t vs d id ++ items_lines s b (asked_at s.files b t id) vs d ids
 
--- those of arguments, each of which goes to the stack
+-- the lines of arguments, each of which goes to the stack
 abbrev pub arguments_lines : Context → Tree → Constants → List Named → ℕ → List NodeId → List Line
 arguments_lines s b t vs d [] = []
 arguments_lines s b t vs d (id ∷ ids) = lines_at s b t vs d id ++ (push_lines ++ arguments_lines s b (asked_at s.files b t id) vs (d + 1) ids)
@@ -171,17 +171,17 @@ abbrev pub initial_lines : Context → Tree → Constants → List Named → ℕ
 initial_lines s b t vs d type None = default_code type
 initial_lines s b t vs d type (Some id) = lines_at s b t vs d id
 
--- those of a branch
+-- the lines of a branch
 abbrev pub branch_lines : Context → Tree → Constants → List Named → ℕ → Name → NodeBranch → List Line
 branch_lines s b t vs d end w =
     range_code s (class_of_branch s w) (label_at s (codes "next") w.body)
     ++ (lines_at s b t (within_branch s vs d w) (d + 1) w.body ++ turn_lines end (label_at s (codes "next") w.body))
 
--- what is noted of the spans of an expression whose code begins behind so many lines: the same by each table of constants, and so by none
+-- the noted spans of an expression whose code begins behind so many lines: the same by each table of constants, and so by none
 unfoldable pub spans_at : Wanted → Context → Tree → List Named → ℕ → ℕ → NodeId → List Shown
 spans_at want s b vs d from id = noted want (map (shown s no_constants) (spans length s no_constants vs d (nodes_before b id) from (tree_at b id)))
 
--- those in a branch that stands behind lines
+-- the spans in a branch that stands behind lines
 abbrev pub branch_spans : Wanted → Context → Tree → List Named → ℕ → List Line → NodeBranch → List Shown
 branch_spans want s b vs d before w =
     spans_at want s b (within_branch s vs d w) (d + 1) (length (before ++ range_code s (class_of_branch s w) (label_at s (codes "next") w.body))) w.body
@@ -270,11 +270,11 @@ abbrev pub initial_spans : Wanted → Context → Tree → List Named → ℕ �
 initial_spans want s b vs d before None = []
 initial_spans want s b vs d before (Some id) = spans_at want s b vs d (length before) id
 
--- those of two operands, the left one of which goes to the stack
+-- the spans of two operands, the left one of which goes to the stack
 abbrev pub operands_spans : Wanted → Context → Tree → Constants → List Named → ℕ → List Line → NodeId → NodeId → List Shown
 operands_spans want s b t vs d before l r = spans_at want s b vs d (length before) l ++ spans_at want s b vs (d + 1) (length ((before ++ lines_at s b t vs d l) ++ push_lines)) r
 
--- those of the parts of a node
+-- the spans of the parts of a node
 abbrev pub node_spans : Wanted → Context → Tree → Constants → List Named → ℕ → List Line → NodeId → Node → List Shown
 node_spans want s b t vs d before id (node.Assign at name a) = spans_at want s b vs d (length before) a
 node_spans want s b t vs d before id (node.Dispatch at a name ids) =
@@ -308,6 +308,6 @@ node_spans want s b t vs d before id (node.Int at value) = []
 node_spans want s b t vs d before id (node.Str at bytes) = []
 node_spans want s b t vs d before id (node.Bool at value) = []
 
--- that of a node itself
+-- the span of a node itself
 abbrev pub own_span : Context → Tree → Constants → List Named → ℕ → List Line → NodeId → Node → Shown
 own_span s b t vs d before id n = whole vs d (length before) (length (before ++ node_lines s b t vs d id n)) (made (all_trees b) n)

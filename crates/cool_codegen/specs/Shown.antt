@@ -1,5 +1,6 @@
--- What the spans of code show: of each expression its place and its form, the lines of its feature from the first of its code to behind the
--- last, how many words are pushed in the frame where it begins, how many names are in scope there, and the one that was entered last.
+-- The data shown by the spans of code. Each span has the place and the form of an expression, and the lines of its feature from the first of its code to
+-- behind the last. It also has the number of words that are pushed in the frame where it begins, the number of names in scope there, and the name that was
+-- entered last.
 use Rattle.std.specs.Prelude.{ℕ, ◌+◌, ◌≤◌, List, [], ◌∷◌, ◌++◌, length, map, slice_get, Option}
 use Rattle.std.specs.List.{AllByRecursion}
 use Rattle.std.specs.Global.{Vec}
@@ -50,15 +51,15 @@ pub record Shown : Type 0 where
   pub names : ℕ
   pub latest : Option Named
 
--- of a tree whose code stands from a line to another, with these names in scope
+-- the span of a tree whose code stands from a line to another, with these names in scope
 abbrev pub whole : List Named → ℕ → ℕ → ℕ → Tree → Shown
 whole vs d from to t = record { at = place_of t; form = form_of t; from = from; to = to; depth = d; names = length vs; latest = slice_get vs 0 }
 
--- what a span shows, by lines
+-- the data shown by a span, by lines
 abbrev pub shown : Context → Constants → Span → Shown
 shown s g x = whole x.scope x.depth x.from (x.from + length (code_of s g x)) x.tree
 
--- the same, but for the end
+-- the same, except for the end
 abbrev pub ended : ℕ → Shown → Shown
 ended to x = record { at = x.at; form = x.form; from = x.from; to = to; depth = x.depth; names = x.names; latest = x.latest }
 
@@ -66,7 +67,7 @@ ended to x = record { at = x.at; form = x.form; from = x.from; to = to; depth = 
 abbrev pub later : ℕ → Shown → Shown
 later n x = record { at = x.at; form = x.form; from = n + x.from; to = n + x.to; depth = x.depth; names = x.names; latest = x.latest }
 
--- what a span that was noted shows
+-- the data shown by a span that was noted
 abbrev pub shown_of : declared_span.Span → Shown
 shown_of x = record {
   at = x.at;
@@ -78,7 +79,7 @@ shown_of x = record {
   latest = option_map binding_of x.latest;
 }
 
--- what is noted of spans: all where they are wanted, and nothing where lines alone are
+-- the spans that are noted: all if they are wanted, and none if only lines are
 abbrev pub noted : Wanted → List Shown → List Shown
 noted Lines xs = []
 noted Spans xs = xs

@@ -1,6 +1,6 @@
--- The spans of code: for each expression within a tree, where its code begins, and the names in scope there, the depth, and the number of
--- nodes before it. By the same recursion as the code. What is counted up to there is a measure of lines: their number (`length`), or the
--- bytes of text that they take (`sizes`), by which the place where the whole begins is a line or an address.
+-- The spans of code: for each expression within a tree, where its code begins, and the names in scope there, the depth, and the number of nodes before it.
+-- They are computed by the same recursion as the code. The count up to there is a measure of lines: their number (`length`), or the bytes of text that
+-- they take (`sizes`), by which the place where the whole begins is a line or an address.
 use Rattle.std.specs.Prelude.{◌≡◌, refl, ℕ, ◌+◌, List, [], ◌∷◌, ◌++◌, length, codes, nat_lt, if◌then◌else◌, Option, Some, None}
 use Rattle.cool_syntax.specs.declared.place.Place.{Place}
 use Rattle.cool_syntax.specs.declared.operator.ArithOp.TheVariants.{Add}
@@ -60,7 +60,7 @@ abbrev pub span : List Named → ℕ → ℕ → ℕ → Tree → Span
 span vs d k pc t = record { from = pc; tree = t; scope = vs; depth = d; first = k }
 
 module _ (size : List Line → ℕ) where
-  -- what is within parts whose code stands one behind the other, by where each begins
+  -- the contents of parts whose code stands one behind the other, by where each begins
   abbrev pub along : {X Y : Type 0} → (X → List Line) → (ℕ → X → List Y) → ℕ → List X → List Y
   along code_of inside pc [] = []
   along code_of inside pc (x ∷ xs) = inside pc x ++ along code_of inside (pc + size (code_of x)) xs

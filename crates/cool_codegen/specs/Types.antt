@@ -1,4 +1,4 @@
--- What names and lists mean in code: a name that is `self`, the class that a name means, and how many arguments there are.
+-- The meanings of names and lists in code: a name that is `self`, the class that a name means, and the number of arguments.
 use Rattle.std.specs.Prelude.{ℕ, ◌+◌, List, bytes_eq, codes, Bool as Truth}
 use Rattle.cool_syntax.specs.Tree.{Trees, Last, More}
 use Rattle.cool_classes.specs.declared.class_id.ClassId.{ClassId}
@@ -13,7 +13,7 @@ is_self name = bytes_eq name (codes "self")
 abbrev pub class_meant : List Class → ClassId → List ℕ → ClassId
 class_meant p c name = class_of c (type_meant p name)
 
--- how many trees there are
+-- the number of trees
 abbrev pub trees_count : Trees → ℕ
 trees_count Last = 0
 trees_count (More t ts) = trees_count ts + 1

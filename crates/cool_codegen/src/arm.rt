@@ -6,7 +6,7 @@ ghost use Rattle.cool_codegen.specs.Spans.{branch_of, with_branch, Branch};
 use mips_isa::Line;
 use std::alloc::AllocError;
 
-/// The lines of a branch, the spans inside it, counted from its first line, and how many classes stand above its class.
+/// The lines of a branch, the spans inside it, counted from its first line, and the number of classes above its class.
 #[derive(Drop)]
 pub struct Arm<S> {
     pub depth: u32,
@@ -23,7 +23,7 @@ pub fn insert_arm<S: Drop>(arms: &mut Vec<Arm<S>>, arm: Arm<S>) -> Result<(), Al
     Ok(())
 }
 
-/// How many branches stand before the first one of a class that is less deep.
+/// The number of branches before the first one of a class that is less deep.
 fn place_among<S>(arms: &[Arm<S>], depth: u32) -> usize
     ensures within { result ≤ length arms.now }
     ensures put { (b : Branch S) → b.arm.depth ≡ depth → with_branch (map branch_of arms.now) b ≡ take result (map branch_of arms.now) ++ b ∷ drop result (map branch_of arms.now) }

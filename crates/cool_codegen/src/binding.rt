@@ -91,7 +91,7 @@ impl<'a> Code<'a> {
         }
     }
 
-    /// Adds the code of an initial value, or what a variable of this type holds without one.
+    /// Adds the code of an initial value, or of the default value of a variable of this type.
     #[cycle(coding)]
     fn initial(
         &mut self,

@@ -76,7 +76,7 @@ impl<'a> Code<'a> {
         }
     }
 
-    /// Adds the code of arguments, each of which goes to the stack, and answers how many words are then there.
+    /// Adds the code of arguments, each of which goes to the stack, and returns the number of words that are then there.
     #[cycle(coding)]
     fn arguments(&mut self, depth: u32, end: NodeId, args: &[NodeId]) -> Result<u32, AllocError>
         requires args { AreExpressionsOf self.old.setting (scope_of self.old.variables) end args.now }

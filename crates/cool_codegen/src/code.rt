@@ -29,8 +29,8 @@ pub struct Code<'a> {
 }
 
 impl<'a> Code<'a> {
-    /// Notes, where spans are wanted, that the code of a node begins here, at this depth, and answers the number of its span, which ends
-    /// where it begins until `end_span`.
+    /// Notes, if spans are wanted, that the code of a node begins here, at this depth, and returns the number of its span, which ends where it begins
+    /// until `end_span`.
     pub(crate) fn begin_span(&mut self, depth: u32, node: &Node) -> Result<usize, AllocError>
         ensures alone { NotesAlone self.old self.new }
         ensures number { IfOk result (λ number. number ≡ length self.old.spans.items) }
@@ -52,7 +52,7 @@ impl<'a> Code<'a> {
         Ok(number)
     }
 
-    /// Notes, where spans are wanted, that the code whose span has this number ends here.
+    /// Notes, if spans are wanted, that the code whose span has this number ends here.
     pub(crate) fn end_span(&mut self, number: usize)
         requires begun { self.old.setting.wanted ≡ Spans → number < length self.old.spans.items }
         ensures alone { NotesAlone self.old self.new }

@@ -1,4 +1,4 @@
-//! What stays the same while the code of a feature is made, and where classes, methods and attributes stand there.
+//! The constant context of code generation for one feature: classes with their layout, offsets and slots.
 
 ghost use Rattle.std.specs.Prelude.{◌≡◌, ◌<◌, ◌+◌, ◌-◌, ◌*◌, pos, length, unwrap_or, Contains};
 ghost use Rattle.cool_classes.specs.ClimbedChains.{above};
@@ -17,14 +17,14 @@ use cool_rules::NodeTypes;
 use cool_syntax::{Body, Name};
 use std::alloc::Global;
 
-/// What is wanted of a feature: the lines of its code alone, or the spans of its expressions too.
+/// The wanted output for a feature: only the lines of its code, or the spans of its expressions too.
 #[derive(Clone, Copy)]
 pub enum Wanted {
     Lines,
     Spans,
 }
 
-/// What is wanted of a feature, the classes with their layout, the names of the files, the feature, and its expression with the types of its nodes.
+/// The wanted output, the classes with their layout, the names of the files, the feature, and its expression with the types of its nodes.
 #[derive(Clone, Copy)]
 pub struct CodeSetting<'a> {
     pub alloc: Global,
@@ -39,7 +39,7 @@ pub struct CodeSetting<'a> {
 }
 
 impl<'a> CodeSetting<'a> {
-    /// How many classes stand above a class.
+    /// The number of classes above a class.
     pub fn depth(&self, class: ClassId) -> u32
         requires sound { IsSound self.now }
         requires class { class.0 < length self.now.table.now }
@@ -48,7 +48,7 @@ impl<'a> CodeSetting<'a> {
         self.table.depth(class)
     }
 
-    /// Where the method of a name stands in the dispatch table of a class, in bytes.
+    /// The offset of the method of a name in the dispatch table of a class, in bytes.
     pub fn slot_offset(&self, class: ClassId, name: &Name) -> i32
         requires sound { IsSound self.now }
         requires class { class.0 < length self.now.table.now }
@@ -69,7 +69,7 @@ impl<'a> CodeSetting<'a> {
         negative(self.layout.tag(class))
     }
 
-    /// How many tags a class and those below it have.
+    /// The number of tags of a class and those below it.
     pub fn tag_count(&self, class: ClassId) -> i32
         requires sound { IsSound self.now }
         requires class { class.0 < length self.now.table.now }
@@ -78,7 +78,7 @@ impl<'a> CodeSetting<'a> {
         signed(self.layout.last_tag(class) - self.layout.tag(class) + 1)
     }
 
-    /// Where an attribute stands in the objects of the class, in bytes.
+    /// The offset of an attribute in the objects of the class, in bytes.
     pub fn offset(&self, attribute: AttributeRef) -> i32
         requires sound { IsSound self.now }
         requires there { Contains (attributes self.now.table.now self.now.class) attribute }

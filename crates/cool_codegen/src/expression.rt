@@ -21,8 +21,8 @@ use cool_syntax::{Node, NodeId};
 use std::alloc::AllocError;
 
 impl<'a> Code<'a> {
-    /// Adds the code of the expression at this number, which begins and ends with so many words on the stack behind the frame. `Err`
-    /// comes only for want of memory.
+    /// Adds the code of the expression at this number, which begins and ends with so many words on the stack behind the frame. Returns `Err` only if
+    /// memory runs out.
     ///
     /// The functions of the groups are not inlined: so a level of an expression takes no more of the stack than its own group needs.
     #[cycle(coding)]

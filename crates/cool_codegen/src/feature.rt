@@ -43,7 +43,7 @@ use mips_isa::register::S0;
 use std::alloc::{AllocError, Global};
 use std::mem::replace;
 
-/// The code of a feature, the spans of its expressions where they are wanted, and the names in scope in all of it.
+/// The code of a feature, the spans of its expressions if they are wanted, and the names in scope in all of it.
 #[derive(Drop)]
 pub struct FeatureCode<'a> {
     pub lines: Vec<Line>,
@@ -55,7 +55,7 @@ pub struct FeatureCode<'a> {
 /// that computes and stores an initial value; nothing for an attribute without one. The constants that the code names are numbered after
 /// those before. The names are those of the files.
 ///
-/// `Err` comes only for want of memory. The constants are then those before, with perhaps more after them.
+/// Returns `Err` only if memory runs out. The constants are then those before, with perhaps more after them.
 pub fn feature_lines(
     alloc: Global,
     p: &TypedProgram,
@@ -86,7 +86,7 @@ pub fn feature_lines(
 /// The code of a feature of a class, whose lines are those of `feature_lines`, with the span of each of its expressions: the whole before
 /// its parts, and parts in the order of their code. The names are the formals of a method and the attributes of the class.
 ///
-/// `Err` comes only for want of memory. The constants are then those before, with perhaps more after them.
+/// Returns `Err` only if memory runs out. The constants are then those before, with perhaps more after them.
 pub fn feature_code<'a>(
     alloc: Global,
     p: &'a TypedProgram,
@@ -109,9 +109,9 @@ pub fn feature_code<'a>(
     wanted_code(alloc, p, layout, consts, names, c, feature, wanted)
 }
 
-/// The code of a feature of a class, with the spans of its expressions where they are wanted, and with none else.
+/// The code of a feature of a class, with the spans of its expressions if they are wanted, and otherwise with none.
 ///
-/// `Err` comes only for want of memory. The constants are then those before, with perhaps more after them.
+/// Returns `Err` only if memory runs out. The constants are then those before, with perhaps more after them.
 fn wanted_code<'a>(
     alloc: Global,
     p: &'a TypedProgram,
@@ -172,7 +172,7 @@ fn wanted_code<'a>(
     }
 }
 
-/// The code of the whole expression of a feature, behind lines. `Err` comes only for want of memory.
+/// The code of the whole expression of a feature, behind lines. Returns `Err` only if memory runs out.
 ///
 /// The constants stand in the code while it is made, and are put back whether that fails or not.
 fn body_code<'a>(
@@ -271,9 +271,9 @@ fn formal_variables<'a>(
     Ok(())
 }
 
-/// No lines, with room for those of a feature of this expression: for eight of each node, since most features have some seven, and for the begin
-/// and the end. A feature has at most `MOST_TOKENS` nodes, so that is never more than 3.6 MB; one of more lines takes more room as it grows.
-/// `Err` comes only for want of memory.
+/// No lines, with room for those of a feature of this expression: for eight of each node, since most features have some seven, and for the begin and the
+/// end. A feature has at most `MOST_TOKENS` nodes, so that is never more than 3.6 MB; one of more lines takes more room as it grows. Returns `Err` only if
+/// memory runs out.
 fn room_for_lines(alloc: Global, body: &Body) -> Result<Vec<Line>, AllocError>
     ensures none { IfOk result (λ lines. lines.items ≡ []) }
     ensures room { IfOk result (λ lines. vec_capacity lines ≡ 8 * tree_size body.now + 16) }
@@ -281,7 +281,7 @@ fn room_for_lines(alloc: Global, body: &Body) -> Result<Vec<Line>, AllocError>
     Vec::with_capacity(alloc, 8 * body.len() as usize + 16)
 }
 
-/// The code of the method of these formals, whose body the setting has. `Err` comes only for want of memory.
+/// The code of the method of these formals, whose body the setting has. Returns `Err` only if memory runs out.
 fn method_code<'a>(
     setting: &CodeSetting<'a>,
     formals: &'a [Formal],
@@ -312,7 +312,7 @@ fn method_code<'a>(
     Ok(code)
 }
 
-/// The part of an initializer for the attribute whose initial value the setting has. `Err` comes only for want of memory.
+/// The part of an initializer for the attribute whose initial value the setting has. Returns `Err` only if memory runs out.
 fn initial_value_code<'a>(
     setting: &CodeSetting<'a>,
     consts: &mut Consts,

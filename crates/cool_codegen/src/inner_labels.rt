@@ -9,7 +9,7 @@ use crate::label_text::{add_number, text_of};
 use cool_syntax::NodeId;
 use std::alloc::AllocError;
 
-/// The label of a kind at a node. `Err` comes only for want of memory.
+/// The label of a kind at a node. Returns `Err` only if memory runs out.
 pub fn inner_label(setting: &CodeSetting<'_>, kind: &str, id: NodeId) -> Result<Vec<u8>, AllocError>
     ensures { IfOk result (λ label. label.items ≡ label_at (context setting.now) kind.now id) }
 {
@@ -20,7 +20,7 @@ pub fn inner_label(setting: &CodeSetting<'_>, kind: &str, id: NodeId) -> Result<
     Ok(label)
 }
 
-/// Adds a number behind a `_`. `Err` comes only for want of memory.
+/// Adds a number behind a `_`. Returns `Err` only if memory runs out.
 fn add_part(label: &mut Vec<u8>, number: u32) -> Result<(), AllocError>
     ensures { OnOk result (label.new.items ≡ label.old.items ++ (codes "_" ++ decimal number)) }
 {

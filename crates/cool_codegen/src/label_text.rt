@@ -8,7 +8,7 @@ use std::alloc::{AllocError, Global};
 /// The bytes that most labels do not pass. A longer one takes more as it grows.
 const USUAL_BYTES: usize = 24;
 
-/// A text that begins with a word. `Err` comes only for want of memory.
+/// A text that begins with a word. Returns `Err` only if memory runs out.
 pub(crate) fn text_of(alloc: Global, word: &[u8]) -> Result<Vec<u8>, AllocError>
     ensures { IfOk result (λ text. text.items ≡ word.now) }
 {
@@ -17,7 +17,7 @@ pub(crate) fn text_of(alloc: Global, word: &[u8]) -> Result<Vec<u8>, AllocError>
     Ok(text)
 }
 
-/// Adds a number, in decimal. `Err` comes only for want of memory.
+/// Adds a number, in decimal. Returns `Err` only if memory runs out.
 pub(crate) fn add_number(text: &mut Vec<u8>, number: u32) -> Result<(), AllocError>
     ensures { OnOk result (text.new.items ≡ text.old.items ++ decimal number) }
 {

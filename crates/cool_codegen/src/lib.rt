@@ -1,8 +1,8 @@
-//! The code of features.
+//! Code generation for features.
 //!
-//! Comes in: a feature of a typed program, the layout of its classes and the names of the files, and the constants so far. Goes out: the
-//! lines of a method, or those that compute and store an initial value, and the constants with those that the code asks for.
-//! `specs/Features.antt`, `specs/Code.antt` and `specs/Asked.antt` say which.
+//! Input: a feature of a typed program, the layout of its classes and the names of the files, and the constants so far. Output: the lines of a
+//! method, or those that compute and store an initial value, and the constants with those that the code asks for. `specs/Features.antt`, `specs/Code.antt`
+//! and `specs/Asked.antt` define them.
 #![tactic(auto)]
 
 mod arm;

@@ -40,7 +40,7 @@ pub fn make_bool(
     Ok(())
 }
 
-/// Adds the making of an Int of a result, where it fits.
+/// Adds the making of an Int of a result, if it fits.
 #[tactic(auto, unfolding(cool_runtime::specs::RoutineLabels::overflow_abort))]
 pub fn make_int(
     setting: &CodeSetting<'_>,
@@ -176,7 +176,7 @@ pub fn test_divisor(
     Ok(())
 }
 
-/// Adds what a variable of this type holds where it is given no value.
+/// Adds the code for the default value of a variable of this type.
 #[tactic(auto, unfolding(cool_runtime::specs::RoutineLabels::default_int, cool_runtime::specs::RoutineLabels::default_string, cool_runtime::specs::Labels::false_constant))]
 pub fn take_default(alloc: Global, bound: Ty, lines: &mut Vec<Line>) -> Result<(), AllocError>
     ensures { OnOk result (lines_of lines.new.items ≡ lines_of lines.old.items ++ default_code bound) }

@@ -54,7 +54,7 @@ pub fn take(name: &[u8]) -> [Draft<'_>; 1]
     [la(A0, name)]
 }
 
-/// Goes on where the Bool is true, and else elsewhere.
+/// Goes on if the Bool is true, and otherwise elsewhere.
 pub fn test(other: &[u8]) -> [Draft<'_>; 3]
     ensures { map drafted result ≡ test_lines other.now }
 {
@@ -220,7 +220,7 @@ pub fn is_zero() -> [Draft<'static>; 1]
     [sltiu(T0, T4, 1)]
 }
 
-/// Goes on where a flag is 0, and else ends the run at a place.
+/// Goes on if a flag is 0, and otherwise ends the run at a place.
 pub fn ends_where<'a>(fits: &'a [u8], file: &'a [u8], at: u32, abort: &'a [u8]) -> [Draft<'a>; 6]
     ensures { map drafted result ≡ ends_where_lines fits.now file.now at abort.now }
 {
@@ -302,7 +302,7 @@ pub fn case_begin(file: &[u8], at: u32) -> [Draft<'_>; 5]
     ]
 }
 
-/// Goes on where the tag is one of a range.
+/// Goes on if the tag is one of a range.
 pub fn try_tags(low: i32, count: i32, next: &[u8]) -> [Draft<'_>; 4]
     ensures { map drafted result ≡ try_tags_lines low count next.now }
 {

@@ -1,4 +1,4 @@
-//! The span of an expression: where its code stands, and what is in scope there.
+//! The span of an expression: the lines of its code, and the names in scope there.
 
 ghost use Rattle.std.specs.Prelude.{◌≡◌, List};
 ghost use Rattle.cool_syntax.specs.NodeLists.{made};
@@ -32,9 +32,9 @@ pub enum Form {
     Bool,
 }
 
-/// Where the code of an expression stands: the place and the form of the expression, the number of the first of its lines and of the line
-/// behind it among those of its feature, how many words are pushed in the frame where it begins, how many names are in scope there, and the
-/// one that was entered last.
+/// The span of an expression's code: the place and the form of the expression, and the number of the first of its lines and of the line behind it among
+/// those of its feature. The span also has the number of words that are pushed in the frame where it begins, the number of names in scope there, and the
+/// name that was entered last.
 #[derive(Clone, Copy)]
 pub struct Span<'a> {
     pub at: Place,

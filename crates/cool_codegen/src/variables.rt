@@ -6,7 +6,7 @@ ghost use Rattle.cool_codegen.specs.Variables.{register};
 use cool_classes::Ty;
 use mips_isa::register::{FP, S0};
 
-/// From where the word of a variable is addressed: from the frame, or from self.
+/// The base from which the word of a variable is addressed: the frame, or self.
 #[derive(Clone, Copy)]
 pub enum Base {
     Frame,

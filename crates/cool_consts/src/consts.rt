@@ -44,7 +44,7 @@ impl Consts {
         }
     }
 
-    /// The number of an integer. `Err` comes only for want of memory.
+    /// The number of an integer. Returns `Err` only if memory runs out.
     pub fn int(&mut self, value: u32) -> Result<u32, AllocError>
         requires few { length self.old.integers < 2 ^ 32 - 1 }
         ensures number { IfOk result (λ k. k ≡ integer_number self.old.integers value) }
@@ -56,7 +56,7 @@ impl Consts {
         Ok(index as u32)
     }
 
-    /// The number of a string. `Err` comes only for want of memory.
+    /// The number of a string. Returns `Err` only if memory runs out.
     pub fn string(&mut self, bytes: &[u8]) -> Result<u32, AllocError>
         requires few { length self.old.strings < 2 ^ 32 - 1 }
         ensures number { IfOk result (λ k. k ≡ string_number self.old.strings bytes.now) }
@@ -70,7 +70,7 @@ impl Consts {
     }
 
     #[tactic(auto, unfolding(cool_runtime::specs::Labels::false_constant, cool_runtime::specs::Labels::true_constant))]
-    /// The lines of the objects of all constants, whose classes have these tags. `Err` comes only for want of memory.
+    /// The lines of the objects of all constants, whose classes have these tags. Returns `Err` only if memory runs out.
     pub fn lines(
         &self,
         alloc: Global,

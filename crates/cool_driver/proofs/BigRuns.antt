@@ -1,4 +1,4 @@
--- How the run of an image comes out over no input, whose sink did not fail.
+-- The outcome of the run of an image on empty input, if its sink did not fail.
 use Rattle.std.proofs.Common.{◌≡◌, ◌∙◌, sym, ap, subst, ℕ, ◌<◌, ◌≤◌, List, [], length, arith, refl}
 use Rattle.std.specs.Prelude.{Option, Some}
 use Rattle.cool_ports.specs.SinkBytes.{appended}
@@ -24,7 +24,7 @@ module _ (limits : RunLimits) (image : ImageParts) (m : MachineParts) (left : Op
     output = ap (λ (x : Outcome). (state_in x).output) ran ∙ (let same = is.output in cc);
   }
 
-  -- of a run over nothing to a sink that held nothing
+  -- the end of a run on empty input, with a sink that held nothing
   ended : (halt : Halt) → Ran image.text (segments_within limits image) limits.steps (start image (segments_within limits image) []) (Some []) halt m left (Some held)
       → (before after : ℕ) → Counted halt 0 0 before after → (halt ≡ halts.WriteFault → ⊥) → IsOutcome (run_of limits image []) halt held
   unfolding run_of

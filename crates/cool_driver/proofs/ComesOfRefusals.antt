@@ -1,4 +1,4 @@
--- How a call goes that writes one thing, the bytes or the note that are due, or that refuses its files.
+-- The end of calls that write only once (output or message), and of calls that refuse their files.
 use Rattle.std.proofs.Common.{List, [], arith, inl, inr, ℕ, ◌≡◌, ◌≢◌, ◌≤◌}
 use Rattle.cool_driver.specs.{Calls.{Call, Got, Request, shelf_of}, Comes.{Comes, Dues, Pieces}, Does.{Goes}, Refusals.{IsTold, RefusalNoted}, Sources.{IsNoProgram}}
 use Rattle.cool_driver.specs.{Statuses.{code_of}, Telling.{Noted}, declared.refusal.Refusal.{Refusal}, declared.status.Status.{Status}}
@@ -33,7 +33,7 @@ told_goes P (Refusal.Told status lines) answered promise row known shelf left in
 told_goes P Refusal.Memory answered promise row known shelf left input out told noted =
     rw noted.0 (short_goes shelf (input, out.1) noted.1.1 (promise 9 (Comes.short (out, noted.1, left, input))))
 
--- what is due where files are refused: a note alone
+-- the result that is due if files are refused: only a note
 pub data DueToRefusal (P : ℕ → List ℕ → Type 0) (r : Request) : ℕ → List ℕ → List ℕ → List ℕ → Type 0 where
   refused : (status : ℕ) (note : List ℕ) → P status note → DueToRefusal P r status [] note r.input
 
@@ -46,7 +46,7 @@ pub refusal_goes : {due : Dues} {pieces : Pieces} {Promise : Call → ℕ → Ty
 refusal_goes {c = c} names refusal answered promise row =
     told_goes (IsNoProgram (shelf_of c.request) names) refusal answered promise row (λ status note. refused_status)
 
--- what is due comes of what else is due
+-- the end of a call with one result that is due, derived from that with another
 pub comes_map : {due other : Dues} {pieces others : Pieces} {c : Call} {status : ℕ}
     → ((status : ℕ) (output note left : List ℕ) → due status output note left → other status output note left)
     → ((before piece left : List ℕ) → pieces before piece left → others before piece left) → Comes due pieces c status → Comes other others c status

@@ -1,4 +1,4 @@
--- How a call goes that ran an image.
+-- The end of calls that ran an image.
 use Rattle.std.proofs.Common.{List, Option, Some, [], arith, inl, inr, refl, ℕ, ◌∙◌, ◌≡◌, ◌⊎◌}
 use Rattle.cool_words.specs.declared.plan.RunLimits.{RunLimits}
 use Rattle.mips_isa.specs.{Calls.{Exited, Outcome, Running, State, Trapped}, ImageBounds.{ImageParts}, Run.{start}}
@@ -21,7 +21,7 @@ pub run_so : {limits : RunLimits} {image other : ImageParts} {input : List ℕ} 
 run_so same DueToRun.ended = inr (rw same refl)
 run_so same (DueToRun.unread at output left comes fails) = inl refl
 
--- of two told lists that are one
+-- equal told lists have equal contents
 pub some_same : (a b : List ℕ) → Some a ≡ Some b → a ≡ b
 some_same a b e = cc
 

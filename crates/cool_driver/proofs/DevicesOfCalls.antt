@@ -1,4 +1,4 @@
--- How calls go: what holds of their devices, what their command promises, and that their words were not at fault.
+-- The end of calls: facts about their devices, the promise of their command, and that their arguments were valid.
 use Rattle.std.proofs.Common.{List, Option, Some, [], arith, inl, inr, refl, sym, ℕ, ◌++◌, ◌<◌, ◌≡◌, ◌≢◌, ◌≤◌, ◌⊎◌}
 use Rattle.cool_ports.proofs.GettingBytes.{appended-nil}
 use Rattle.cool_ports.specs.{Counts.{Rose}, SinkBytes.{appended}}
@@ -11,7 +11,7 @@ pub record IsStatus (r : Request) (status : ℕ) : Type 0 where
   pub known : (status < 8) ⊎ (9 < status) × (status ≤ 12)
   pub shelf : (status ≡ 10) ⊎ (r.faults_after ≡ r.faults_before)
 
--- what was due came, unless a write failed or memory ran out
+-- the result that was due was written, unless a write failed or memory ran out
 pub came : {due : Dues} {pieces : Pieces} {c : Call} {status : ℕ} → Comes due pieces c status → status ≢ 8 → status ≢ 9
     → (output : List ℕ) × (note : List ℕ) × due status output note c.left × Got c.out output × Got c.notes note
 came (Comes.written status output note is out notes) eight nine = (output, note, is, out, notes)
@@ -46,7 +46,7 @@ pub halt_noted : {c : Call} (halt : Halt) {answered : Status} → HaltNoted c.no
 halt_noted halt (inl (is, got)) = rw is (IsNoted.noted got)
 halt_noted halt (inr (is, some, part)) = rw is (IsNoted.failed part)
 
--- by what is due to it and comes
+-- the end of a call, by the result that is due and how it was written
 pub due_finished : {due : Dues} {pieces : Pieces} {Promise : Call → ℕ → Type 0} {c : Call} {status : ℕ} {output note : List ℕ}
     → ((status : ℕ) → Comes due pieces c status → Promise c status) → c.request.faults_before ≤ c.request.faults_after
     → IsStatus c.request status × (status ≢ 2) → due status output note c.left → Got c.out output
@@ -76,7 +76,7 @@ pub short_goes : {Promise : Call → ℕ → Type 0} {c : Call} → c.request.fa
     → Goes Promise c 9
 short_goes shelf counted notes ends = grind arith
 
--- what is neither used nor written got nothing
+-- a sink that is neither used nor written got nothing
 pub got_nothing : (held : Option (List ℕ)) (faults : ℕ) → (held ≡ appended held []) × (faults ≡ faults)
 got_nothing held faults = (sym (appended-nil held), refl)
 

@@ -1,4 +1,4 @@
--- How what a command is to do is done: where it takes nothing of the input, and where it refuses no source files.
+-- `Does` for commands that read no input, and for commands that refuse no source files.
 use Rattle.std.proofs.Common.{◌≡◌, ◌≢◌, ℕ, Bool, false, List}
 use Rattle.std.specs.Prelude.{IfSome}
 use Rattle.cool_ports.proofs.InputsInParts.{leaves_same, took_nothing}

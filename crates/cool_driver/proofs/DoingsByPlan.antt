@@ -1,4 +1,4 @@
--- What is done for what words ask for.
+-- The effects of the command that the arguments request.
 use Rattle.std.proofs.Common.{◌≡◌, None, Option, Some, [], arith, inl, inr, refl, ℕ}
 use Rattle.cool_ports.proofs.AskedNames.{asked_none}
 use Rattle.cool_words.specs.Plans.{Asked}
@@ -8,7 +8,7 @@ use Rattle.cool_driver.specs.{commands.Usage.{DueToUsage, UsageEnds}, declared.s
 use Rattle.cool_driver.proofs.{DevicesOfCalls.{got_nothing}, Doings.{untaking_does}, LinesOfNotes.{no_lines}, rooms.Bigs.{big_ends}, rooms.Builds.{unbuilt_ends}, rooms.Checks.{check_ends}}
 use Rattle.cool_driver.proofs.{rooms.Debuggings.{debug_ends}, rooms.Evaluations.{unevaluated_ends}, rooms.Executions.{unloaded_ends}, rooms.Runnings.{unrun_ends}, rooms.Sessions.{unbegun}}
 
--- where they ask for a command, what that does
+-- the effects of the command that the arguments request
 pub command_does : {asked : Option Asked} {a : Asked} {before after : Outside} {status : ℕ} → asked ≡ Some a
     → Does (doing_of (Some a)) before after status → DoesUnless (asked ≡ None) (doing_of asked) before after status
 command_does is does = rw is (record {
@@ -22,7 +22,7 @@ command_does is does = rw is (record {
       record { devices = goes.devices; ends = goes.ends; usage_only = λ two. absurd (goes.usage_only two) };
 })
 
--- where they ask for nothing, the note of that was written, or that write failed
+-- if they request nothing, the note that says so was written, or that write failed
 usage_ends : {Unasked : Type 0} {c : Call} {answered : Status} → Unasked → c.request.faults_after ≡ c.request.faults_before → c.left ≡ c.request.input
     → c.input_after ≡ c.input_before → Got c.out [] → Noted c.notes usage_note Status.Usage answered → EndsUnless Unasked UsageEnds c (code_of answered)
 usage_ends none calm left input out (inl (told, got)) =

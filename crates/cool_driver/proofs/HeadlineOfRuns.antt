@@ -64,7 +64,7 @@ part_of run o output left h k f g = record {
   left_is = g.1 ∙ (ap (λ (xs : List ℕ). g.0 ++ xs) (left_is o ∙ k.1) ∙ sym (append_assoc g.0 k.0 run.left));
 }
 
--- what begins with bytes behind others begins with a front of them there
+-- a list that begins with bytes behind others also begins with a front of these bytes there
 front_behind : (xs ys front rest more whole : List ℕ) → ys ≡ front ++ rest → whole ≡ (xs ++ ys) ++ more → whole ≡ (xs ++ front) ++ (rest ++ more)
 front_behind xs ys front rest more whole cut e = e ∙ rw cut (simp append_assoc)
 
@@ -80,7 +80,7 @@ module _ (limits : RunLimits) (image : ImageParts) (names : List (List ℕ)) (p 
   abbrev whole : Outcome
   whole = run_of limits image c.request.input
 
-  -- what came and was taken is a part of what the run writes and takes, and so of what the run of the source does
+  -- the output and the input taken are parts of those of the run, and so of those of the run of the source
   pub part_of_source : (output : List ℕ) → c.out.held_after ≡ appended c.out.held_before output → IsPrefix output (output_of whole) → IsSuffix (input_of whole) c.left
       → IsPartOfSource c limits names p
   part_of_source output came front rest =
@@ -155,7 +155,7 @@ module _ (limits : RunLimits) (image : ImageParts) (names : List (List ℕ)) (p 
   pub noteless_ended : (due : ℕ) → EndsAsImage c due limits image → Headline c 8 limits names p
   noteless_ended due e = let so = ended_so due e in write_failed (inr (inr (due, e, so.0))) so.1
 
-  -- what is due to the run was written, or all of it but the note
+  -- the result that is due to the run was written, or all of it except the note
   pub headline_due : (status : ℕ) (output note left : List ℕ) → DueToRun limits image c.request.input status output note left → c.left ≡ left → Got c.out output
       → Headline c status limits names p × Headline c 8 limits names p
   headline_due _ _ _ _ ended leaves got =

@@ -1,4 +1,4 @@
--- Which bytes files have: under a told shelf names have one list of bytes each, and what was given last is one list, too.
+-- Uniqueness: with a shelf of known contents, each name has exactly one content, and so has the last file given.
 use Rattle.std.proofs.Common.{◌≡◌, ℕ, zero, suc, ◌+◌, ◌-◌, ◌<◌, ◌≤◌, List, [], ◌∷◌, ◌++◌, length, length-append, Some, None, refl, sym, ◌∙◌, ap, append_assoc, arith}
 use Rattle.std.specs.Prelude.{Option, Contains}
 use Rattle.cool_ports.specs.{Counts.{last_count}, ShelfFiles.{FileMap, MayHold, AreHeld, IsMissing, IsLonger}}
@@ -21,7 +21,7 @@ suffix_same (x ∷ xs) (y ∷ ys) a b is same =
 suffix_same [] (y ∷ ys) a b is same = absurd (omega (arith, ap length is, length-append (y ∷ ys) b, same))
 suffix_same (x ∷ xs) [] a b is same = absurd (omega (arith, ap length is, length-append (x ∷ xs) a, same))
 
--- what the shelf holds under a name is one
+-- the bytes that the shelf holds under a name are unique
 same_bytes : (found : Option (List ℕ)) (a b : List ℕ) → found ≡ Some a → found ≡ Some b → a ≡ b
 same_bytes found a b p q = cc
 
@@ -53,7 +53,7 @@ held_later files (n ∷ front) rest name (x ∷ some) (y ∷ contents) held befo
     (later.0, later.1, omega (arith, later.2, same))
 held_later files _ rest name _ _ held before = absurd (search)
 
--- where no fault can have come, the file after those that were read is not missing, nor larger than what is left
+-- if no fault can have come, the file after those that were read is not missing, nor larger than the bytes left
 pub not_missing : (told : Option FileMap) (front rest : List (List ℕ)) (name : List ℕ) (some contents : List (List ℕ)) (before after : ℕ)
     → AreHeld told (front ++ name ∷ rest) contents → AreHeld told front some → before < last_count → after ≡ before → IsMissing told name before after → ⊥
 not_missing None front rest name some contents before after held read below calm rose = omega (arith, rose.more below, calm)

@@ -17,7 +17,7 @@ unfolding ends_line
 some_line [] h = absurd cc
 some_line (byte ∷ text) h = omega arith
 
--- behind another text, it still ends so
+-- after another text, it still ends so
 ends_more : (byte : ℕ) (text : List ℕ) → ends_line text ≡ true → ends_line (byte ∷ text) ≡ true
 unfolding ends_line
 ends_more byte [] h = absurd cc
@@ -56,12 +56,12 @@ image_line name I4 other = ends_after name _ (ends_after (codes ": I4: sizes out
 image_line name I5 other = ends_after name _ (ends_after (codes ": I5: bytes after the end") (codes "\n") feed)
 image_line name Memory other = absurd (other refl)
 
--- those of faults do
+-- the lines of faults do
 pub fault_lines : (names : List (List ℕ)) (faults : List Fault) → AreLines (map (fault_line names) faults)
 fault_lines names [] = tt
 fault_lines names (fault ∷ faults) = (placed_line (get_or names (place_of fault).file []) (decimal (place_of fault).line) (fault_words fault), fault_lines names faults)
 
--- What a sink was given to put
+-- The puts to a sink
 
 -- nothing
 pub no_lines : (puts : List (List ℕ)) → PutsLines puts puts

@@ -1,4 +1,4 @@
--- What the program of a command's files is compiled to means it, folded or not; and so does what the program of `big` is compiled to.
+-- The code compiled from the program of a command's files means that program, folded or not; and so does the code for the program of `big`.
 use Rattle.std.proofs.{Common.{◌≡◌, ℕ, Bool, true, false, List, length, refl, sym, ◌∙◌, subst, [], arith}, lemmas.List.{length-map}}
 use Rattle.std.specs.{Prelude.{String, string_bytes}, List.{list_all, AllByRecursion}, Global.{Global}}
 use Rattle.cool_classes.specs.Chains.{Class}
@@ -70,7 +70,7 @@ usual_bounded = omega arith
 big_named : AreFileNames big_names
 big_named = omega arith
 
--- of the one file of `big`, and so its run accords with the runs of the source
+-- the same for the one file of `big`, and so its run accords with the runs of the source
 pub big_accords : (contents : List (List ℕ)) (p : List Class) → AllByRecursion AreBytes contents → length contents ≡ 1 → IsAccepted contents p → AccordsWithSource p
 big_accords contents p bytes one is =
     image_accords usual_limits (image_of (program_lines p big_names)) p big_names [] (images_mean contents big_names p bytes big_named (sym one) is) tt usual_bounded

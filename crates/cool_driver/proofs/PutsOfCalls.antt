@@ -1,4 +1,4 @@
--- What a call put of the texts that were due.
+-- The puts of a call, compared with the texts that were due.
 use Rattle.std.proofs.Common.{List, [], ◌++◌, ap, append-nil, inl, inr, refl, subst, sym, ℕ, ◌≡◌, ◌≢◌}
 use Rattle.cool_ports.specs.SinkPuts.{PutFront}
 use Rattle.spim_machine.specs.{Puts.{PutWithin}, declared.halt.Halt.{Halt}}

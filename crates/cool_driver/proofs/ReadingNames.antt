@@ -1,4 +1,4 @@
--- Files that are asked for, read and refused, by what stood at the end.
+-- Files that are asked for, read and refused, by the state at the end.
 use Rattle.std.proofs.Common.{◌≡◌, ℕ, ◌≤◌, List, [], length, ap, arith}
 use Rattle.std.proofs.lemmas.Bool.{le-ltb}
 use Rattle.std.specs.Prelude.{Bool, if◌then◌else◌}
@@ -12,7 +12,7 @@ use Rattle.cool_driver.specs.{Calls.{ShelfUse}, Sources.{IsStopAt, unless_too_ma
 pub few_asked : (files asked : List (List ℕ)) → length files ≤ MOST_FILES → unless_too_many files asked ≡ asked
 few_asked files asked few = ap (λ (many : Bool). if many then [] else asked) (le-ltb MOST_FILES (length files) few)
 
--- how a shelf fared, by what it was asked for and what it gave at the end
+-- the use of a shelf, by the names and files that it was asked for and gave at the end
 abbrev pub at_end : devices.ShelfUse → ShelfUse
 at_end shelf = record {
   files = shelf.files;
@@ -22,7 +22,7 @@ at_end shelf = record {
   gave_after = shelf.gave_after;
 }
 
--- where it refused a file
+-- the case that it refused a file
 pub refused_at : (shelf : devices.ShelfUse) (names : List (List ℕ)) (most : ℕ) (name : List ℕ) (fault : ShelfFault) → length names ≤ MOST_FILES → IsRefusedAt shelf names most name fault
     → IsStopAt (at_end shelf) names most name fault
 refused_at shelf names most name fault few stop = (

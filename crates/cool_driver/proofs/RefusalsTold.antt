@@ -1,4 +1,4 @@
--- Refusals: what their lines say.
+-- The lines of refusals.
 use Rattle.std.proofs.Common.{◌≡◌, ◌≢◌, ◌∙◌, ℕ, true, List, [], ◌++◌, Some, inl, inr, refl, sym, ap, subst, arith}
 use Rattle.std.specs.{Prelude.{Result, Ok, Err, IfErr, codes}, List.{concat}}
 use Rattle.cool_faults.specs.{declared.fault.Fault.{Fault}, Verdicts.{IsRefused}}
@@ -24,7 +24,7 @@ pub faults_told : (names contents : List (List ℕ)) (faults : List Fault) (refu
 faults_told names contents faults (Told status lines) is h = (subst AreLines (sym h.1) (fault_lines names faults), (faults, is, h.0, ap concat h.1))
 faults_told names contents faults Memory is h = tt
 
--- what follows of each status and note
+-- a consequence of each status and note
 pub told_so : (P Q : ℕ → List ℕ → Type 0) (refusal : Refusal) → ((status : ℕ) (note : List ℕ) → P status note → Q status note) → IsTold P refusal
     → IsTold Q refusal
 told_so P Q (Told status lines) f h = (h.0, f (code_of status) _ h.1)
@@ -49,7 +49,7 @@ stop_told shelf most names name faults.TooLarge refusal (contents, read, cause) 
     (refl, too_large name contents read cause) (line too_large_note refl)
 stop_told shelf most names name faults.Memory refusal (contents, read, cause) line = absurd cause
 
--- what holds of want of memory
+-- facts that hold when memory runs out
 pub memory_so : {T : Type 0} (P : Refusal → Type 0) (result : Result T Refusal) → P Memory → IfErr result (λ refusal. refusal ≡ Memory) → IfErr result P
 memory_so P (Ok made) of h = tt
 memory_so P (Err refusal) of h = subst P (sym h) of

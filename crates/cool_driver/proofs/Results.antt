@@ -1,7 +1,7 @@
--- What follows of a result.
+-- Consequences of a result.
 use Rattle.std.specs.Prelude.{Result, Ok, Err, IfErr, OnOk}
 
--- what holds, holds where it went well
+-- a fact holds for an `Ok` result, too
 pub on_ok : {T E : Type 0} {P : Type 0} (result : Result T E) → P → OnOk result P
 on_ok (Ok made) p = p
 on_ok (Err e) p = tt

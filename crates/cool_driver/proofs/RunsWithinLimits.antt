@@ -13,7 +13,7 @@ pub run_of-is : (limits : RunLimits) (image : ImageParts) (input : List ℕ)
 unfolding run_of
 run_of-is limits image input = refl
 
--- what holds of the runs of a machine that was loaded with the limits in bytes holds of that of the image
+-- a property of the runs of a machine that was loaded with the limits in bytes holds for that of the image
 pub loaded_within : (limits : RunLimits) (image : ImageParts) (heap stack : ℕ) (loaded : MachineParts) (input : List ℕ) (left held : Option (List ℕ))
     (P : List ℕ → Segments → State → Option (List ℕ) → Type 0)
     → heap ≡ heap_of limits → stack ≡ stack_of limits

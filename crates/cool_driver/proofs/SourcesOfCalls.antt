@@ -38,7 +38,7 @@ faulty_of (Ok p) same read is = tt
 faulty_of {shelf = shelf} {names = names} {again = again} (Err refusal) same read is =
     told_so (IsDueToFaults names (texts again)) (IsNoProgram shelf names) refusal (λ status note why. rw (why.2, why.3) (IsNoProgram.faulty _ why.0 read (rw same at why.1))) is
 
--- What is known of files
+-- Facts about files
 
 -- the files that a told shelf gave are held
 are_held : {shelf : ShelfUse} {files : FileMap} {most : ℕ} {names contents : List (List ℕ)} → HasTold shelf files → AreRead shelf most names contents
@@ -88,7 +88,7 @@ module _ {shelf : ShelfUse} {names contents : List (List ℕ)} (known : AreKnown
       let one = one_list contents found _ (rw (same_contents known again) at refused.list) list in
       (λ none. refused.some (one ∙ none), refl, ap (refused_note names) one)
 
--- What comes of what is due
+-- Consequences of the result that is due
 
 -- The files of these names are a program, and the status is one of a run, or there is a reason why not, of this status and this note.
 abbrev pub IsVerdictOn : ShelfUse → List (List ℕ) → ℕ → List ℕ → Type 0

@@ -22,6 +22,6 @@ end_status (Running s) = grind arith
 end_status (Exited code s) = exit_status (code == 0) (code == 4) (code == 5)
 end_status (Trapped trap s) = grind arith
 
--- where the shelf did not fail, each is good
+-- if the shelf did not fail, each is good
 pub good_status : {r : Request} {status : ℕ} → r.faults_after ≡ r.faults_before → IsOneOf status → IsStatus r status × (status ≢ 2)
 good_status calm known = grind arith

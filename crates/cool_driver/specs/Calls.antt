@@ -1,12 +1,12 @@
--- A call of `cool`: what it was asked, which files were read for it, what came of its output, its notes and its input.
+-- A call of `cool`: its request, the files that were read for it, and the use of its output, its notes and its input.
 use Rattle.std.specs.Prelude.{◌≡◌, ◌≢◌, ℕ, ◌<◌, ◌≤◌, List, [], Option, Some}
 use Rattle.cool_ports.specs.{Counts.{last_count, Rose}, ShelfFiles.{FileMap}, SinkBytes.{appended, GotPrefix}}
 use Rattle.cool_ports.specs.declared.shelf.Shelf as shelf
 use Rattle.cool_ports.specs.declared.sink.Sink as sink
 use Rattle.cool_driver.specs.{Outside.{Outside, ShelfState, SinkState, shelf_at, sink_at}, Statuses.{WRITE_FAULT, OUT_OF_MEMORY}}
 
--- What a call was asked: its words, the files that the shelf tells, the shelf's count of faults before and after, the names that it was asked for
--- and the bytes of each file that it gave up to the end, and an input that the source may have had left at first.
+-- The request of a call: its arguments; the files that the shelf tells, and its count of faults before and after; the names that it was asked for and the
+-- bytes of each file that it gave up to the end; and an input that the source may have had left at first.
 pub record Request : Type 0 where
   pub words : List (List ℕ)
   pub files : Option FileMap
@@ -16,8 +16,8 @@ pub record Request : Type 0 where
   pub gave_after : List (List ℕ)
   pub input : List ℕ
 
--- What a shelf tells, its count of faults before a call and after it, and what it was asked for and gave up to its end: names, and the bytes of
--- each file.
+-- The use of a shelf by a call: the files that it tells, its count of faults before and after, and the names that it was asked for and the bytes of each
+-- file that it gave up to the end.
 pub record ShelfUse : Type 0 where
   pub files : Option FileMap
   pub faults_before : ℕ
@@ -25,7 +25,7 @@ pub record ShelfUse : Type 0 where
   pub asked_after : List (List ℕ)
   pub gave_after : List (List ℕ)
 
--- how a shelf fared from one state to another
+-- the use of a shelf between two states
 abbrev pub shelf_between : ShelfState → ShelfState → ShelfUse
 shelf_between before after = record {
   files = before.files;
@@ -38,7 +38,7 @@ shelf_between before after = record {
 abbrev pub shelf_use : {S : Type 0} → shelf.Ghosts S → S → S → ShelfUse
 shelf_use of before after = shelf_between (shelf_at of before) (shelf_at of after)
 
--- how the shelf of a request fared
+-- the use of the shelf of a request
 abbrev pub shelf_of : Request → ShelfUse
 shelf_of r = record {
   files = r.files;
@@ -48,7 +48,7 @@ shelf_of r = record {
   gave_after = r.gave_after;
 }
 
--- What a sink held, its count of faults, and what it was given to put, a list for each put, before a call and after it.
+-- The use of a sink by a call: the bytes that it held, its count of faults, and the list of puts, before a call and after it.
 pub record SinkUse : Type 0 where
   pub held_before : Option (List ℕ)
   pub held_after : Option (List ℕ)
@@ -57,7 +57,7 @@ pub record SinkUse : Type 0 where
   pub puts_before : List (List ℕ)
   pub puts_after : List (List ℕ)
 
--- how a sink fared from one state to another
+-- the use of a sink between two states
 abbrev pub sink_between : SinkState → SinkState → SinkUse
 sink_between before after = record {
   held_before = before.held;
@@ -100,7 +100,7 @@ pub record NoLess (c : Call) : Type 0 where
 abbrev pub DidNothing : Call → Type 0
 DidNothing c = Got c.out [] × Got c.notes [] × (c.left ≡ c.request.input) × (c.input_after ≡ c.input_before)
 
--- what a call was asked by words, over a shelf and an input
+-- the request of a call by its arguments, over a shelf and an input
 abbrev pub request_of : List (List ℕ) → ShelfUse → List ℕ → Request
 request_of words shelf input = record {
   words = words;

@@ -1,19 +1,19 @@
--- How what is due comes: whole, or in part, where a write failed, or not at all, where memory ran out before it.
+-- The end of a call with a result that is due: all of it was written, or a part if a write failed, or nothing if memory ran out before it.
 use Rattle.std.specs.Prelude.{◌≡◌, ◌≢◌, ℕ, List, [], ◌++◌}
 use Rattle.cool_ports.specs.SinkPuts.{PutFront}
 use Rattle.cool_driver.specs.{Calls.{Call, SinkUse, Got, GotPart, DidNothing, UnlessCutShort}, Statuses.{READ_FAULT, WRITE_FAULT, OUT_OF_MEMORY}}
 
--- what is due: the status, the output, the note, and what is left of the input
+-- a result that is due: the status, the output, the note, and the rest of the input
 abbrev pub Dues : Type 1
 Dues = (status : ℕ) → (output note left : List ℕ) → Type 0
 
--- what is written in one piece: the output before it, its bytes, and what is left of the input
+-- the pieces that are written at once: the output before each, its bytes, and the rest of the input
 abbrev pub Pieces : Type 1
 Pieces = (before piece left : List ℕ) → Type 0
 
--- How a call ends for which this is due, of which these pieces are written to the output.
+-- The end of a call for which this result is due, if these pieces of it are written to the output.
 pub data Comes (due : Dues) (pieces : Pieces) (c : Call) : ℕ → Type 0 where
-  -- what is due was written and nothing else, and what is due is left of the input
+  -- the result that is due was written and nothing else, and the rest of the input is as due
   written : (status : ℕ) (output note : List ℕ) → due status output note c.left → Got c.out output → Got c.notes note → Comes due pieces c status
   -- a write of the output failed: what is written before it came, and of its own bytes a prefix
   unwritten : (before piece : List ℕ) → pieces before piece c.left → GotPart c.out before piece → Got c.notes [] → Comes due pieces c WRITE_FAULT

@@ -1,4 +1,4 @@
--- What the words of a call ask for, and what is to be done for that.
+-- The meaning of the arguments of a call, and the action that they request.
 use Rattle.std.specs.Prelude.{◌≡◌, ℕ, false, List, Option, Some, None, IfSome}
 pub use Rattle.cool_words.specs.Plans.{words_of}
 use Rattle.cool_words.specs.Plans as words
@@ -8,11 +8,11 @@ use Rattle.cool_driver.specs.{Does.{Doing}, declared.commands.build.Form.TheVari
 use Rattle.cool_driver.specs.commands.{Usage.{noting}, Check.{checking}, Build.{building}, Run.{running}, Eval.{evaluating}, Exec.{executing}, Debug.{debugging}}
 use Rattle.cool_driver.specs.commands.{Big.{summing}, Session.{conversing}}
 
--- what the words ask for
+-- the request of the arguments
 unfoldable pub asked_for : List (List ℕ) → Option Asked
 asked_for given = words.plan_of given
 
--- what is to be done for it
+-- the action for a request
 abbrev pub doing_of : Option Asked → Doing
 doing_of None = noting
 doing_of (Some (check names)) = checking names
@@ -29,7 +29,7 @@ doing_of (Some session) = conversing
 abbrev pub names_asked : Option Asked → List (List ℕ)
 names_asked asked = (doing_of asked).asked
 
--- what holds of the names of the source files, where the words ask for a command that reads some
+-- a property of the names of the source files, if the arguments request a command that reads some
 abbrev pub IfSources : Option Asked → (List (List ℕ) → Type 0) → Type 0
 IfSources asked = IfSome (doing_of asked).sources
 

@@ -1,4 +1,4 @@
--- What `debug` does with an image and a script: which commands the script says for a program, and which notes they ask for in its run.
+-- The effect of `debug` for an image and a script: the commands that the script gives for a program, and the notes that they request in its run.
 use Rattle.std.specs.{Prelude.{ℕ, List, Result}, List.{concat}}
 use Rattle.cool_classes.specs.Chains.{Class}
 use Rattle.cool_emit.specs.Programs.{program_lines}

@@ -1,4 +1,4 @@
--- What the status of a call says of its devices, whatever the command is: which of them failed, and that no fault is passed over.
+-- The relation between the status of a call and its devices, for all commands: which of them failed, and that no fault is ignored.
 use Rattle.std.specs.Prelude.{◌≡◌, ℕ, ◌<◌, ◌≤◌, ◌⊎◌}
 use Rattle.cool_ports.specs.Counts.{Rose}
 use Rattle.cool_driver.specs.{Calls.{Call, NoLess}, Statuses.{READ_FAULT, WRITE_FAULT, OUT_OF_MEMORY, FILE_FAULT, UNFIT}}

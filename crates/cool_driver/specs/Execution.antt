@@ -1,4 +1,4 @@
--- What `exec` does with the bytes of a file: the image that they are, its run, and how that ends.
+-- The effect of `exec` on the bytes of a file: the image that they are, its run, and the end of the run.
 use Rattle.std.specs.Prelude.{◌≡◌, ℕ, ◌*◌, ◌==◌, ◌⊎◌, not, if◌then◌else◌, Bool, true, List, [], ◌∷◌, None, Some}
 use Rattle.mips_isa.specs.{ImageBounds.{ImageParts, IsImage}, Bytes.{Segments, segments_of}, Lines.{Line}, Assembly.{fault_of, image_of}, declared.asm_fault.AsmFault.{AsmFault}}
 use Rattle.mips_isa.specs.{Calls.{State, Outcome, Running, Exited, Trapped}, Run.{start, run_image}}
@@ -34,7 +34,7 @@ pub record IsAssembled (image : ImageParts) (bytes : List ℕ) : Type 0 where
 abbrev pub IsTextFault : List ℕ → AsmFault → Type 0
 IsTextFault bytes fault = FirstFault bytes fault ⊎ ((lines : List Line) × Reads bytes lines × (fault_of lines ≡ Some fault))
 
--- what a file stands for, which `exec` runs
+-- the image that a file stands for, which `exec` runs
 abbrev pub IsRunnable : ImageParts → List ℕ → Type 0
 IsRunnable image bytes = IsImageOf image bytes ⊎ IsAssembled image bytes
 

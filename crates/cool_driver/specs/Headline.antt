@@ -1,5 +1,5 @@
--- What `run` and `debug` promise for files that are accepted: they go as the run of an image that means the program, so that within its limits
--- what it writes and leaves and how it ends are those of the runs of the source.
+-- The promise of `run` and `debug` for accepted files: the call goes as the run of an image that means the program. So within its limits its output, its
+-- end and the input that it leaves are those of the runs of the source.
 use Rattle.std.specs.Prelude.{◌≡◌, ◌≢◌, ℕ, ◌+◌, ◌⊎◌, List, [], Some}
 use Rattle.cool_classes.specs.Chains.{Class}
 use Rattle.cool_eval.specs.Ends.{IsPart}
@@ -37,21 +37,21 @@ pub record StopsWriting (c : Call) (limits : RunLimits) (image : ImageParts) : T
   pub wrote : GotPart c.out at.output bytes
   pub leaves : c.left ≡ at.input
 
--- what the call wrote and left accords with the runs of the source
+-- the output of the call and the input that it left accord with the runs of the source
 abbrev pub AccordsWith : (ℕ → source.Run) → Call → ℕ → RunLimits → Type 0
 AccordsWith runs c status limits = (output : List ℕ) × Got c.out output × Accord runs (limits_of limits) status output c.left
 
--- what came and was taken is a part of what the run of the source with a step more than instructions writes and takes
+-- the output and the input taken are parts of those of the run of the source with a step more than instructions
 abbrev pub IsPartOfSource : Call → RunLimits → List (List ℕ) → List Class → Type 0
 IsPartOfSource c limits names p =
     IsPart (source.run p names c.request.input (limits.steps + 1)) c.out.held_before c.left c.out.held_after
 
--- How a call of `run` for a program ends with a status other than 9, and one of `debug`, unless it stops short.
+-- The end of a call of `run` for a program with a status other than 9, and of one of `debug`, unless it stops short.
 pub record Headline (c : Call) (status : ℕ) (limits : RunLimits) (names : List (List ℕ)) (p : List Class) : Type 0 where
   -- there is an image that means the program
   pub image : ImageParts
   pub means : Means image p names
-  -- where no read and no write failed, the call ended as its run, and in accord with the runs of the source
+  -- if no read and no write failed, the call ended as its run, and in accord with the runs of the source
   pub ended : status ≢ READ_FAULT → status ≢ WRITE_FAULT → EndsAsImage c status limits image
   pub accords : status ≢ READ_FAULT → status ≢ WRITE_FAULT → AccordsWith (source.run p names c.request.input) c status limits
   -- status 7: a read of its run failed

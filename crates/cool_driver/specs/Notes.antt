@@ -40,7 +40,7 @@ step_limit_note = codes "cool: step limit\n"
 abbrev pub read_fault_note : List ℕ
 read_fault_note = codes "cool: read fault\n"
 
--- a fault of an image; want of memory is none
+-- the text of an image fault; empty if memory ran out
 abbrev pub image_fault : ImageError → List ℕ
 image_fault I1 = codes "I1: wrong magic\n"
 image_fault I2 = codes "I2: unknown version\n"

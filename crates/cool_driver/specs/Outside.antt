@@ -5,7 +5,7 @@ use Rattle.cool_ports.specs.declared.shelf.Shelf as shelf
 use Rattle.cool_ports.specs.declared.sink.Sink as sink
 use Rattle.cool_ports.specs.declared.source.Source as source
 
--- What a shelf tells, its count of faults, and what it was asked for and gave so far.
+-- The state of a shelf: the files that it tells, its count of faults, and the names and files that it was asked for and gave so far.
 pub record ShelfState : Type 0 where
   pub files : Option FileMap
   pub faults : ℕ
@@ -15,7 +15,7 @@ pub record ShelfState : Type 0 where
 abbrev pub shelf_at : {S : Type 0} → shelf.Ghosts S → S → ShelfState
 shelf_at of s = record { files = of.files s; faults = of.faults s; asked = of.asked s; gave = of.gave s }
 
--- What a source gave so far, what it tells that it has left, and its count of faults.
+-- The state of a source: the input that it gave so far, the rest if it tells that, and its count of faults.
 pub record SourceState : Type 0 where
   pub past : Past
   pub left : Option (List ℕ)
@@ -24,7 +24,7 @@ pub record SourceState : Type 0 where
 abbrev pub source_at : {S : Type 0} → source.Ghosts S → S → SourceState
 source_at of s = record { past = of.past s; left = of.left s; faults = of.faults s }
 
--- What a sink tells that it holds, its count of faults, and what it was given to put so far.
+-- The state of a sink: the bytes that it holds if it tells that, its count of faults, and the puts so far.
 pub record SinkState : Type 0 where
   pub held : Option (List ℕ)
   pub faults : ℕ

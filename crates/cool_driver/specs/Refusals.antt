@@ -1,4 +1,4 @@
--- Why a command goes no further: the lines that are told of it, and the status.
+-- The reasons why a command does not continue: the lines of its note, and the status.
 use Rattle.std.specs.Prelude.{◌≡◌, ℕ, List, [], ◌∷◌, ◌++◌, map}
 use Rattle.cool_faults.specs.{declared.fault.Fault.{Fault}, Texts.{fault_line}, Verdicts.{IsRefused}}
 use Rattle.cool_syntax.specs.declared.TheConstants.{MOST_SOURCE_BYTES}
@@ -33,7 +33,7 @@ PutsFaults names shelf before after =
     (contents : List (List ℕ)) × (faults : List Fault) × AreRead shelf MOST_SOURCE_BYTES names contents × IsRefused contents faults
     × (after ≡ before ++ map (fault_line names) faults)
 
--- where its status is 1, its lines are those of the faults
+-- if its status is 1, its lines are those of the faults
 abbrev pub AreFaultLines : List (List ℕ) → ShelfUse → Refusal → Type 0
 AreFaultLines names shelf (Told status lines) = code_of status ≡ REFUSED → PutsFaults names shelf [] (texts lines.items)
 AreFaultLines names shelf Memory = Unit {0}

@@ -1,4 +1,4 @@
--- The files of a command: that they were read, that they are a program, or why not.
+-- The files of a command: they were read, they are a program, or there is a reason why not.
 use Rattle.std.specs.{Prelude.{◌≡◌, ◌≢◌, ℕ, ◌-◌, ◌<◌, ◌≤◌, ◌⊎◌, nat_lt, if◌then◌else◌, true, List, [], ◌∷◌, ◌++◌, length, Contains, Some, None, String}, List.{list_all, AllByRecursion}}
 use Rattle.std.specs.Global.{Global, Vec}
 use Rattle.cool_syntax.specs.declared.TheConstants.{MOST_FILES, MOST_SOURCE_BYTES}
@@ -24,7 +24,7 @@ pub record AreSources (names : List (String Global)) (contents : List (Vec ℕ))
 abbrev pub unless_too_many : (files asked : List (List ℕ)) → List (List ℕ)
 unless_too_many files asked = if nat_lt MOST_FILES (length files) then [] else asked
 
--- what these texts end with
+-- the texts `all` end with `last`
 abbrev pub EndsWith : List (List ℕ) → List (List ℕ) → Type 0
 EndsWith last all = (before : List (List ℕ)) × (all ≡ before ++ last)
 
@@ -64,7 +64,7 @@ pub record AreReadUpTo (shelf : ShelfUse) (most : ℕ) (names : List (List ℕ))
   pub asked : EndsWith (front ++ name ∷ []) shelf.asked_after
   pub gave : EndsWith contents shelf.gave_after
 
--- where the reading of files stops: at one that the shelf refuses, when those before it were read
+-- the file at which reading stops: the shelf refuses it, and those before it were read
 abbrev pub IsStopAt : ShelfUse → List (List ℕ) → ℕ → List ℕ → ShelfFault → Type 0
 IsStopAt shelf names most name fault =
     (contents : List (List ℕ)) × AreReadUpTo shelf most names name contents

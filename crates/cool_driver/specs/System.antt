@@ -1,4 +1,5 @@
--- What a call promises over the system: over files, an input and outputs that tell nothing of themselves, by what they were asked for, gave and took.
+-- The promise of a call over the system, whose files, input and outputs do not show their contents: it is stated by what they were asked for, gave and
+-- took.
 use Rattle.std.specs.Prelude.{◌≡◌, ◌≢◌, ℕ, List, [], Option, Some, None}
 use Rattle.cool_classes.specs.Chains.{Class}
 use Rattle.cool_faults.specs.Verdicts.{IsAccepted}
@@ -11,9 +12,9 @@ use Rattle.cool_driver.specs.{Calls.{ShelfUse, SinkUse}, CommandLine.{asked_for}
 use Rattle.cool_driver.specs.Statuses.{READ_FAULT, WRITE_FAULT, OUT_OF_MEMORY}
 use Rattle.lists.specs.Bytes.{AreBytes}
 
--- Where words ask for `run`, the bytes that the files of the names gave are accepted as a program, and the status is none of 7, 8 and 9: the bytes
--- that a sink took, which held `held`, are an output, and with the status and what is left of the input it accords with the runs of the source, for
--- any input that begins with what the source gave, and is no more than that where it answered its end.
+-- The theorem for a call of `run` whose files gave bytes that are accepted as a program, with a status other than 7, 8 and 9. The bytes that a sink took,
+-- which held `held` before, are an output. It accords with the runs of the source, with the status and the rest of the input. The input is any that begins
+-- with the bytes that the source gave, and is no more than those if the source reported its end.
 abbrev pub RunsAsSource : (words : List (List ℕ)) → ShelfUse → (past past' : Past) → (held held' : Option (List ℕ)) → (status : ℕ) → Type 0
 RunsAsSource words shelf past past' held held' status =
     (asked : RunAsked) (contents : List (List ℕ)) (p : List Class) (given rest : List ℕ)
@@ -22,11 +23,11 @@ RunsAsSource words shelf past past' held held' status =
     → status ≢ READ_FAULT → status ≢ WRITE_FAULT → status ≢ OUT_OF_MEMORY
     → (output : List ℕ) × (held' ≡ appended held output) × Accord (source.run p asked.names given) (limits_of asked.limits) status output rest
 
--- how a shelf over the system fared since it was made: its count of faults, what it was asked for and what it gave
+-- the use of a shelf over the system since it was made: its count of faults, and the names and files that it was asked for and gave
 abbrev pub shelf_since_made : (faults : ℕ) → (asked gave : List (List ℕ)) → ShelfUse
 shelf_since_made faults asked gave = record { files = None; faults_before = 0; faults_after = faults; asked_after = asked; gave_after = gave }
 
--- how a sink fared since it was made and held nothing: what it took, its count of faults, and what it was given to put
+-- the use of a sink since it was made and held nothing: the bytes that it took, its count of faults, and its puts
 abbrev pub sink_since_made : (held : Option (List ℕ)) → (faults : ℕ) → (puts : List (List ℕ)) → SinkUse
 sink_since_made held faults puts = record {
   held_before = Some [];

@@ -1,4 +1,4 @@
--- How notes are told: the lines of a note, the note of a file that was not read, that bytes were written, and how a machine halted.
+-- The writing of notes: the lines of a note, the note of a file that was not read, the bytes that were written, and the note of a machine's halt.
 use Rattle.std.specs.{Prelude.{◌≡◌, ◌≢◌, ℕ, ◌==◌, ◌⊎◌, Bool, true, false, List, [], ◌∷◌, ◌++◌, Option, Some, None}, List.{concat, AllByRecursion}, Global.{Vec}}
 use Rattle.cool_ports.specs.declared.shelf.ShelfFault.{ShelfFault}
 use Rattle.cool_ports.specs.declared.shelf.ShelfFault.TheVariants as faults
@@ -40,7 +40,7 @@ Noted s bytes status answered = ((answered ≡ status) × Got s bytes) ⊎ ((ans
 abbrev pub NotedIfMade : SinkUse → List ℕ → Status → Status → Type 0
 NotedIfMade s bytes status answered = Noted s bytes status answered ⊎ ((answered ≡ statuses.Memory) × Got s [])
 
--- How a machine halted was noted, and its status answered, or the write of the note failed.
+-- The machine's halt was noted, and its status returned, or the write of the note failed.
 abbrev pub HaltNoted : SinkUse → Halt → Status → Type 0
 HaltNoted s halt answered =
     ((code_of answered ≡ status_of_halt halt) × Got s (note_of_halt halt))

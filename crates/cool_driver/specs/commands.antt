@@ -1,4 +1,4 @@
--- What each command promises, a file each.
+-- The promise of each command, in a file each.
 pub mod Usage
 pub mod Check
 pub mod Build

@@ -1,4 +1,4 @@
-//! The commands, a file each: what the words ask for is done, and how it ended is answered.
+//! The commands, in a file each: the requested command is done, and its end is returned.
 
 pub mod big;
 pub mod build;

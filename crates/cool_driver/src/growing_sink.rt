@@ -7,7 +7,7 @@ ghost use Rattle.cool_ports.specs.SinkBytes.{appended, GotPrefix};
 use cool_ports::{Failed, Log, Sink};
 use std::alloc::{AllocError, Global};
 
-/// A sink that keeps its bytes in memory, and takes more of it where they need more. So it fails only for want of memory.
+/// A sink that keeps its bytes in memory, and allocates more if they need more. So it fails only if memory runs out.
 #[derive(Drop)]
 pub struct GrowingSink {
     bytes: Vec<u8>,
@@ -29,7 +29,7 @@ impl GrowingSink {
         }
     }
 
-    /// How many bytes it holds.
+    /// The number of bytes that it holds.
     pub fn len(&self) -> usize
         ensures { result ≡ length self.now.bytes.items }
     {
@@ -44,7 +44,7 @@ impl Sink for GrowingSink {
 
     ghost puts = { λ sink. sink.puts.entries };
 
-    /// `Failed` comes only for want of memory; then nothing is put.
+    /// Returns `Failed` only if memory runs out; then nothing is put.
     #[tactic(auto, unfolding(cool_ports::specs::SinkBytes::appended))]
     fn put(&mut self, bytes: &[u8]) -> Result<(), Failed>
         requires { 0 < length bytes.now }

@@ -1,6 +1,6 @@
-//! The program: one call, `cool`, over the words of a command line and the outside.
+//! The program: one call, `cool`, over its arguments and the outside.
 //!
-//! Comes in: words, files, input. Goes out: output, notes and a status. It meets `specs/Ends.antt`.
+//! Input: words, files, input. Output: output, notes and a status. It implements `specs/Ends.antt`.
 #![tactic(auto)]
 
 ghost use Rattle.std.specs.Prelude.{◌≡◌, ◌⊎◌, ℕ, List, Bool, IfOk, None, Option, Some, false};
@@ -74,21 +74,20 @@ pub fn cool<F: Shelf, I: Source, O: Sink, E: Sink>(
     // Each text that it puts to the notes ends in a line feed.
     ensures lines { PutsLines (E.puts notes.old) (E.puts notes.new) }
 
-    // Where source files are refused for their faults, it puts a line for each fault.
+    // If source files are refused for their faults, it puts a line for each fault.
     ensures refused { result ≡ REFUSED → IfSources (asked_for (words_of words.now))
         (λ names. PutsFaults names (shelf_use F.Shelf files.old files.new) (E.puts notes.old) (E.puts notes.new)) }
 
     // Only `run`, `exec`, `debug`, `eval` and `session` take of the input.
     ensures input { TakesNoInput (words_of words.now) → input.new ≡ input.old }
 
-    // What it takes of the input: bytes, and then perhaps the answer that nothing is left, once.
+    // It takes bytes of the input, and then perhaps the answer that nothing is left, once.
     ensures taken { (ended : Bool) × Took false ended (I.past input.old) (I.past input.new) (I.left input.old) (I.left input.new) }
 
-    // Where a read cuts a session short, the source had not answered its end.
+    // If a read cuts a session short, the source had not answered its end.
     ensures unended { asked_for (words_of words.now) ≡ Some session → result ≡ READ_FAULT → (I.past input.new).ends ≡ (I.past input.old).ends }
 
-    // How it ends, by its status, for any input that begins with what it took, and is no more than that where the end was
-    // answered.
+    // The end of the call, by its status, for any input that begins with the bytes that it took, and is no more than those if the end was answered.
     ensures ends { (given rest : List ℕ) → Leaves (I.past input.old) (I.past input.new) given rest
         → Ends (call_of (words_of words.now) (shelf_use F.Shelf files.old files.new) given rest (I.faults input.old) (I.faults input.new)
         (sink_use O.Sink out.old out.new) (sink_use E.Sink notes.old notes.new)) result }

@@ -1,4 +1,4 @@
-//! The notes: what they say, and how they are written.
+//! The notes: their texts, and how they are written.
 
 ghost use Rattle.std.specs.Prelude.{◌≡◌, ◌≢◌, ◌+◌, ◌≤◌, [], ◌∷◌, ◌++◌, length, true, IfOk, Some, string_bytes};
 ghost use Rattle.cool_driver.specs.Calls.{sink_use};
@@ -15,22 +15,22 @@ use mips_isa::{AsmFault, AsmKind, Trap, TrapKind};
 use spim_debug::{ScriptFault, ScriptKind, hexadecimal_digits};
 use std::alloc::{AllocError, Global};
 
-/// Of words that are no command line.
+/// The note for arguments that are not a valid command line.
 pub const BAD_COMMAND_LINE: &[u8] = b"cool: bad command line\n";
 
-/// Of too many files.
+/// The note for too many files.
 pub const TOO_MANY_FILES: &[u8] = b"cool: too many files\n";
 
-/// Of a run that used up its heap.
+/// The note for a run that used up its heap.
 pub const HEAP_LIMIT: &[u8] = b"cool: heap limit\n";
 
-/// Of a run that used up its stack.
+/// The note for a run that used up its stack.
 pub const STACK_LIMIT: &[u8] = b"cool: stack limit\n";
 
-/// Of a run that has not ended after its steps.
+/// The note for a run that has not ended after its steps.
 pub const STEP_LIMIT: &[u8] = b"cool: step limit\n";
 
-/// Of a run whose input failed.
+/// The note for a run whose input failed.
 pub const READ_FAULT: &[u8] = b"cool: read fault\n";
 
 /// Writes a note at once and answers this status, or that the write failed.

@@ -1,4 +1,4 @@
-//! Why a command goes no further, and how that is told.
+//! The reasons why a command does not continue, and how they are written.
 
 ghost use Rattle.std.specs.Prelude.{◌≡◌, ◌<◌, ◌∷◌, [], ℕ, List, length, IfOk, Some, map};
 ghost use Rattle.std.specs.List.{AllByRecursion};
@@ -17,12 +17,12 @@ use cool_faults::{Fault, fault_text};
 use cool_ports::{ShelfFault, Sink};
 use std::alloc::{AllocError, AllocFailed, Global};
 
-/// Why a command goes no further.
+/// The reason why a command does not continue.
 #[derive(Drop)]
 pub enum Refusal {
-    /// For what these lines say. The call ends with this status.
+    /// The reason is these lines. The call ends with this status.
     Told(Status, Vec<Vec<u8>>),
-    /// For want of memory.
+    /// Out of memory.
     Memory,
 }
 
@@ -48,7 +48,7 @@ impl<T: Drop> From<AllocFailed<T>> for Refusal {
     }
 }
 
-/// For what this one line says.
+/// A refusal with a note of one line.
 pub fn refuse_by_line(alloc: Global, status: Status, line: &[u8]) -> Refusal
     ensures { IsLine status line.now result }
 {
@@ -58,7 +58,7 @@ pub fn refuse_by_line(alloc: Global, status: Status, line: &[u8]) -> Refusal
     }
 }
 
-/// This one line. `Err` comes only for want of memory.
+/// This one line. Returns `Err` only if memory runs out.
 fn lines_of_one(alloc: Global, line: &[u8]) -> Result<Vec<Vec<u8>>, AllocError>
     ensures { IfOk result (λ lines. texts lines.items ≡ line.now ∷ []) }
 {
@@ -67,7 +67,7 @@ fn lines_of_one(alloc: Global, line: &[u8]) -> Result<Vec<Vec<u8>>, AllocError>
     Ok(lines)
 }
 
-/// For the shelf's refusal of the file or the script of this name.
+/// The refusal for a file or a script of this name that the shelf refused.
 pub fn refuse_unread(alloc: Global, name: &str, fault: ShelfFault) -> Refusal
     ensures { (note : List ℕ) → fault_note name.now fault ≡ Some note → IsLine Status.FileFault note result }
 {
@@ -77,7 +77,7 @@ pub fn refuse_unread(alloc: Global, name: &str, fault: ShelfFault) -> Refusal
     }
 }
 
-/// For the faults of files of these names.
+/// The refusal for the faults of files of these names.
 pub fn refuse_for_faults(alloc: Global, names: &[String], faults: &[Fault]) -> Refusal
     requires { AllByRecursion (λ f. (place_of f).file < length names.now) faults.now }
     ensures { AreLinesOf (words_of names.now) faults.now result }
@@ -88,7 +88,7 @@ pub fn refuse_for_faults(alloc: Global, names: &[String], faults: &[Fault]) -> R
     }
 }
 
-/// A line for each fault of files of these names. `Err` comes only for want of memory.
+/// A line for each fault of files of these names. Returns `Err` only if memory runs out.
 fn lines_of_faults(
     alloc: Global,
     names: &[String],

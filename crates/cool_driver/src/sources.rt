@@ -1,4 +1,4 @@
-//! Sources: the files of a command, read, and accepted as a program, or why not.
+//! The source files of a command: they are read, and accepted as a program, or refused.
 
 ghost use Rattle.std.specs.Prelude.{◌≡◌, ◌<◌, ◌≤◌, ◌^◌, ◌++◌, length, IfErr, IfOk, OnOk, true};
 ghost use Rattle.cool_ports.specs.ShelfFiles.{AskedFront};

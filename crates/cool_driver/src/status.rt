@@ -1,4 +1,4 @@
-//! How a call ends.
+//! The exit statuses of a call.
 
 ghost use Rattle.std.specs.Prelude.{◌≡◌};
 ghost use Rattle.cool_driver.specs.Execution.{status_of_halt};
@@ -6,7 +6,7 @@ ghost use Rattle.cool_driver.specs.Statuses.{code_of};
 
 use spim_machine::Halt;
 
-/// How a call ends.
+/// The exit status of a call.
 #[derive(Clone, Copy)]
 pub enum Status {
     /// The run ended well, or the files were accepted.
@@ -38,7 +38,7 @@ pub enum Status {
 }
 
 impl Status {
-    /// That of a run that halted so.
+    /// The status of a halted run.
     pub fn of_halt(halt: Halt) -> Status
         ensures { code_of result ≡ status_of_halt halt }
     {

@@ -23,10 +23,10 @@ pub fn cool_over_system<R: Files, S: Read + Drop, O: Write, E: Write>(
     out: &mut StdSink<O>,
     notes: &mut StdSink<E>,
 ) -> u8
-    // It asks for the files of the command line alone, in order, each once, up to one that is refused.
+    // It asks only for the files of the command line, in order, each once, up to one that is refused.
     ensures asked { AskedFront (names_asked (asked_for (words_of words.now))) (⟦<FileShelf<R> as Shelf>⟧.asked files.old) (⟦<FileShelf<R> as Shelf>⟧.asked files.new) }
 
-    // How each command ends, by its status, as `ends` of `cool` says, by what the files gave, what the reader gave and what the writers took.
+    // The end of each command, by its status, as `ends` of `cool` says, given what the files gave, what the reader gave and what the writers took.
     ensures ends { (given rest : List ℕ) → Leaves (⟦<StdSource<S> as Source>⟧.past input.old) (⟦<StdSource<S> as Source>⟧.past input.new) given rest
         → Ends (call_of (words_of words.now)
         (shelf_use ⟦<FileShelf<R> as Shelf>⟧ files.old files.new)
@@ -34,7 +34,7 @@ pub fn cool_over_system<R: Files, S: Read + Drop, O: Write, E: Write>(
         (sink_use ⟦<StdSink<O> as Sink>⟧ out.old out.new)
         (sink_use ⟦<StdSink<E> as Sink>⟧ notes.old notes.new)) result }
 
-    // What this says of a program that `run` runs to its end, or to a limit.
+    // The consequence for a program that `run` runs to its end, or to a limit.
     ensures ran { RunsAsSource (words_of words.now)
         (shelf_use ⟦<FileShelf<R> as Shelf>⟧ files.old files.new)
         (⟦<StdSource<S> as Source>⟧.past input.old) (⟦<StdSource<S> as Source>⟧.past input.new)

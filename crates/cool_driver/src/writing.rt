@@ -1,4 +1,4 @@
-//! Writes an image to the output, in pieces.
+//! Writing an image to the output, in pieces.
 
 ghost use Rattle.std.specs.Prelude.{◌≢◌};
 ghost use Rattle.cool_ports.specs.SinkPuts.{pieces_of};

@@ -1,4 +1,4 @@
--- What parts of a program add, put together: lines and constants after lines and constants.
+-- Composition of additions (`Adds`): what several parts of a program add, one after another, to its lines and constants.
 use Rattle.std.proofs.Common.{◌≡◌, ℕ, zero, suc, ◌+◌, ◌≤◌, ◌<◌, List, [], ◌∷◌, ◌++◌, length, flat_map, take, get_or}
 use Rattle.std.proofs.Common.{Bool, true, false, ap, refl, sym, subst, ◌∙◌, arith, append_assoc, append-nil}
 use native.Mathlib.Numerals.{add-one}

@@ -104,7 +104,7 @@ module _ (p : List Class) (files : List (List ℕ)) where
       (omega arith, sym (all_asked p files b) ∙ ap (asked_by p files) (sym (whole_front (sections_in p) (length (sections_in p) + k) (omega arith)))),
     )
 
-    -- behind the first of them the others are left
+    -- after the first of them the others are left
     pub left_behind : (k : ℕ) (x : List Line) → x ≡ joined (take k (batches_of p files)) → program_lines p files ≡ x ++ joined (drop k (batches_of p files))
     left_behind k x is =
         sym all_lines

@@ -15,7 +15,7 @@ use Rattle.cool_layout.specs.Preorder.{numbers_from}
 use Rattle.cool_emit.specs.Programs.{Placed, attributes_from, methods_from, class_features, all_features, IsBuildable}
 use Rattle.cool_emit.proofs.Totals.{total, total-append, total-flat_map, total-le}
 
--- what is counted of each class, counted by the numbers of the classes
+-- a sum over the classes, by their numbers
 numbers_after : (g : Class → ℕ) (front p : List Class)
     → total (λ c. g (class_at (front ++ p) c)) (numbers_from (length front) (length p)) ≡ total g p
 numbers_after g front [] = refl
@@ -34,7 +34,7 @@ numbers_after g front (c ∷ p) =
 pub by_number : (g : Class → ℕ) (p : List Class) → total (λ c. g (class_at p c)) (numbers_from 0 (length p)) ≡ total g p
 by_number g p = numbers_after g [] p
 
--- what a class weighs
+-- the weight of a class
 abbrev pub class_weight : Class → ℕ
 class_weight c = 1 + length c.name + features_weight c.features
 
@@ -43,7 +43,7 @@ pub weight_is_total : (p : List Class) → weight_of p ≡ total class_weight p
 weight_is_total [] = refl
 weight_is_total (c ∷ p) = omega (arith, weight_is_total p)
 
--- what a feature weighs
+-- the weight of a feature
 abbrev pub placed_weight : Placed → ℕ
 placed_weight f = feature_weight f.feature
 
@@ -76,7 +76,7 @@ features_weigh p =
 
 -- A table weighs little more than its classes after the basic ones, which weigh no more than a text may have bytes.
 
--- what tables weigh, one after the other
+-- the weight of joined tables is the sum of their weights
 weight-append : (p q : List Class) → weight_of (p ++ q) ≡ weight_of p + weight_of q
 weight-append [] q = omega arith
 weight-append (c ∷ p) q = omega (arith, weight-append p q)

@@ -38,7 +38,7 @@ module _ (e : Emission) (c : ClassId) where
   abbrev place : ℕ → ℕ
   place pc = pc + sizes (begin_init_lines (initializer p c)) + sizes enter_lines + sizes (parent_code p (parent_of p c))
 
-  -- of a basic class nothing is told
+  -- a basic class has no rows
   pub basic_told : (a b : Told) → nat_lt c.0 5 ≡ true → b.address ≡ a.address + sizes (return_basic_lines (initializer p c)) → b.text ≡ a.text → TellsInitializer e c a b
   basic_told a b basic address text =
       tells_same p (return_basic_lines (initializer p c)) (initializer_code p (files_of e) (constants e) c) (λ pc. []) (λ pc. told_in_initializer sizes p (files_of e) (constants e) (rows_of e) pc c) a b
@@ -46,7 +46,7 @@ module _ (e : Emission) (c : ClassId) where
       (λ pc. sym (ap (λ (t : Bool). if t then [] else told (place pc)) basic))
       (tells_nothing p (return_basic_lines (initializer p c)) a b address text)
 
-  -- of another its attributes
+  -- another class has those of its attributes
   pub full_told : (a b d f : Told) → nat_lt c.0 5 ≡ false → b.address ≡ a.address + sizes (begin_code p c) → b.text ≡ a.text → TellsFeatures e c (attributes_in p c) b d
       → f.address ≡ d.address + sizes end_code → f.text ≡ d.text → TellsInitializer e c a f
   full_told a b d f other address text h end_address end_text =

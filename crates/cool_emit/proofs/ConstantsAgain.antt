@@ -19,7 +19,7 @@ module _ (X : Type 0) (same : X → X → Bool) (itself : (x : X) → same x x �
   abbrev Has : List X → X → Type 0
   Has xs x = list_any (same x) xs ≡ true
 
-  -- what a list has, it has with others behind
+  -- an item of a list is also in the list with others appended
   has_front : (xs rest : List X) (x : X) → Has xs x → Has (xs ++ rest) x
   has_front xs rest x h = list_any-append (same x) xs rest ∙ ap (λ b. b || list_any (same x) rest) h
 
@@ -51,7 +51,7 @@ module _ (X : Type 0) (same : X → X → Bool) (itself : (x : X) → same x x �
         all_had (one_more xs y) ys,
       )
 
-  -- of what it has it takes no more
+  -- adding items that the list has changes nothing
   no_more : (xs ys : List X) → AllByRecursion (Has xs) ys → more xs ys ≡ xs
   no_more xs [] h = refl
   no_more xs (y ∷ ys) h = ap (λ b. more (if b then xs else xs ++ y ∷ []) ys) h.0 ∙ no_more xs ys h.1

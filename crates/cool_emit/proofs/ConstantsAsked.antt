@@ -1,4 +1,4 @@
--- How many constants the features of a program ask for: no more integers than the program weighs, and no more than twice as many strings.
+-- The number of constants of a program's features: no more integers than the program's weight, and at most twice as many strings.
 use Rattle.std.proofs.Common.{◌≡◌, ℕ, ◌+◌, ◌*◌, ◌≤◌, List, [], ◌∷◌, ◌++◌, length, flat_map}
 use Rattle.std.proofs.Common.{Option, Some, None, Bool, true, false, ap, arith, length-append}
 use Rattle.std.specs.Prelude.{nat_eq, bytes_eq, if◌then◌else◌}

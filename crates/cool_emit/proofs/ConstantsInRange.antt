@@ -26,13 +26,13 @@ use Rattle.cool_emit.specs.FileNames.{AreShortNames}
 use Rattle.cool_emit.specs.Programs.{Placed, attributes_from, methods_from, class_features, all_features, program_constants, IsBuildable}
 use Rattle.lists.proofs.AllItems.{all_append}
 
--- what holds of the lists that are made for the elements of a list holds of them joined
+-- a property of the lists that are made for the elements of a list holds for the joined list
 pub all_flat : {X Y : Type 0} (P : X → Type 0) (Q : Y → Type 0) (f : X → List Y) (xs : List X) → ((x : X) → P x → AllByRecursion Q (f x))
     → AllByRecursion P xs → AllByRecursion Q (flat_map f xs)
 all_flat P Q f [] each all = tt
 all_flat P Q f (x ∷ xs) each all = all_append Q (f x) (flat_map f xs) (each x all.0) (all_flat P Q f xs each all.1)
 
--- what holds of the constants that are there and of those that are asked for holds of both
+-- a property of the constants that are there and of those that are added holds for both together
 all_with_integers : (P : ℕ → Type 0) (xs ys : List ℕ) → AllByRecursion P xs → AllByRecursion P ys → AllByRecursion P (with_integers xs ys)
 all_with_integers P xs [] all more = all
 all_with_integers P xs (y ∷ ys) all more = all_with_integers P (with_integer xs y) ys (by (list_any (nat_eq y) xs)) more.1
@@ -170,7 +170,7 @@ feature_low n (Attribute a) h = by a.init h.3
     by None h = tt
     by (Some t) h = integers_low n t h
 
--- what holds of all features of a class holds of those that are placed
+-- a property of all features of a class holds for those that are placed
 
 abbrev IsPlacedWithin : ℕ → Placed → Type 0
 IsPlacedWithin n f = IsFeatureWithin n f.feature

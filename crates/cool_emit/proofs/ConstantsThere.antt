@@ -85,7 +85,7 @@ module _ (p : List Class) (files : List (List ℕ)) where
       (bool_lines true_constant (tag p (class_number 3)) 1 ++ (integers ++ strings)) n
       (has_right (bool_lines true_constant (tag p (class_number 3)) 1) (integers ++ strings) n h))
 
-  -- by their numbers
+  -- labels of constants, by their numbers
   pub int_constant_there : (k : ℕ) → k < length (program_constants p files).integers → Has (program_lines p files) (int_constant k)
   unfolding integers
   int_constant_there k less =
@@ -113,7 +113,7 @@ module _ (p : List Class) (files : List (List ℕ)) where
       (λ j bytes. has_string_length (string_constant j) (string_length j) (tag p (class_number 2)) (tag p (class_number 4)) bytes) 0
       (program_constants p files).strings k less)))
 
-  -- by their values
+  -- labels of constants, by their values
   pub integer_there : (n : ℕ) → Contains (program_constants p files).integers n
       → Has (program_lines p files) (integer_label (program_constants p files) n)
   integer_there n h =
@@ -129,7 +129,7 @@ module _ (p : List Class) (files : List (List ℕ)) where
       string_constant_there (string_number (program_constants p files).strings bytes)
       (first_place_less (bytes_eq bytes) (program_constants p files).strings bytes (bytes_eq-same bytes) h)
 
-  -- where the heap begins
+  -- the label of the heap's begin
   pub heap_start_there : Has (program_lines p files) heap_start
   heap_start_there =
       data_there p files heap_start (has_right (layout_lines p) (lines_of_constants p files ++ heap_lines) heap_start

@@ -1,4 +1,4 @@
--- How often a name stands among names, and how large a sum over numbers is of which at most one counts.
+-- Counting occurrences of a name in a list, and sums over a range in which at most one term is nonzero.
 use Rattle.std.proofs.Common.{◌≡◌, ◌≢◌, ℕ, zero, suc, ◌+◌, ◌<◌, ◌≤◌, List, [], ◌∷◌, ◌++◌, Bool}
 use Rattle.std.proofs.Common.{true, false, not, ◌&&◌, ◌||◌, true≢false, refl, sym, ap, ◌∙◌, arith}
 use Rattle.std.specs.Prelude.{nat_eq, nat_le, nat_lt, bytes_eq}
@@ -8,7 +8,7 @@ use Rattle.cool_layout.proofs.Counting.{one}
 use Rattle.lists.specs.Different.{AreDifferent}
 use Rattle.lists.proofs.EqualBytes.{bytes_eq-same, bytes_equal}
 
--- how often a name stands in a list
+-- the number of times that a name is in a list
 abbrev pub times : List ℕ → List (List ℕ) → ℕ
 times x [] = 0
 times x (y ∷ ys) = one (bytes_eq x y) + times x ys
@@ -22,7 +22,7 @@ abbrev pub total_from : (ℕ → ℕ) → ℕ → ℕ → ℕ
 total_from f k zero = 0
 total_from f k (suc n) = f k + total_from f (k + 1) n
 
--- those in a list and in the one after it
+-- the count in joined lists is the sum of the counts
 pub times-append : (x : List ℕ) (xs ys : List (List ℕ)) → times x (xs ++ ys) ≡ times x xs + times x ys
 times-append x [] ys = omega arith
 times-append x (y ∷ xs) ys = let e : times x (xs ++ ys) ≡ times x xs + times x ys = times-append x xs ys in omega arith
@@ -97,7 +97,7 @@ none f k (suc n) o b less h =
     let r : total_from f (k + 1) n ≤ 0 = none f (k + 1) n o b (omega arith) (λ i l u. h i (omega arith) (omega arith)) in
     omega arith
 
--- of numbers that count only at one place, the sum is no more than one of them
+-- if at most one number of a range is counted, the sum is at most one, and zero if `b` is false
 pub total_one : (f : ℕ → ℕ) (k n o : ℕ) (b : Bool) → ((i : ℕ) → k ≤ i → i < k + n → f i ≤ one (nat_eq i o && b)) → total_from f k n ≤ one b
 total_one f k zero o b h = omega arith
 total_one f k (suc n) o b h = by (nat_eq k o) refl (total_one f (k + 1) n o b (λ i l u. h i (omega arith) (omega arith)))

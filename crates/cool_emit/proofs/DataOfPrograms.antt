@@ -159,7 +159,7 @@ module _ (p : List Class) (files : List (List ℕ)) (b : IsBuildable p files) wh
   abbrev IsLine : Line → Type 0
   IsLine line = IsData Known line.statement
 
-  -- what is shown of each class of the table holds of all in preorder
+  -- a property of each class of the table holds for all in preorder
   in_order : (P : ClassId → Type 0) → ((c : ClassId) → c.0 < length p → P c) → AllByRecursion P (preorder p)
   in_order P each = all_then (λ (c : ClassId). c.0 < length p) P (preorder p) each (preorder_in p (rooted p b.typed.whole))
 
@@ -206,7 +206,7 @@ module _ (p : List Class) (files : List (List ℕ)) (b : IsBuildable p files) wh
     ),
   )
 
-  -- what an attribute holds before it is given a value
+  -- the value of an attribute before it is given one
   default_data : (name : List ℕ) → IsDataWord Known (default_value name)
   default_data name = by (bytes_eq name (codes "Int")) (bytes_eq name (codes "Bool")) (bytes_eq name (codes "String"))
     where

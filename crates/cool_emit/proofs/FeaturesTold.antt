@@ -61,7 +61,7 @@ pub formal_lines : (p : List Class) (vs : List Named) → flat_map (λ v. codes 
 formal_lines p [] = refl
 formal_lines p (v ∷ vs) = ap (λ (t : List ℕ). row_line p (formal_row v) ++ t) (formal_lines p vs)
 
--- what a feature's spans show lies within its lines
+-- the spans of a feature lie within its lines
 abbrev pub LiesIn : ℕ → Shown → Type 0
 LiesIn n v = (v.from ≤ n) × (v.to ≤ n)
 

@@ -28,7 +28,7 @@ use Rattle.cool_codegen.specs.Features.{attributes_in, feature_code, initial_val
 use Rattle.cool_codegen.specs.Types.{trees_count, class_meant}
 use Rattle.cool_codegen.specs.Variables.{Named, bind}
 
--- what each of these lines needs
+-- the space that each of these lines needs
 abbrev pub kinds : List Line → List Need
 kinds = map (λ line. need line.statement)
 

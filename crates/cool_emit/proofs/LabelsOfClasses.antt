@@ -62,7 +62,7 @@ both_parts x F o b k (Attribute a ∷ fs) h =
     let f : Placed = record { place = k; feature = Attribute a } in
     omega (arith, h.0, both_parts x F o b (k + 1) fs h.1, marks-append x (F f) (flat_map F (attributes_from (k + 1) fs)))
 
--- of the labels of all features a name is one at most
+-- a name is at most one of the labels of all features
 pub parts_once : (x : Name) (F : Placed → List Line) (o : ℕ) (b : Bool) (fs : List Feature)
     → EachInPlace (λ j f. marks x (F (record { place = j; feature = f })) ≤ one (nat_eq j o && b)) 0 fs
     → marks x (flat_map F (attributes_from 0 fs)) + marks x (flat_map F (methods_from 0 fs)) ≤ one b
@@ -144,7 +144,7 @@ module _ (x : Name) where
         marks x (placed_code p files g c (record { place = j; feature = f }))
         ≤ one (nat_eq j (label_feature p x) && of_class p c.0 2 4 x)
 
-    -- what the code of a class holds
+    -- the labels of a class's code
     features_once : (g : Constants) (c : ClassId) → c.0 < length p → EachInPlace (IsOnce g c) 0 (features_of p c)
     features_once g c within = by (nat_lt c.0 5) refl
       where

@@ -1,4 +1,4 @@
--- How often a name is a label of the code of an expression: no more often than it is a label of one kind at one of the expression's nodes.
+-- The number of times that a name is a label of an expression's code: at most the number of times that it is a label of one kind at one node.
 use Rattle.std.proofs.Common.{◌≡◌, ℕ, ◌+◌, ◌-◌, ◌≤◌, List, [], ◌∷◌, ◌++◌, Option, Some}
 use Rattle.std.proofs.Common.{None, Bool, true, false, refl, ap, ◌∙◌, arith, get_or}
 use Rattle.std.specs.Prelude.{ℤ, pos, ◌*◌, length, unwrap_or, bytes_eq, codes, nat_eq, nat_lt, if◌then◌else◌}
@@ -53,7 +53,7 @@ use Rattle.cool_emit.specs.SoundLines.{labels_of}
 use Rattle.cool_emit.proofs.CountedNames.{times, times-append, total_from, total_from-append, total_from_more}
 use Rattle.cool_emit.proofs.NamesApart.{kinds}
 
--- how often a name is a label of lines
+-- the number of times that a name is a label of lines
 abbrev pub marks : Name → List Line → ℕ
 marks x ls = times x (labels_of ls)
 
@@ -175,7 +175,7 @@ module _ (x : Name) where
   abbrev pub kind_hit : ℕ → ℕ → ℕ → List ℕ → ℕ
   kind_hit c f n kind = one (bytes_eq x (inner kind c f n))
 
-  -- those of all kinds at a node
+  -- the same for all kinds at a node
   abbrev pub node_hits : ℕ → ℕ → ℕ → ℕ
   node_hits c f n = total_from (λ i. kind_hit c f n (get_or kinds i [])) 0 6
 
@@ -184,7 +184,7 @@ module _ (x : Name) where
       + kind_hit c f n (codes "some") + kind_hit c f n (codes "fits") + kind_hit c f n (codes "next")
   hits_are c f n = omega arith
 
-  -- those of so many nodes, from one on
+  -- the same for so many nodes, from one on
   abbrev pub hits : ℕ → ℕ → ℕ → ℕ → ℕ
   hits c f k n = total_from (node_hits c f) k n
 
@@ -219,8 +219,8 @@ module _ (x : Name) where
         let h : own_hits (k + n) ≡ own_hits (k + (n + 1) - 1) = ap own_hits l in
         omega arith
 
-    -- What the parts of an expression hold, and the labels of its own node, is no more than the labels of all its nodes. The label `next`
-    -- of that node is left for the branch whose body the expression is.
+    -- The labels of an expression's parts and of its own node are no more than the labels of all its nodes. The label `next` of that node is left for the
+    -- branch whose body the expression is.
     with_own : (k n m q : ℕ) → m ≤ within k n → q + own_hit (k + (n + 1) - 1) (codes "next") ≤ own_hits (k + (n + 1) - 1)
         → m + q + own_hit (k + (n + 1) - 1) (codes "next") ≤ within k (n + 1)
     with_own k n m q le own =

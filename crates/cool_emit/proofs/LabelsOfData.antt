@@ -75,7 +75,7 @@ module _ (x : Name) where
   heap_once : marks x heap_lines ≤ one (between 17 18 (sort x))
   heap_once = listed (λ y. between 17 18 (sort y)) x (heap_start ∷ []) refl refl
 
-  -- What each class holds, by tag: a name that only the class of one number holds counts as often as that class, and else not at all.
+  -- A sum over the classes, by tag: a name that only the class of one number holds is counted once if that class is in the list, and else not at all.
 
   each_once : (F : ClassId → List Line) (o : ℕ) (cs : List ClassId)
       → AllByRecursion (λ c. marks x (F c) ≤ one (nat_eq c.0 o && true)) cs

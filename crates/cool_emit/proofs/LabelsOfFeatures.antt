@@ -171,7 +171,7 @@ module _ (p : List Class) (x : Name) where
         let once : marks x body ≤ one (of_feature p c.0 k 3 4 x) = body_once s g (attributes_in p c) t cs ks h in
         omega (arith, sum, none, once, wide k)
 
-    -- what a feature holds
+    -- the labels of a feature
     pub feature_once : (files : List (List ℕ)) (g : Constants) (k : ℕ) (f : Feature) → c.0 < 2 ^ 64 → k < 2 ^ 64
         → list_any (bytes_eq (name_of p c)) basic_texts ≡ false
         → IsFound (features_of p c) k f → IsSmallFeature f

@@ -14,7 +14,7 @@ use Rattle.cool_runtime.specs.Instructions.{label}
 use Rattle.cool_emit.specs.SoundLines.{labels_of}
 use Rattle.lists.proofs.Membership.{first_there, later_there}
 
--- what stands at a place below the length, by computing
+-- the item at a position below the length, by computing
 pub place_there : {X : Type 0} (xs : List X) (k : ℕ) (x : X) → nat_lt k (length xs) ≡ true → get_or xs k x ≡ x → Contains xs x
 place_there xs k x l e = (k, grind arith, e)
 

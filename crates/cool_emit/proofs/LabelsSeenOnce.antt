@@ -34,7 +34,7 @@ one_more_seen first seen (name ∷ names) apart new =
     by true e = absurd (apart.0 ((bytes_eq-Decides name first).0 e))
     by false e = refl
 
--- of different names, the last are different from the first
+-- if names are different, the last ones are different from the first ones
 after_new : (front back : List Name) → AreDifferent (front ++ back) → AreNew front back
 after_new [] back apart = nothing_seen back
 after_new (name ∷ front) back apart =
@@ -45,7 +45,7 @@ after_different : (front back : List Name) → AreDifferent (front ++ back) → 
 after_different [] back apart = apart
 after_different (name ∷ front) back apart = after_different front back apart.1
 
--- what is new to two lists is new to both together
+-- names that are new to two lists are new to both together
 both_seen : (seen more names : List Name) → AreNew seen names → AreNew more names → AreNew (seen ++ more) names
 both_seen seen more [] h k = tt
 both_seen seen more (name ∷ names) h k =
@@ -58,7 +58,7 @@ none_twice seen (name ∷ front) back new apart =
     or_from (has seen name) (any_twice (name ∷ seen) front) new.0
     (none_twice (name ∷ seen) front back (one_more_seen name seen (front ++ back) apart.0 new.1) apart.1)
 
--- What the labels of one line leave of those that follow.
+-- The labels `front` of one line are new and different, and the labels `back` of the following lines are new after them.
 pub record LeftOnce (seen front back : List Name) : Type 0 where
   pub once : any_twice seen front ≡ false
   pub new : AreNew (seen ++ front) back

@@ -222,7 +222,7 @@ module _ (p : List Class) (files : List (List ℕ)) where
       (has_right (int_lines default_int (int_tag p) 0) (lines_of_default_string p) default_string
       (has_object default_string (string_tag p) 5 string_table empty_string_fields)))
 
-  -- what each class has
+  -- the labels of each class
   module _ (b : IsBuildable p files) (c : ClassId) (within : c.0 < length p) where
     in_order : Contains (preorder p) c
     in_order = in_preorder p (rooted p b.typed.whole) c within

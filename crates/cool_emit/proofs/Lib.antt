@@ -46,7 +46,6 @@ mod PassesEnd
 pub mod SpansOfPrograms
 mod KindsInAll
 mod TellingParts
-mod BranchesPut
 mod PartsOfLines
 mod SpansByAddress
 mod RowsStanding

@@ -1,4 +1,4 @@
--- Where the methods of a class stand among its features: the one of a name at the place at which a search for the name ends.
+-- The positions of a class's methods among its features: a method is at the position where the search for its name ends.
 use Rattle.std.proofs.Common.{◌≡◌, ◌≢◌, ℕ, suc, ◌+◌, List, [], ◌∷◌, ◌++◌, length, Some, Bool, true}
 use Rattle.std.proofs.Common.{false, refl, sym, ap, ◌∙◌, subst, arith, append_assoc, length-append}
 use Rattle.std.specs.Prelude.{bytes_eq, slice_get, if◌then◌else◌}
@@ -16,7 +16,7 @@ abbrev pub EachInPlace : (ℕ → Feature → Type 0) → ℕ → List Feature �
 EachInPlace P k [] = Unit {0}
 EachInPlace P k (f ∷ fs) = P k f × EachInPlace P (k + 1) fs
 
--- what follows from a property that each has
+-- a weaker property holds for each, too
 pub each-weaker : (P Q : ℕ → Feature → Type 0) (k : ℕ) (fs : List Feature) → ((j : ℕ) (f : Feature) → P j f → Q j f)
     → EachInPlace P k fs → EachInPlace Q k fs
 each-weaker P Q k [] w h = tt

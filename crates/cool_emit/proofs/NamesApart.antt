@@ -1,4 +1,4 @@
--- What a label says of itself: to which sort it belongs, of which class it is, and which numbers it has.
+-- The bytes of a label determine its sort, its class and its numbers, so different labels have different names.
 use Rattle.std.proofs.Common.{◌≡◌, ℕ, zero, suc, ◌-◌, ◌^◌, ◌<◌, List, [], ◌∷◌, ◌++◌, length}
 use Rattle.std.proofs.Common.{take, get_or, Bool, true, false, ◌&&◌, ◌||◌, refl, sym, ap}
 use Rattle.std.proofs.Common.{◌∙◌, arith, true≢false, decimal, All, length-append}
@@ -28,7 +28,7 @@ abbrev pub after : ℕ → List ℕ → List ℕ
 after b [] = []
 after b (c ∷ cs) = if nat_eq c b then cs else after b cs
 
--- where the byte is not in the text before it
+-- the same if the byte is not in the text before it
 pub before_first : (b : ℕ) (xs ys : List ℕ) → has b xs ≡ false → before b (xs ++ b ∷ ys) ≡ xs
 before_first b [] ys h = let e : nat_eq b b ≡ true = grind arith in rw e refl
 before_first b (x ∷ xs) ys h = by (nat_eq x b) refl h (before_first b xs ys)
@@ -57,7 +57,7 @@ abbrev pub last_digits : List ℕ → List ℕ
 last_digits [] = []
 last_digits (c ∷ cs) = if list_all is_digit (c ∷ cs) then c ∷ cs else last_digits cs
 
--- digits alone have nothing before them
+-- a list of only digits has nothing before them
 pub stem_of_digits : (ds : List ℕ) → list_all is_digit ds ≡ true → stem ds ≡ []
 stem_of_digits [] h = refl
 stem_of_digits (d ∷ ds) h = rw h refl
@@ -70,7 +70,7 @@ last_of_digits (d ∷ ds) h = rw h refl
 digit_range : (b : ℕ) → IsInRange 48 57 b → is_digit b ≡ true
 digit_range b h = grind arith
 
--- so a number has digits alone, which say what it is
+-- so a number has only digits, which determine it
 all_digits : (ds : List ℕ) → All (IsInRange 48 57) ds → list_all is_digit ds ≡ true
 all_digits [] h = refl
 all_digits (d ∷ ds) h = rw (digit_range d (All-head (IsInRange 48 57) d ds h)) (all_digits ds (All-tail (IsInRange 48 57) d ds h))
@@ -103,7 +103,7 @@ last_byte (c ∷ d ∷ cs) = last_byte (d ∷ cs)
 abbrev pub without : ℕ → List ℕ → List ℕ
 without n x = take (length x - n) x
 
--- of a text and one after it
+-- the last byte of a text and one after it
 pub last_of_append : (xs : List ℕ) (b : ℕ) (bs : List ℕ) → last_byte (xs ++ b ∷ bs) ≡ last_byte (b ∷ bs)
 last_of_append [] b bs = refl
 last_of_append (x ∷ []) b bs = refl
@@ -184,7 +184,7 @@ abbrev pub sort_among : List Stem → List ℕ → ℕ
 sort_among [] text = 0
 sort_among (s ∷ ss) text = if bytes_eq s.text text then s.sort else sort_among ss text
 
--- what a class is named by, by the last byte of `_init`, `_dispTab` and `_protObj`
+-- the kind of a class's label, by the last byte of `_init`, `_dispTab` and `_protObj`
 abbrev pub sort_of_end : ℕ → ℕ
 sort_of_end b = if nat_eq b 116 then 1 else if nat_eq b 98 then 6 else if nat_eq b 106 then 7 else 0
 

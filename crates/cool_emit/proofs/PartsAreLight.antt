@@ -1,4 +1,4 @@
--- How many constants a part of a program may add: no more than it weighs.
+-- A part of a program adds no more constants than its weight.
 use Rattle.std.proofs.Common.{◌≡◌, ◌∙◌, ℕ, zero, suc, ◌+◌, ◌*◌, ◌≤◌, List, [], ◌∷◌, ◌++◌, length, take, get_or, ap, arith}
 use Rattle.mips_isa.specs.Lines.{Line}
 use Rattle.cool_syntax.specs.declared.file_tree.Feature.{Feature}
@@ -45,7 +45,7 @@ pub light_part : (p : List Class) (files : List (List ℕ)) → IsBuildable p fi
 light_part p files b c part i =
     omega (arith, part_weight part (take i (features_of p c)), front_weight i (features_of p c), light_class p files b c)
 
--- what is added is no more than it weighs
+-- the constants added are no more than the weight
 pub few_more_integers : (files : List (List ℕ)) (fs : List Placed) (code : Constants → List Line) (a b : Constants)
     (x y : List Line) → Adds files fs code a b x y → length b.integers ≤ length a.integers + total placed_weight fs
 few_more_integers files fs code a b x y h =

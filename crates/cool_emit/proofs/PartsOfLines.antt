@@ -5,7 +5,7 @@ use Rattle.mips_isa.specs.Lines.{Line}
 use Rattle.cool_codegen.specs.Spans.{StandsBehind}
 use Rattle.cool_emit.proofs.TellingParts.{take_front}
 
--- what stands behind so many lines stands behind these lines
+-- the lines behind so many lines of a text are the lines behind these
 module _ (text part : List Line) (n : ℕ) (h : StandsBehind text n part) where
   pub front_taken : h.front ≡ take n text
   front_taken = sym (ap (take n) h.whole ∙ ap (λ (k : ℕ). take k (h.front ++ (part ++ h.rest))) (sym h.many) ∙ take_front h.front (part ++ h.rest))

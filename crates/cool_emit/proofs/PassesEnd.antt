@@ -1,4 +1,4 @@
--- How the passes of the assembler end.
+-- The results of the assembler's passes.
 use Rattle.std.proofs.Common.{◌≡◌, sym, subst}
 use Rattle.std.specs.Prelude.{List, Result, Err}
 use Rattle.mips_isa.specs.declared.asm_fault.AsmError.{AsmError}
@@ -8,7 +8,7 @@ use Rattle.mips_isa.specs.Lines.{Line}
 use Rattle.mips_isa.specs.Assembly.{Assembles}
 use Rattle.mips_asm.specs.SecondPasses.{Begins}
 
--- want of memory
+-- out of memory
 pub short_of_memory : (lines : List Line) (result : Result ImageParts AsmError) → result ≡ Err Memory → Assembles lines result
 short_of_memory lines result is = subst (Assembles lines) (sym is) tt
 

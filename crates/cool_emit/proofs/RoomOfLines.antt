@@ -12,7 +12,7 @@ use Rattle.mips_isa.specs.Assembly.{up, padded, after_need, after_line, is_text,
 use Rattle.cool_runtime.specs.Images.{IsTextNeed}
 use Rattle.cool_emit.specs.SoundLines.{MOST_TEXT_WORDS, IsText, IsData, AreText, AreData, text_need, text_room, data_need, data_room, joined_lines}
 
--- What statements need
+-- The space that statements need
 
 -- padding takes less than four bytes
 abbrev pub IsSmall : ℕ → Type 0
@@ -107,7 +107,7 @@ not_too_large p segment words bytes room =
     or_from (nat_lt 66060288 p.words) (nat_lt 268435456 p.bytes) (le-ltb 66060288 p.words (omega arith))
     (le-ltb 268435456 p.bytes (omega arith))
 
--- what a statement needs is right in its segment
+-- the space that a statement needs is right in its segment
 
 text_not_wrong : (n : Need) (g : Segment) → g ≡ Text → IsTextNeed n → is_wrong n g ≡ false
 text_not_wrong Nothing g e fits = refl

@@ -1,4 +1,4 @@
--- How much room the pieces of code take: a word for each instruction, two for an address or a number, and one for a label.
+-- The space that pieces of code take: a word for each instruction, two for an address or a number, and one for a label.
 use Rattle.std.proofs.Common.{◌≡◌, ℕ, ℤ, ◌+◌, ◌≤◌, List, [], ◌∷◌, ◌++◌, Option}
 use Rattle.std.proofs.Common.{Some, None, Bool as Truth, true, false, refl, arith}
 use Rattle.std.specs.Prelude.{if◌then◌else◌, nat_eq, nat_lt, codes}
@@ -182,7 +182,7 @@ pub room_return_basic : (name : Name) → text_room (return_basic_lines name) �
 unfolding return_basic_lines
 room_return_basic name = refl
 
--- what is made of pieces by the kind of a name, of a type or of an operator
+-- pieces that depend on the kind of a name, of a type or of an operator
 
 pub room_name : (vs : List Named) (name : List ℕ) → text_room (name_code vs name) ≤ 1
 room_name vs name = by (is_self name)

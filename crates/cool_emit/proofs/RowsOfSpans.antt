@@ -89,7 +89,7 @@ module _ (p : List Class) (files : List (List ℕ)) where
         ∙ ap (λ (ys : List Shown). ys ++ flat_map told_by (map (shown_row pc lines) (map (shown s g) xs))) (silent_head p pc (pc + sizes lines) f.feature)
         ∙ told_each xs all ∙ ap (λ (ys : List Span). map (told_of p files) (map placed ys)) (feature_by_address lines pc s g 0 pc f.feature at)
 
-  -- of parts one behind the other
+  -- rows and spans of parts, one after another
   told_along : {X : Type 0} (code : X → List Line) (rows : ℕ → X → List Row) (spans : ℕ → X → List SpanOf) → ((q : ℕ) (x : X) → flat_map told_by (rows q x) ≡ map (told_of p files) (spans q x)) → (q : ℕ) (xs : List X)
       → flat_map told_by (along sizes code rows q xs) ≡ map (told_of p files) (along sizes code spans q xs)
   told_along code rows spans h q [] = refl

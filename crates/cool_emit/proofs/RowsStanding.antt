@@ -33,7 +33,7 @@ use Rattle.cool_emit.proofs.TellingParts.{sizes_append}
 use Rattle.lists.proofs.AllItems.{all_append}
 use Rattle.lists.proofs.Membership.{later_there}
 
--- what holds of each with what else does
+-- a property of each member, with one more fact about each
 pub member_all : {X : Type 0} (P Q : X → Type 0) (xs : List X) → AllByRecursion P xs → ((x : X) → Contains xs x → P x → Q x) → AllByRecursion Q xs
 member_all P Q [] all h = tt
 member_all {X = X} P Q (x ∷ xs) all h = (h x (0, omega arith, refl) all.0, member_all P Q xs all.1 (λ y there. h y (later y there)))
@@ -79,7 +79,7 @@ module _ (w : World) (p : List Class) (files : List (List ℕ)) where
         )
         by (Attribute a) e = of_initial a e a.init refl
 
-    -- what stands behind so many of the lines stands at the address behind those
+    -- code behind so many of the lines is at the address behind those
     of_span : (x : Span) → Contains (feature_spans length (context_of p files c f.place) (program_constants p files) 0 f.feature) x
         → StandsBehind lines x.from (code_of (context_of p files c f.place) (program_constants p files) x)
         → IsTrue w p files (shown_row pc lines (shown (context_of p files c f.place) (program_constants p files) x))

@@ -21,7 +21,7 @@ use Rattle.cool_codegen.specs.Shown.{Shown, shown}
 use Rattle.cool_codegen.specs.Spans.{Span, Spanned, span, spans, arguments_spans, items_spans, initial_spans, with_branch, branches, along, feature_spans, initial_value_spans}
 use Rattle.cool_codegen.specs.Types.{trees_count}
 use Rattle.cool_codegen.specs.Variables.{Named, bind}
-use Rattle.cool_emit.proofs.BranchesPut.{all_put}
+use Rattle.cool_codegen.proofs.ArmsInOrder.{all_put}
 use Rattle.cool_emit.specs.CodeTables.{Row, attribute_row, class_rows, code_row, formal_row, feature_rows, head_rows, initial_rows, shown_row}
 use Rattle.cool_emit.specs.Programs.{Placed, placed_code, program_constants}
 use Rattle.cool_emit.specs.RowsOfSpans.{ScopesOfRows, latest_before, named_by, scope_at, scopes_from, told_by, told_of}
@@ -33,7 +33,7 @@ use Rattle.cool_emit.proofs.RowsOfSpans.{map_both, rows_of_feature}
 abbrev Extends : List Named → List Named → Type 0
 Extends cur vs = (more : List Named) × (cur ≡ more ++ vs)
 
--- but for the latest name
+-- all except the latest name
 abbrev rest : List Named → List Named
 rest [] = []
 rest (v ∷ vs) = vs
@@ -46,7 +46,7 @@ drop_front : (more vs : List Named) → drop (length more) (more ++ vs) ≡ vs
 drop_front [] vs = refl
 drop_front (v ∷ more) vs = drop_front more vs
 
--- what was entered first in an extended scope
+-- the names entered first in an extended scope
 first_entered : (cur vs : List Named) (n : ℕ) → Extends cur vs → n ≡ length vs + 1 → drop (length cur + 1 - n) cur ≡ vs
 first_entered cur vs n (more, is) e =
     let l : length cur ≡ length more + length vs = ap length is ∙ length-append more vs in
@@ -59,20 +59,20 @@ scope_is cur [] x count latest h = ap (λ (o : Option Named). latest_before o (d
 scope_is cur (v ∷ vs) x count latest h =
     ap₂ (λ (o : Option Named) (us : List Named). latest_before o us) latest (first_entered cur vs x.names h (let l : length (v ∷ vs) ≡ length vs + 1 = omega arith in count ∙ l))
 
--- where rows tell the scopes of spans
+-- rows that give the scopes of spans
 module _ (told : Span → Shown) (count : (x : Span) → (told x).names ≡ length x.scope) (latest : (x : Span) → (told x).latest ≡ slice_get x.scope 0) where
   abbrev scope : Span → List Named
   scope x = x.scope
 
-  -- from a scope on, the scopes of these spans are had, and behind them the scope extends another
+  -- starting from a scope, the scopes of these spans can be computed, and the scope after them extends another
   abbrev Follow : List Named → List Named → List Span → List Span → Type 0
   Follow cur vs xs zs = (next : List Named) × Extends next vs × (scopes_from cur (map told (xs ++ zs)) ≡ map scope xs ++ scopes_from next (map told zs))
 
-  -- of parts where names are in scope, behind a scope that extends it
+  -- the same for parts whose scope is extended by the one before them
   abbrev Keeps : List Named → List Span → Type 0
   Keeps vs xs = (cur : List Named) → Extends cur vs → (zs : List Span) → Follow cur vs xs zs
 
-  -- of a whole, behind one that extends all but the latest name
+  -- the same for a whole, after a scope that extends all except the latest name
   abbrev Opens : List Named → List Span → Type 0
   Opens vs xs = (cur : List Named) → Extends cur (rest vs) → (zs : List Span) → Follow cur vs xs zs
 

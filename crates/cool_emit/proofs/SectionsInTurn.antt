@@ -112,7 +112,7 @@ classes_within p k (suc n) most =
 all_within : (p : List Class) → AllByRecursion (IsSection p) (sections_in p)
 all_within p = (tt, classes_within p 0 (length p) (omega arith))
 
--- what holds of all of a list holds of its item between others
+-- a property of all items of a list holds for an item between others
 all_at : {X : Type 0} (P : X → Type 0) (xs : List X) (x : X) (ys : List X) → AllByRecursion P (xs ++ x ∷ ys) → P x
 all_at P [] x ys h = h.0
 all_at P (z ∷ xs) x ys h = all_at P xs x ys h.1
@@ -190,7 +190,7 @@ module _ (p : List Class) (files : List (List ℕ)) (b : IsBuildable p files) wh
   pub all_in_range : AreInRange (joined_lines (flat_map (section_code p files g) (sections_in p)) (program_data p files))
   all_in_range = subst AreInRange lines_in_parts (in_range _ _ (programs_sound p files b))
 
-  -- What is known of a section that was made after those before it.
+  -- Facts about the section at an index, which is made after all sections before it.
   module _ (i : ℕ) (s : Section) (less : i < length (sections_in p)) (is : s ≡ get_or (sections_in p) i s) where
     parts : sections_in p ≡ take i (sections_in p) ++ s ∷ drop (i + 1) (sections_in p)
     parts = parts_at (sections_in p) i s less is
@@ -199,7 +199,7 @@ module _ (p : List Class) (files : List (List ℕ)) (b : IsBuildable p files) wh
     pub within_here : IsSection p s
     within_here = all_at (IsSection p) (take i (sections_in p)) s (drop (i + 1) (sections_in p)) (subst (AllByRecursion (IsSection p)) parts (all_within p))
 
-    -- where it is among the first sections, it asks for no more constants than these
+    -- if it is among the first sections, it asks for no more constants than these
     asked_again : (n : ℕ) → i < n
         → after (asked_by p files (take n (sections_in p))) (integers_asked (features_in p s)) (strings_asked files (features_in p s))
         ≡ asked_by p files (take n (sections_in p))

@@ -33,7 +33,7 @@ use Rattle.lists.proofs.AllItems.{all_append, all_then}
 
 -- The first pass
 
--- where no test finds one, there is none
+-- if no test finds a fault, there is none
 no_first_fault : (a b c : Bool) → a ≡ false → b ≡ false → c ≡ false
     → (if a then Some A8 else (if b then Some A5 else (if c then Some A9 else None))) ≡ None
 no_first_fault true b c h k l = cc
@@ -101,7 +101,7 @@ record UsesPlaces (place : Name → Option Place) (s : Statement) : Type 0 where
   placed : any_without_place place (used s) ≡ false
   reached : (at : ℕ) → reaches place at s ≡ true
 
--- where all are placed and the target is reached, there is no fault
+-- if all are placed and the target is reached, there is no fault
 no_second_fault : (a b : Bool) → a ≡ false → b ≡ true → (if a then Some A6 else (if not b then Some A7 else None)) ≡ None
 no_second_fault true b h k = cc
 no_second_fault false true h k = refl

@@ -22,13 +22,13 @@ use Rattle.cool_codegen.specs.Pieces.{case_begin_lines, case_end_lines, mark_lin
 use Rattle.cool_codegen.specs.Types.{class_meant, trees_count}
 use Rattle.cool_codegen.specs.Variables.{Named, bind}
 use Rattle.cool_codegen.specs.Spans.{Span, Spanned, StandsBehind, span, spans, arguments_spans, items_spans, initial_spans, with_branch, branches, along, initial_value_spans, feature_spans}
-use Rattle.cool_emit.proofs.BranchesPut.{arm_put}
+use Rattle.cool_codegen.proofs.ArmsInOrder.{arm_put}
 use Rattle.cool_codegen.proofs.SpansStand.{behind_front, behind_back}
 use Rattle.cool_emit.specs.CodeTables.{behind}
 use Rattle.cool_emit.proofs.PartsOfLines.{front_taken, both_taken}
 use Rattle.cool_emit.proofs.TellingParts.{sizes_append}
 
--- where lines begin at an address
+-- lines that begin at an address
 module _ (text : List Line) (base : ℕ) where
   -- lines stand behind so many of them, and so at an address
   pub record StandsAt (n pc : ℕ) (part : List Line) : Type 0 where
@@ -61,7 +61,7 @@ module _ (text : List Line) (base : ℕ) where
   own vs d k n pc t part xs ys h e = ap₂ (λ (r : ℕ) (zs : List Span). span vs d k r t ∷ zs) h.is e
 
   module _ (s : Context) (g : Constants) where
-    -- of a branch, wherever it begins
+    -- the same for a branch, wherever it begins
     abbrev Meets : Spanned → Spanned → Type 0
     Meets a b = (n pc : ℕ) → StandsAt n pc a.arm.lines → each addressed (a.inside n) ≡ b.inside pc
 
@@ -194,7 +194,7 @@ module _ (text : List Line) (base : ℕ) where
     initial_value_by_address n pc None has = refl
     initial_value_by_address n pc (Some t) has = by_address (attributes_in s.table s.class) 0 0 n pc t (front (code s g (attributes_in s.table s.class) 0 0 t) _ n pc has)
 
-    -- of a feature
+    -- the same for a feature
     pub feature_by_address : (n pc : ℕ) (f : Feature) → StandsAt n pc (feature_code s g f) → each addressed (feature_spans length s g n f) ≡ feature_spans sizes s g pc f
     feature_by_address n pc (Method m) has =
         let mark = mark_lines (method_label s.table (User s.class s.feature)) in

@@ -57,7 +57,7 @@ module _ (p : List Class) (c : ClassId) where
   pub methods_are_features : AllByRecursion (IsFeatureOf p c) (methods_in p c)
   methods_are_features = all_then (at_place 0 (features_of p c)) (IsFeatureOf p c) (methods_in p c) there (methods_at 0 (features_of p c))
 
--- what holds of each that is told of a feature, where its code has what that asks for, holds of each that is told of a program
+-- a property of each item of a feature's output, if its code fits the item, holds for each item of a program's output
 module _ (size : List Line → ℕ) (P : ℕ → List Line → Type 0)
     (front : (xs ys : List Line) (pc : ℕ) → P pc (xs ++ ys) → P pc xs)
     (back : (xs ys : List Line) (pc : ℕ) → P pc (xs ++ ys) → P (pc + size xs) ys)

@@ -88,7 +88,7 @@ addresses_more pc (x ∷ lines) line =
     ap (λ (as' : List ℕ). pc ∷ as') (addresses_more (pc + size x) lines line)
     ∙ ap (λ (a : ℕ). pc ∷ addresses (pc + size x) lines ++ a ∷ []) (omega arith)
 
--- What is told
+-- Output for lists that are joined
 
 pub along_append : {X Y : Type 0} (code_of : X → List Line) (inside : ℕ → X → List Y) (pc : ℕ) (xs ys : List X)
     → along sizes code_of inside pc (xs ++ ys) ≡ along sizes code_of inside pc xs ++ along sizes code_of inside (pc + sizes (flat_map code_of xs)) ys

@@ -35,7 +35,7 @@ use Rattle.cool_emit.proofs.TextOfParts.{target_of_mark, target_of_turn, target_
 use Rattle.cool_emit.proofs.TextOfParts as parts
 use Rattle.lists.proofs.AllItems.{all_append, all_left, all_right}
 
--- what holds of all branches holds of one that is put among them, and of those
+-- a property of all branches and of one that is inserted holds for all with it
 all_with_arm : (P : Arm → Type 0) (arms : List Arm) (b : Arm) → AllByRecursion P arms → P b → AllByRecursion P (with_arm arms b)
 all_with_arm P [] b all new = (new, tt)
 all_with_arm P (a ∷ arms) b all new = by (nat_lt a.depth b.depth) (all_with_arm P arms b all.1 new)
@@ -94,14 +94,14 @@ module _ (target known : Name → Type 0) (s : Context) (g : Constants) (u : Ser
   strings_right : (bs cs : List (List ℕ)) → AreStrings known g (bs ++ cs) → AreStrings known g cs
   strings_right bs cs h = all_right _ bs cs h
 
-  -- what is said of the lines of a branch
+  -- the property of the lines of a branch
   abbrev IsTextArm : Arm → Type 0
   IsTextArm a = AreText target known a.lines
 
   abbrev IsTargetArm : Arm → Type 0
   IsTargetArm a = AreTargets target a.lines
 
-  -- what holds of all branches of a case holds of those before them
+  -- a property of all branches of a case holds for those before them
   arms_before : (P : Arm → Type 0) (cs : Cases) (vs : List Named) (d k : ℕ) (end : Name) (before : List Arm)
       → AllByRecursion P (arms_code s g vs d k end before cs) → AllByRecursion P before
   arms_before P NoCase vs d k end before all = all

@@ -101,7 +101,7 @@ module _ (target known : Name → Type 0) (s : Context) (g : Constants) (u : Ser
   text_of_feature (Method d) bounded w asks m = text_of_method d.formals d.body bounded w.4 asks.0 asks.1 m
   text_of_feature (Attribute a) bounded w asks m = text_of_value a.init bounded w.3 asks.0 asks.1 m
 
--- what holds of all features holds of the attributes and of the methods among them
+-- a property of all features holds for the attributes and the methods among them
 
 all_attributes : (P : Feature → Type 0) (k : ℕ) (fs : List Feature) → AllByRecursion P fs
     → AllByRecursion (λ x. P x.feature) (attributes_from k fs)

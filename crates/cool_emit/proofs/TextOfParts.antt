@@ -1,5 +1,5 @@
--- What the code of expressions may name, and the code of the parts of expressions that hold no other: names, constants, new objects,
--- operations and calls.
+-- The names that the code of expressions may use, and the pieces of code that contain no other expression's code: names, constants, new objects, operations
+-- and calls.
 use Rattle.std.proofs.Common.{ℕ, zero, suc, ◌+◌, ◌-◌, ◌*◌, ◌<◌, List, [], ◌∷◌, ◌++◌, length, Some, None, Bool, true, false, arith}
 use Rattle.std.specs.Prelude.{bytes_eq, nat_eq, if◌then◌else◌, unwrap_or, Option, IfSome}
 use Rattle.std.specs.List.{AllByRecursion}
@@ -49,8 +49,8 @@ use Rattle.cool_emit.proofs.TextOfPieces.{text_of_is_zero, text_of_ends_where, t
 use Rattle.cool_emit.proofs.TextOfPieces.{text_of_create_self, text_of_call, text_of_call_static, text_of_try_tags}
 use Rattle.lists.proofs.AllItems.{all_append, all_left, all_right}
 
--- What code may name, by targets of jumps and names that are known, and how large its numbers become: the routines and the constants of the
--- run-time system, the methods, initializers and prototypes of the classes of a table, its slots and its tags.
+-- The names that code may use, as targets of jumps and as known names, and the bounds of its numbers: the routines and constants of the run-time system,
+-- and the methods, initializers, prototypes, slots and tags of the classes of a table.
 pub record Serves (target known : Name → Type 0) (p : List Class) : Type 0 where
   pub ends_stack : target stack_limit
   pub ends_heap : target heap_limit

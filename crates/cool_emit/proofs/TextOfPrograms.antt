@@ -53,7 +53,7 @@ each_list : {X Y : Type 0} (P : Y → Type 0) (f : X → List Y) (xs : List X) �
 each_list P f [] h = tt
 each_list P f (x ∷ xs) h = (all_left P (f x) (flat_map f xs) h, each_list P f xs (all_right P (f x) (flat_map f xs) h))
 
--- what two facts say of each item
+-- two properties of each item, together
 all_pairs : {X : Type 0} (P Q : X → Type 0) (xs : List X) → AllByRecursion P xs → AllByRecursion Q xs → AllByRecursion (λ x. P x × Q x) xs
 all_pairs P Q [] h k = tt
 all_pairs P Q (x ∷ xs) h k = ((h.0, k.0), all_pairs P Q xs h.1 k.1)
@@ -120,7 +120,7 @@ module _ (p : List Class) (files : List (List ℕ)) (b : IsBuildable p files) wh
       (flat_map (λ (x : Placed). feature_strings files x.feature) (all_features p)) (string_there p files)
       (strings_there [] (flat_map (λ (x : Placed). feature_strings files x.feature) (all_features p)))))
 
-  -- what the routines name is there
+  -- the names that routines use exist
   routines_served : ServesRoutines target known
   routines_served = record {
     to_heap_limit = routine_there p files heap_limit routines.heap_limit_there;
@@ -163,7 +163,7 @@ module _ (p : List Class) (files : List (List ℕ)) (b : IsBuildable p files) wh
     at_overflow_text = overflow_text_there p files;
   }
 
-  -- what the code of the classes names is there
+  -- the names that the code of the classes uses exist
   code_served : Serves target known p
   code_served =
       let r = rooted p b.typed.whole in

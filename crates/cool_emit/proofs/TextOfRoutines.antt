@@ -18,7 +18,7 @@ use Rattle.cool_runtime.specs.declared.catalogue.Routine.TheVariants as routines
 use Rattle.cool_emit.specs.SoundLines.{AreText}
 use Rattle.lists.proofs.AllItems.{all_append}
 
--- what the routines name: the labels to which they jump, and the data whose addresses they take
+-- the names that routines use: the labels to which they jump, and the data whose addresses they take
 pub record ServesRoutines (target known : Name → Type 0) : Type 0 where
   pub to_heap_limit : target heap_limit
   pub to_copy : target copy

@@ -16,7 +16,7 @@ abbrev where_so : Bool → ℕ → ℕ
 where_so true n = n
 where_so false n = 0
 
--- what a class is counted among classes
+-- the count of a class among classes
 abbrev share : (ClassId → ℕ) → ClassId → List ClassId → ℕ
 share f d xs = total (λ x. where_so (is_class d x) (f d)) xs
 

@@ -1,4 +1,4 @@
--- What parts of a program add to the lines and to the constants of what stands before them.
+-- The lines and constants that parts of a program add to those before them.
 use Rattle.std.specs.Prelude.{◌≡◌, ℕ, List, ◌++◌, flat_map, map, string_bytes, Bool, true, false}
 use Rattle.cool_syntax.specs.declared.file_tree.Feature.{Feature}
 use Rattle.cool_syntax.specs.declared.file_tree.Feature.TheVariants.{Attribute, Method}

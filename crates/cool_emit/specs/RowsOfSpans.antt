@@ -1,5 +1,5 @@
--- That the rows of code of a table are the spans of its program, one for one and in their order, and that the names in scope at each are had
--- from the rows: so what is said of spans is so of rows.
+-- The rows of code of a table are the spans of its program, one for one and in order, and the names in scope at each can be computed from the rows. So
+-- statements about spans also hold for rows.
 use Rattle.std.specs.Prelude.{◌≡◌, refl, ℕ, ◌+◌, ◌-◌, List, [], ◌∷◌, ◌++◌, length, map, flat_map, drop, Option, Some, None}
 use Rattle.cool_syntax.specs.declared.place.Place.{Place}
 use Rattle.mips_isa.specs.declared.address_map.TheConstants.{TEXT_START}
@@ -13,7 +13,7 @@ use Rattle.cool_emit.specs.CodeTables.{Row, class_row, attribute_row, initial_ro
 use Rattle.cool_emit.specs.Programs.{Placed, program_constants}
 use Rattle.cool_emit.specs.SpansOfPrograms.{SpanOf, lines_of_span, placed_spans, program_spans}
 
--- what a row of code tells, by its addresses; no other row tells of an expression
+-- the data that a row of code shows, by its addresses; other rows show none of an expression
 abbrev pub told_by : Row → List Shown
 told_by (class_row name) = []
 told_by (attribute_row v) = []
@@ -22,11 +22,12 @@ told_by (method_row from to name) = []
 told_by (formal_row v) = []
 told_by (code_row from to x) = record { at = x.at; form = x.form; from = from; to = to; depth = x.depth; names = x.names; latest = x.latest } ∷ []
 
--- what the rows of code of a table tell, in the order of the rows
+-- the data that the rows of code of a table show, in the order of the rows
 abbrev pub told_rows : List Class → List (List ℕ) → List Shown
 told_rows p files = flat_map told_by (table_rows p files)
 
--- what the row of a span tells: its tree's place and form, from where to where its code stands, its depth, and of its scope the length and the latest name
+-- the data that the row of a span shows: its tree's place and form, the first and last address of its code, its depth, and the length and the latest name
+-- of its scope
 abbrev pub told_of : List Class → List (List ℕ) → SpanOf → Shown
 told_of p files x = whole x.span.scope x.span.depth x.span.from (x.span.from + sizes (lines_of_span p files (program_constants p files) x)) x.span.tree
 
@@ -65,7 +66,7 @@ abbrev pub scopes_from : List Named → List Shown → List (List Named)
 scopes_from before [] = []
 scopes_from before (x ∷ xs) = scope_at before x ∷ scopes_from (scope_at before x) xs
 
--- The names in scope at each row of code of a feature are had from rows alone: from the row before, and for the first from the formals of the feature
+-- The names in scope at each row of code of a feature are computed from rows only: from the row before, and for the first from the formals of the feature
 -- and the attributes of its class.
 abbrev pub ScopesOfRows : Type 0
 ScopesOfRows =

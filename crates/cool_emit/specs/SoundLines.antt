@@ -68,8 +68,8 @@ AreData known = AllByRecursion (λ line. IsData known line.statement)
 abbrev pub labels_of : List Line → List Name
 labels_of = flat_map (λ line. line.labels)
 
--- How much room lines take: a line of text its words, and one at least; a line of data its bytes and four more, which pay for its
--- padding. So lines are no more than their room says, either.
+-- The space that lines take: a line of text takes its words, and at least one; a line of data takes its bytes and four more, for its padding. So there are
+-- no more lines than this space.
 
 abbrev pub text_need : Need → ℕ
 text_need Nothing = 1

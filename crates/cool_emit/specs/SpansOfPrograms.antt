@@ -27,7 +27,7 @@ module _ (p : List Class) (files : List (List ℕ)) where
   abbrev pub lines_of_span : Constants → SpanOf → List Line
   lines_of_span g x = code_of (context_of x.class x.feature) g x.span
 
--- What is told of each feature, by where its code begins, in the order of the text: of the attributes of each class, and then of its methods.
+-- The output for each feature, given the address at which its code begins, in the order of the text: the attributes of each class, and then its methods.
 module _ {X : Type 0} (size : List Line → ℕ) (p : List Class) (files : List (List ℕ)) (g : Constants) (told : ClassId → ℕ → Placed → List X) where
   abbrev pub told_in_initializer : ℕ → ClassId → List X
   told_in_initializer pc c =
@@ -38,7 +38,7 @@ module _ {X : Type 0} (size : List Line → ℕ) (p : List Class) (files : List 
   abbrev pub told_in_class : ℕ → ClassId → List X
   told_in_class pc c = told_in_initializer pc c ++ along size (placed_code p files g c) (told c) (pc + size (initializer_code p files g c)) (methods_in p c)
 
-  -- where the text begins at an address
+  -- the output for a text that begins at an address
   abbrev pub told_in_text : ℕ → List X
   told_in_text pc = along size (class_code p files g) told_in_class (pc + size all_routine_lines) (numbers_from 0 (length p))
 

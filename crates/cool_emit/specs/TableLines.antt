@@ -1,4 +1,4 @@
--- The lines of the table of code: words with a blank between, and a newline at the end. Addresses and numbers are decimal.
+-- The lines of the table of code: words separated by a blank, and a newline at the end. Addresses and numbers are decimal.
 --
 --     class NAME
 --     attribute NAME OFFSET($s0) TYPE
@@ -8,8 +8,8 @@
 --     code FROM TO FORM FILE:LINE:BYTE DEPTH NAMES
 --     code FROM TO FORM FILE:LINE:BYTE DEPTH NAMES NAME OFFSET(BASE) TYPE
 --
--- FROM is where code begins, and TO the address behind it. FILE is the number of the file, from 0. DEPTH is how many words are pushed in the
--- frame where the code begins, NAMES how many names are in scope there, and NAME the one that was entered last.
+-- FROM is the address at which code begins, and TO the address behind it. FILE is the number of the file, from 0. DEPTH is the number of words that are
+-- pushed in the frame where the code begins, NAMES the number of names in scope there, and NAME the one that was entered last.
 use Rattle.std.specs.Prelude.{◌≡◌, refl, ℕ, negsuc, List, [], ◌++◌, codes, decimal, Option, Some, None}
 use Rattle.std.specs.Fmt as decimals
 use Rattle.std.specs.Fmt.{signed_decimal}

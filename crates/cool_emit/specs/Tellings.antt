@@ -1,4 +1,4 @@
--- What is told of parts of the code of a program, one behind the other: their lines in the table, and the address behind them.
+-- Output of the debug table, part by part: the rows written so far, and the next address.
 use Rattle.std.specs.Prelude.{◌≡◌, ℕ, ◌+◌, List, [], ◌∷◌, ◌++◌, flat_map}
 use Rattle.mips_isa.specs.Lines.{Line}
 use Rattle.cool_classes.specs.declared.class_id.ClassId.{ClassId}
@@ -32,7 +32,7 @@ module _ (e : Emission) where
       Tells e.program.now (flat_map (placed_code e.program.now (files_of e) constants c) fs)
       (λ pc. along sizes (placed_code e.program.now (files_of e) constants c) (rows_of c) pc fs)
 
-  -- of the initializer of a class
+  -- the output for the initializer of a class
   abbrev pub TellsInitializer : ClassId → Told → Told → Type 0
   TellsInitializer c =
       Tells e.program.now (initializer_code e.program.now (files_of e) constants c)

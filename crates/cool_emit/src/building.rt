@@ -24,7 +24,7 @@ use mips_asm::{FirstPass, SecondPass};
 use mips_isa::{AsmError, Image, Line};
 use std::alloc::{AllocError, Global};
 
-/// What is there after the first pass: the pass, the constants of the program, and the lines that need not be made again.
+/// The state after the first pass: the pass, the constants of the program, and the lines that need not be made again.
 #[derive(Drop)]
 struct Passed {
     pass: FirstPass,
@@ -32,11 +32,10 @@ struct Passed {
     kept: Kept,
 }
 
-/// The image of a program whose files have these names, of at most 4,096 bytes each. Its lines have no fault, so `Err` comes only for
-/// want of memory.
+/// The image of a program whose files have these names, of at most 4,096 bytes each. Its lines have no fault, so `Err` is returned only if memory runs out.
 ///
-/// Its lines are made in batches, section by section. Those of the first batches, up to `MOST_KEPT_LINES`, are made once, and the others
-/// twice: of these no more than one batch is held at once.
+/// Its lines are made in batches, section by section. The first batches, up to `MOST_KEPT_LINES`, are made once, and the others twice. At most one batch of
+/// the others is held at a time.
 pub fn build(alloc: Global, p: &TypedProgram, names: &[String]) -> Result<Image, AllocError>
     requires fits { Fits p.now (length names.now) }
     requires names { AreShortNames (map string_bytes names.now) }
@@ -69,7 +68,7 @@ impl<'a> Emission<'a> {
         self.second_pass(&sections, second, consts, kept)
     }
 
-    /// The first pass over the lines of the program. `Err` comes only for want of memory.
+    /// The first pass over the lines of the program. Returns `Err` only if memory runs out.
     fn first_pass(&self, sections: &[Section]) -> Result<Passed, AllocError>
         requires sound { IsSound self.now }
         requires sections { sections.now ≡ sections_in self.now.program.now }
@@ -116,8 +115,8 @@ impl<'a> Emission<'a> {
         pass.finish()
     }
 
-    /// The lines of the batch of a number: of a section, or behind all sections of the data. The constants are those for which the sections
-    /// before it ask, with perhaps more. `Err` comes only for want of memory.
+    /// The lines of the batch with this number: those of a section, or, after all sections, those of the data. The constants are those of the sections
+    /// before it, with perhaps more. Returns `Err` only if memory runs out.
     fn batch(
         &self,
         sections: &[Section],
@@ -138,7 +137,7 @@ impl<'a> Emission<'a> {
         }
     }
 
-    /// The lines of a section. `Err` comes only for want of memory.
+    /// The lines of a section. Returns `Err` only if memory runs out.
     fn section_lines(&self, section: &Section, consts: &mut Consts) -> Result<Vec<Line>, AllocError>
         requires sound { IsSound self.now }
         requires there { IsSection self.now.program.now section.now }
@@ -151,7 +150,7 @@ impl<'a> Emission<'a> {
         Ok(lines)
     }
 
-    /// The lines of the data. `Err` comes only for want of memory.
+    /// The lines of the data. Returns `Err` only if memory runs out.
     fn data(&self, consts: &Consts) -> Result<Vec<Line>, AllocError>
         requires sound { IsSound self.now }
         ensures { IfOk result (λ lines. lines_of lines.items ≡ directive_line ToData ∷ data_lines self.now.program.now consts.now) }

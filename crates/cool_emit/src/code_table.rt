@@ -42,8 +42,8 @@ pub(crate) struct Told {
     pub(crate) address: u32,
 }
 
-/// The table of code of a program whose files have these names: for each feature and each expression between which addresses its code stands,
-/// and which names are in scope. `Err` comes only for want of memory.
+/// The table of code of a program whose files have these names: for each feature and each expression between which addresses its code stands, and which
+/// names are in scope. Returns `Err` only if memory runs out.
 pub fn table(alloc: Global, p: &TypedProgram, names: &[String]) -> Result<Vec<u8>, AllocError>
     requires fits { Fits p.now (length names.now) }
     requires names { AreShortNames (map string_bytes names.now) }
@@ -59,7 +59,7 @@ pub fn table(alloc: Global, p: &TypedProgram, names: &[String]) -> Result<Vec<u8
     table_of(&emission)
 }
 
-/// The table of the code of a program. `Err` comes only for want of memory.
+/// The table of the code of a program. Returns `Err` only if memory runs out.
 fn table_of(emission: &Emission<'_>) -> Result<Vec<u8>, AllocError>
     requires sound { IsSound emission.now }
     ensures { IfOk result (λ text. text.items ≡ table_text emission.now.program.now (files_of emission.now)) }
@@ -75,7 +75,7 @@ fn table_of(emission: &Emission<'_>) -> Result<Vec<u8>, AllocError>
     Ok(told.text)
 }
 
-/// The lines of the classes and the attributes of their objects. `Err` comes only for want of memory.
+/// The lines of the classes and the attributes of their objects. Returns `Err` only if memory runs out.
 fn classes_text(emission: &Emission<'_>) -> Result<Vec<u8>, AllocError>
     requires sound { IsSound emission.now }
     ensures { IfOk result (λ text. text.items ≡ flat_map (row_line emission.now.program.now) (flat_map (class_rows emission.now.program.now) (numbers_from 0 (length emission.now.program.now)))) }
@@ -87,7 +87,7 @@ fn classes_text(emission: &Emission<'_>) -> Result<Vec<u8>, AllocError>
     Ok(text)
 }
 
-/// The lines of a class and the attributes of its objects. `Err` comes only for want of memory.
+/// The lines of a class and the attributes of its objects. Returns `Err` only if memory runs out.
 fn class_text(emission: &Emission<'_>, c: ClassId) -> Result<Vec<u8>, AllocError>
     requires sound { IsSound emission.now }
     requires class { c.0 < length emission.now.program.now }
@@ -102,7 +102,7 @@ fn class_text(emission: &Emission<'_>, c: ClassId) -> Result<Vec<u8>, AllocError
     Ok(text)
 }
 
-/// The lines of so many names, the latest first, behind these words. `Err` comes only for want of memory.
+/// The lines of so many names, the latest first, behind these words. Returns `Err` only if memory runs out.
 fn names_text(
     emission: &Emission<'_>,
     words: &[u8],
@@ -119,7 +119,7 @@ fn names_text(
     Ok(text)
 }
 
-/// Adds the line of the latest of names behind these words, and takes it out. `Err` comes only for want of memory.
+/// Adds the line of the latest of names behind these words, and takes it out. Returns `Err` only if memory runs out.
 fn add_name(
     emission: &Emission<'_>,
     words: &[u8],
@@ -152,7 +152,7 @@ impl Told {
         }
     }
 
-    /// Tells of the code of a class. `Err` comes only for want of memory.
+    /// Tells of the code of a class. Returns `Err` only if memory runs out.
     fn add_class(&mut self, emission: &Emission<'_>, c: ClassId) -> Result<(), AllocError>
         requires sound { IsSound emission.now }
         requires class { c.0 < length emission.now.program.now }
@@ -163,7 +163,7 @@ impl Told {
         self.add_features(emission, c, Part::Methods)
     }
 
-    /// Tells of the initializer of a class. `Err` comes only for want of memory.
+    /// Tells of the initializer of a class. Returns `Err` only if memory runs out.
     fn add_initializer(&mut self, emission: &Emission<'_>, c: ClassId) -> Result<(), AllocError>
         requires sound { IsSound emission.now }
         requires class { c.0 < length emission.now.program.now }
@@ -185,7 +185,7 @@ impl Told {
         Ok(())
     }
 
-    /// Tells of the features of a class that belong to a part. `Err` comes only for want of memory.
+    /// Tells of the features of a class that belong to a part. Returns `Err` only if memory runs out.
     fn add_features(
         &mut self,
         emission: &Emission<'_>,
@@ -206,7 +206,7 @@ impl Told {
         Ok(())
     }
 
-    /// Tells of a feature and its expressions. `Err` comes only for want of memory.
+    /// Tells of a feature and its expressions. Returns `Err` only if memory runs out.
     fn add_feature(
         &mut self,
         emission: &Emission<'_>,
@@ -246,7 +246,7 @@ impl Told {
         Ok(())
     }
 
-    /// Tells of expressions, where these are the addresses of lines. `Err` comes only for want of memory.
+    /// Tells of expressions, where these are the addresses of lines. Returns `Err` only if memory runs out.
     fn add_spans(
         &mut self,
         emission: &Emission<'_>,
@@ -268,7 +268,7 @@ impl Told {
     }
 }
 
-/// The lines of a feature whose code stands between these addresses. `Err` comes only for want of memory.
+/// The lines of a feature whose code stands between these addresses. Returns `Err` only if memory runs out.
 fn head_text(
     emission: &Emission<'_>,
     c: ClassId,
@@ -305,7 +305,7 @@ fn head_text(
     }
 }
 
-/// The address of each of these lines, of which the first has this one, and the address behind them. `Err` comes only for want of memory.
+/// The address of each of these lines, of which the first has this one, and the address behind them. Returns `Err` only if memory runs out.
 fn addresses(alloc: Global, first: u32, lines: &[Line]) -> Result<Vec<u32>, AllocError>
     requires room { first + sizes (lines_of lines.now) < 2 ^ 32 }
     ensures { IfOk result (λ all. all.items ≡ addresses first (lines_of lines.now)) }

@@ -1,4 +1,4 @@
-//! Of what the code of a program is made, and the code of its features.
+//! The input of code generation (program, layout, file names), and code generation for each feature.
 
 ghost use Rattle.std.specs.Prelude.{◌≡◌, ◌++◌, ◌<◌, ◌^◌, [], ◌∷◌, length, slice_get, flat_map, OnOk, Some};
 ghost use Rattle.mips_isa.specs.Lines.{lines_of};
@@ -52,7 +52,7 @@ impl<'a> Emission<'a> {
         self.program.table()
     }
 
-    /// Adds the code of the features of a class that belong to a part. `Err` comes only for want of memory.
+    /// Adds the code of the features of a class that belong to a part. Returns `Err` only if memory runs out.
     pub(crate) fn add_features(
         &self,
         c: ClassId,
@@ -75,7 +75,7 @@ impl<'a> Emission<'a> {
         Ok(())
     }
 
-    /// Adds the code of a feature. `Err` comes only for want of memory.
+    /// Adds the code of a feature. Returns `Err` only if memory runs out.
     pub(crate) fn add_feature(
         &self,
         c: ClassId,
@@ -103,7 +103,7 @@ impl<'a> Emission<'a> {
     }
 }
 
-/// Adds lines, in one move, or none where there were no lines. `Err` comes only for want of memory.
+/// Adds lines, in one move, or none where there were no lines. Returns `Err` only if memory runs out.
 pub(crate) fn add_lines(lines: &mut Vec<Line>, mut more: Vec<Line>) -> Result<(), AllocError>
     ensures { OnOk result (lines_of lines.new.items ≡ lines_of lines.old.items ++ lines_of more.items) }
 {

@@ -21,7 +21,7 @@ use std::alloc::{AllocError, Global};
 /// The number of basic classes, which stand first.
 pub(crate) const BASIC_CLASSES: u32 = 5;
 
-/// Adds the initializer of a class. The one of a basic class does nothing. `Err` comes only for want of memory.
+/// Adds the initializer of a class. The one of a basic class does nothing. Returns `Err` only if memory runs out.
 pub(crate) fn add_initializer(
     emission: &Emission<'_>,
     c: ClassId,
@@ -42,7 +42,7 @@ pub(crate) fn add_initializer(
     add_end(emission.alloc, lines)
 }
 
-/// Adds the initializer of a basic class. `Err` comes only for want of memory.
+/// Adds the initializer of a basic class. Returns `Err` only if memory runs out.
 pub(crate) fn add_basic(
     emission: &Emission<'_>,
     c: ClassId,
@@ -55,7 +55,7 @@ pub(crate) fn add_basic(
     write(emission.alloc, lines, &return_basic(name.as_slice()))
 }
 
-/// Adds what stands before the attributes in the initializer of a class that is not basic. `Err` comes only for want of memory.
+/// Adds what stands before the attributes in the initializer of a class that is not basic. Returns `Err` only if memory runs out.
 pub(crate) fn add_begin(
     emission: &Emission<'_>,
     c: ClassId,
@@ -71,7 +71,7 @@ pub(crate) fn add_begin(
     add_parent(emission, c, lines)
 }
 
-/// Adds what stands behind the attributes there. `Err` comes only for want of memory.
+/// Adds what stands behind the attributes there. Returns `Err` only if memory runs out.
 pub(crate) fn add_end(alloc: Global, lines: &mut Vec<Line>) -> Result<(), AllocError>
     ensures { OnOk result (lines_of lines.new.items ≡ lines_of lines.old.items ++ end_code) }
 {
@@ -79,7 +79,7 @@ pub(crate) fn add_end(alloc: Global, lines: &mut Vec<Line>) -> Result<(), AllocE
     write(alloc, lines, &leave(12))
 }
 
-/// Adds the call of the parent's initializer, whose attributes come first. `Err` comes only for want of memory.
+/// Adds the call of the parent's initializer, whose attributes come first. Returns `Err` only if memory runs out.
 fn add_parent(emission: &Emission<'_>, c: ClassId, lines: &mut Vec<Line>) -> Result<(), AllocError>
     requires class { c.0 < length emission.now.program.now }
     ensures { OnOk result (lines_of lines.new.items ≡ lines_of lines.old.items ++ parent_code emission.now.program.now (parent_of emission.now.program.now c)) }

@@ -32,8 +32,8 @@ impl Kept {
         }
     }
 
-    /// Keeps the lines of the batch of this number, exactly where those of all before it are kept and there is room; else lets them go.
-    /// `Err` comes only for want of memory.
+    /// Keeps the lines of the batch of this number, exactly where those of all before it are kept and there is room; else lets them go. Returns `Err` only
+    /// if memory runs out.
     pub(crate) fn keep(&mut self, number: usize, lines: Vec<Line>) -> Result<(), AllocError>
         requires number { number < 2 ^ 64 - 1 }
         requires few { length self.old.lines.items ≤ MOST_KEPT_LINES }

@@ -3,8 +3,8 @@
 ghost use Rattle.cool_emit.specs.RowsOfSpans.{RowsAreSpans, RowsOfFeatures, ScopesOfRows};
 ghost use Rattle.cool_emit.specs.StandingRows.{RowsStand};
 
-/// Where a program stands in the text of a machine each row of its table is true: the code of the feature, or of the expression, that it tells
-/// stands from its first address to its second.
+/// If a program is in the text of a machine, each row of its table is true: the code of the feature or the expression in the row extends from the row's
+/// first address to its second.
 pub fn law_rows_stand()
     ensures { RowsStand }
 {}

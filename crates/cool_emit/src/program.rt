@@ -21,8 +21,8 @@ use cool_runtime::{label_line, number, word_line};
 use mips_isa::{AsmDirective, Line, LineLabels, Statement};
 use std::alloc::{AllocError, Global};
 
-/// The assembly of a program whose files have these names: the routines, and the initializer and the methods of each class; then the data.
-/// `Err` comes only for want of memory.
+/// The assembly of a program whose files have these names: the routines, and the initializer and the methods of each class; then the data. Returns `Err`
+/// only if memory runs out.
 pub fn lines(alloc: Global, p: &TypedProgram, names: &[String]) -> Result<Vec<Line>, AllocError>
     requires fits { Fits p.now (length names.now) }
     requires names { AreShortNames (map string_bytes names.now) }
@@ -44,7 +44,7 @@ pub fn lines(alloc: Global, p: &TypedProgram, names: &[String]) -> Result<Vec<Li
     Ok(lines)
 }
 
-/// Adds the text: the routines, and the initializers and the methods of all classes. `Err` comes only for want of memory.
+/// Adds the text: the routines, and the initializers and the methods of all classes. Returns `Err` only if memory runs out.
 fn add_text(
     emission: &Emission<'_>,
     sections: &[Section],
@@ -63,7 +63,7 @@ fn add_text(
     Ok(())
 }
 
-/// Adds the data: the layout, the constants, and the begin of the heap. `Err` comes only for want of memory.
+/// Adds the data: the layout, the constants, and the begin of the heap. Returns `Err` only if memory runs out.
 pub(crate) fn add_data(
     emission: &Emission<'_>,
     consts: &Consts,
@@ -84,7 +84,7 @@ pub(crate) fn add_data(
     add_heap(alloc, lines)
 }
 
-/// Adds the word at which the heap begins. `Err` comes only for want of memory.
+/// Adds the word at which the heap begins. Returns `Err` only if memory runs out.
 fn add_heap(alloc: Global, lines: &mut Vec<Line>) -> Result<(), AllocError>
     ensures { OnOk result (lines_of lines.new.items ≡ lines_of lines.old.items ++ heap_lines) }
 {

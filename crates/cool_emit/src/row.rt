@@ -14,10 +14,10 @@ use cool_rules::Entry;
 use cool_syntax::{ArithOp, CompareOp, Place};
 use std::alloc::{AllocError, Global};
 
-/// How many bytes most lines have.
+/// The number of bytes that suffices for most lines.
 const USUAL_BYTES: usize = 64;
 
-/// These bytes, with room for a line. `Err` comes only for want of memory.
+/// These bytes, with room for a line. Returns `Err` only if memory runs out.
 fn with_room(alloc: Global, bytes: &[u8]) -> Result<Vec<u8>, AllocError>
     ensures { IfOk result (λ text. text.items ≡ bytes.now) }
 {
@@ -26,7 +26,7 @@ fn with_room(alloc: Global, bytes: &[u8]) -> Result<Vec<u8>, AllocError>
     Ok(text)
 }
 
-/// The line of a class. `Err` comes only for want of memory.
+/// The line of a class. Returns `Err` only if memory runs out.
 pub(crate) fn class_line(
     alloc: Global,
     table: &ClassTable,
@@ -41,7 +41,7 @@ pub(crate) fn class_line(
     Ok(line)
 }
 
-/// The line of a name, an attribute or a formal, as these words say, with its variable. `Err` comes only for want of memory.
+/// The line of a name, an attribute or a formal, as these words say, with its variable. Returns `Err` only if memory runs out.
 pub(crate) fn named_line(
     alloc: Global,
     table: &ClassTable,
@@ -56,7 +56,7 @@ pub(crate) fn named_line(
     Ok(line)
 }
 
-/// The line of a feature, an initial value or a method, as these words say, between these addresses. `Err` comes only for want of memory.
+/// The line of a feature, an initial value or a method, as these words say, between these addresses. Returns `Err` only if memory runs out.
 pub(crate) fn feature_line(
     alloc: Global,
     words: &[u8],
@@ -74,7 +74,7 @@ pub(crate) fn feature_line(
     Ok(line)
 }
 
-/// The line of an expression between these addresses. `Err` comes only for want of memory.
+/// The line of an expression between these addresses. Returns `Err` only if memory runs out.
 pub(crate) fn code_line(
     alloc: Global,
     table: &ClassTable,
@@ -92,7 +92,7 @@ pub(crate) fn code_line(
     Ok(line)
 }
 
-/// An expression, and what is in scope where it begins. `Err` comes only for want of memory.
+/// An expression, and what is in scope where it begins. Returns `Err` only if memory runs out.
 fn span_text(alloc: Global, table: &ClassTable, span: &Span<'_>) -> Result<Vec<u8>, AllocError>
     ensures { IfOk result (λ text. text.items ≡ shown_text table.now (shown_of span.now)) }
 {
@@ -106,7 +106,7 @@ fn span_text(alloc: Global, table: &ClassTable, span: &Span<'_>) -> Result<Vec<u
     Ok(text)
 }
 
-/// The name that was entered last, if there is one. `Err` comes only for want of memory.
+/// The name that was entered last, if there is one. Returns `Err` only if memory runs out.
 fn latest_text(
     alloc: Global,
     table: &ClassTable,
@@ -124,7 +124,7 @@ fn latest_text(
     }
 }
 
-/// A name, where its word is, and its type. `Err` comes only for want of memory.
+/// A name, where its word is, and its type. Returns `Err` only if memory runs out.
 fn named_text(
     alloc: Global,
     table: &ClassTable,
@@ -168,7 +168,8 @@ fn form_word(form: Form) -> &'static [u8]
     }
 }
 
-fn arith_word(op: ArithOp) -> &'static [u8]
+/// The sign of an operator on numbers.
+pub fn arith_word(op: ArithOp) -> &'static [u8]
     ensures { result.now ≡ arith_word op }
 {
     match op {
@@ -179,7 +180,8 @@ fn arith_word(op: ArithOp) -> &'static [u8]
     }
 }
 
-fn compare_word(op: CompareOp) -> &'static [u8]
+/// The sign of a comparison.
+pub fn compare_word(op: CompareOp) -> &'static [u8]
     ensures { result.now ≡ compare_word op }
 {
     match op {
@@ -200,7 +202,7 @@ fn base_text(base: Base) -> &'static [u8]
 }
 
 /// A type: a class of the table, or `SELF_TYPE`.
-fn type_text(table: &ClassTable, ty: Ty) -> &[u8]
+pub fn type_text(table: &ClassTable, ty: Ty) -> &[u8]
     ensures { result.now ≡ type_text table.now ty }
 {
     match ty {
@@ -215,7 +217,7 @@ fn type_text(table: &ClassTable, ty: Ty) -> &[u8]
     }
 }
 
-/// A place: the number of its file, its line and its byte. `Err` comes only for want of memory.
+/// A place: the number of its file, its line and its byte. Returns `Err` only if memory runs out.
 pub fn place_text(alloc: Global, at: Place) -> Result<Vec<u8>, AllocError>
     ensures { IfOk result (λ text. text.items ≡ place_text at) }
 {
@@ -223,7 +225,7 @@ pub fn place_text(alloc: Global, at: Place) -> Result<Vec<u8>, AllocError>
     Ok(format!(in alloc; "{file}:{line}:{byte}")?.into_bytes())
 }
 
-/// Two addresses. `Err` comes only for want of memory.
+/// Two addresses. Returns `Err` only if memory runs out.
 fn range_text(alloc: Global, from: u32, to: u32) -> Result<Vec<u8>, AllocError>
     ensures { IfOk result (λ text. text.items ≡ range_text from to) }
 {

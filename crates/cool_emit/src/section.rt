@@ -28,7 +28,7 @@ pub(crate) enum Section {
 }
 
 impl<'a> Emission<'a> {
-    /// The sections of the text of the program, in their order. `Err` comes only for want of memory.
+    /// The sections of the text of the program, in their order. Returns `Err` only if memory runs out.
     pub(crate) fn sections(&self) -> Result<Vec<Section>, AllocError>
         requires sound { IsSound self.now }
         ensures { IfOk result (λ sections. sections.items ≡ sections_in self.now.program.now) }
@@ -41,7 +41,7 @@ impl<'a> Emission<'a> {
         Ok(sections)
     }
 
-    /// Adds the sections of a class: its initializer, and its methods. `Err` comes only for want of memory.
+    /// Adds the sections of a class: its initializer, and its methods. Returns `Err` only if memory runs out.
     fn add_class_sections(&self, c: ClassId, sections: &mut Vec<Section>) -> Result<(), AllocError>
         requires sound { IsSound self.now }
         requires class { c.0 < length self.now.program.now }
@@ -55,7 +55,7 @@ impl<'a> Emission<'a> {
         Ok(())
     }
 
-    /// Adds the lines of a section. `Err` comes only for want of memory.
+    /// Adds the lines of a section. Returns `Err` only if memory runs out.
     pub(crate) fn add_section(
         &self,
         section: &Section,
@@ -76,7 +76,7 @@ impl<'a> Emission<'a> {
     }
 }
 
-/// Adds the section of a feature of a class, if it is a method. `Err` comes only for want of memory.
+/// Adds the section of a feature of a class, if it is a method. Returns `Err` only if memory runs out.
 fn add_method(
     c: ClassId,
     index: u32,

@@ -73,7 +73,7 @@ argument_added fs first count index k ls ls' l f added name place next less belo
     ∙ ap (λ (env : Environment). record { name = f.name; location = first + k } ∷ env) (so_far ∙ ap (located_from fs first count) next)
     ∙ sym (one_from fs first count k f less below is)
 
--- where there is no such method, none is begun
+-- if there is no such method, none is begun
 pub no_method : (p : List Class) (v : Value) (vs : List Value) (o : Option MethodDef) (fs : List Frame) (s : State) (n : ℕ) → None ≡ o → begin_method p v vs o fs s n ≡ Halt Stuck
 unfolding begin_method
 no_method p v vs o fs s n none = ap (λ (m : Option MethodDef). begin_method p v vs m fs s n) (sym none)

@@ -1,4 +1,4 @@
--- Attributes of classes by a table: what a class that is none of it has, and what an attribute is there.
+-- Attributes of classes by a table: a class outside the table has none; and facts about those of the other classes.
 use Rattle.std.proofs.Common.{◌≡◌, ℕ, zero, suc, ◌≤◌, List, [], ◌∷◌, ◌++◌, length, get_or, Option, None, ap, sym, ◌∙◌, refl, arith}
 use Rattle.cool_classes.specs.declared.class_id.ClassId.{ClassId}
 use Rattle.cool_classes.specs.Chains.{Class, nothing, class_at, features_of}

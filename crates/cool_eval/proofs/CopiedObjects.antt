@@ -18,7 +18,7 @@ use Rattle.cool_eval.specs.Methods.{Makes}
 use Rattle.cool_eval.specs.Values.{value_of, locations_from}
 use Rattle.cool_eval.proofs.NewLocations.{located_all}
 
--- what comes after a value, and after none
+-- the outcome after a value, and after none
 pub after_value : {A B : Type 0} (d : Computation A) (f : A → Computation B) (s : State) (n : ℕ) (v : A) (t : State) (m : ℕ) → (d s n).outcome ≡ Val v t m → ((d >>= f) s n).outcome ≡ (f v t m).outcome
 after_value {A} {B} d f s n v t m is = ap (λ (o : Outcome A). (seq_of o (d s n).work (d s n).words (d s n).peak f).outcome) is
 
@@ -55,7 +55,7 @@ pub not_loaded : (ls : List ℕ) (s : State) (n : ℕ) → Contains (map (slice_
 not_loaded [] s n (k, low, none) = absurd (omega arith)
 not_loaded (l ∷ ls) s n none = by_first l ls s n (slice_get s.store l) refl none (not_loaded ls s n)
 
--- how many locations follow one another
+-- the number of consecutive locations
 length-locations : (first count : ℕ) → length (locations_from first count) ≡ count
 length-locations first zero = refl
 length-locations first (suc n) = ap suc (length-locations (suc first) n)

@@ -25,6 +25,6 @@ does_same (Err ending.WriteFault) d d' s n is does = does
 pub gives_same : (r : Result Value Ending) (d d' : Computation values.Value) → ((s : State) (n : ℕ) → (d' s n).outcome ≡ (d s n).outcome) → IsResultOf r d → IsResultOf r d'
 gives_same r d d' same gives = λ s n. does_same r d d' s n (same s n) (gives s n)
 
--- where the divisor is not 0
+-- division by a divisor that is not 0
 pub quotient_is : (at : Place) (m n : ℤ) → is_zero n ≡ false → (s : State) (k : ℕ) → (divide at m n s k).outcome ≡ (exact at (int_div m n) s k).outcome
 quotient_is at m n some s k = ap (λ b. ((if b then stop (DivisionByZero at) else exact at (int_div m n)) s k).outcome) some

@@ -1,4 +1,4 @@
--- What is printed stays printed, and what was taken of the input is gone: whatever the machine still does stands later.
+-- Later states of the machine: output is only appended, and input is only taken from the front.
 use Rattle.std.proofs.Common.{ℕ, zero, suc, ◌+◌, pos, List, [], length, Option, Some, None, refl, arith}
 use Rattle.std.specs.Prelude.{false, ◌==◌}
 use Rattle.cool_syntax.specs.declared.place.Place.{Place}
@@ -118,6 +118,6 @@ module _ (p : List Class) (a : ℕ) where
     of_make = make_grows;
   }
 
-  -- what a configuration means stands later than its state
+  -- the outcome that a configuration means has a later state
   pub means_later : (focus : Focus) (fs : List Frame) (s : State) (n : ℕ) → After s (means p a (Continue focus fs s n))
   means_later focus fs s n = (of_configuration p a (λ A d. Grows d) grows_steps focus fs).after s n

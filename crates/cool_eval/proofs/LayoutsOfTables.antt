@@ -19,7 +19,7 @@ IsLayout {A = A} p c v = (v.items ≡ attributes p c) × AllByRecursion (HasAttr
 abbrev pub AreOf : {A : Type 0} → List Class → List (Vec AttributeRef A) → Type 0
 AreOf {A = A} p vs = (c : ClassId) (w : Vec AttributeRef A) → slice_get vs c.0 ≡ Some w → IsLayout p c w
 
--- what stands at a place of a list with one item more stood there before, or is the last one
+-- an item of a list with one item more was an item before, or is the last one
 at_more : {X : Type 0} (xs : List X) (x y : X) (k : ℕ) → slice_get (xs ++ x ∷ []) k ≡ Some y → (slice_get xs k ≡ Some y) ⊎ ((k ≡ length xs) × (x ≡ y))
 at_more [] x y zero is = inr (refl, cc)
 at_more [] x y (suc k) is = absurd (none-some y is)

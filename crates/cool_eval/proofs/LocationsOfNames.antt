@@ -1,4 +1,4 @@
--- Where a name is found: among the variables from the latest on, and then among the attributes.
+-- Looking up the location of a name: first among the variables, from the latest on, and then among the attributes.
 use Rattle.std.proofs.Common.{◌≡◌, ℕ, zero, suc, ◌+◌, ◌-◌, ◌<◌, ◌≤◌, List, [], ◌∷◌, ◌++◌, length, take, drop, get_or, Option, Some, None, Bool, true, false, ap, sym, ◌∙◌, refl, arith}
 use Rattle.std.proofs.Math.Seq.{take-suc}
 use Rattle.std.proofs.lemmas.Option.{none-some}

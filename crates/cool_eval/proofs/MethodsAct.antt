@@ -1,4 +1,4 @@
--- What methods of the basic classes do to a source and a sink, from what they do to one of them or to none.
+-- Effects of basic methods on a source and a sink, derived from methods that use only one of them or neither.
 use Rattle.std.proofs.Common.{◌≡◌, ℕ, ℤ, ◌<◌, Bool, List, [], ◌++◌, inl, inr, refl, sym, ap, ◌∙◌, subst, arith}
 use Rattle.std.specs.Prelude.{Option, Result, Ok, Err, IfErr, IfOk}
 use Rattle.cool_ports.specs.Answers.{Past}
@@ -23,7 +23,7 @@ use Rattle.cool_eval.specs.Methods.{Makes, TookLine, ActsOnSink}
 use Rattle.cool_eval.specs.Values.{value_of}
 use Rattle.cool_eval.proofs.PutsOfSteps.{sink_still, text_since}
 
--- from 0 to 0 no count rose
+-- a count that stays 0 did not rise
 none_rose : (n : ℕ) → Rose 0 0 → ⊥
 none_rose n rose = let more : 0 < 0 = rose.more (omega arith) in omega (arith, more)
 
@@ -44,7 +44,7 @@ pub counted_source : (r : Result Value Ending) (source source' sink : ℕ) → C
 counted_source (Err ending.WriteFault) source source' sink c = absurd (none_rose 0 c.1)
 counted_source _ source source' sink c = (c.0, refl)
 
--- what leaves the input acts on the source and the sink alike
+-- a method that leaves the input acts on the source and the sink alike
 acts_made : (r : Result Value Ending) (store : Store) (first : SinkSeen) (output input : List ℕ)
     (sink : SinkSeen) (n : ℕ) (o : Outcome values.Value) → sink ≡ sink_before first output
     → Makes r store input output n o → Acts r store first output input input sink n o
@@ -61,7 +61,7 @@ pub acts_by_making : (r : Result Value Ending) (old new : Store) (ended : Bool) 
 acts_by_making r old new ended past sink d makes = λ first output input rest is leaves at_end n.
     rw (leaves_same past input rest leaves) (acts_made r new first output input sink n (d (state_at old input output) n).outcome is (makes input output n))
 
--- what leaves the store too makes a value
+-- a method that leaves the store too makes a value
 makes_given : (r : Result Value Ending) (store : Store) (d : Computation values.Value) (input output : List ℕ) (n : ℕ)
     → IsResultOf r d → Makes r store input output n (d (state_at store input output) n).outcome
 makes_given (Err ending.Memory) store d input output n gives = tt
@@ -73,7 +73,7 @@ pub acts_by_giving : (r : Result Value Ending) (store : Store) (ended : Bool) (p
 acts_by_giving r store ended past sink d gives =
     acts_by_making r store store ended past sink d (λ input output n. makes_given r store d input output n gives)
 
--- what leaves the source acts on both
+-- a method that leaves the source acts on both
 pub acts_on_sink : (r : Result Value Ending) (store : Store) (ended : Bool) (past : Past) (sink sink' : SinkSeen)
     (d : Computation values.Value) → ActsOnSink r sink sink' d
     → OnDevices ended past past sink (λ first output input rest. (n : ℕ) → Acts r store first output input rest sink' n (d (state_at store input output) n).outcome)

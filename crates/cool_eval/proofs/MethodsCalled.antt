@@ -1,4 +1,4 @@
--- How a call finds its class and its method.
+-- Finding the class and the method of a call.
 use Rattle.std.proofs.Common.{◌≡◌, ℕ, suc, ◌<◌, ◌≤◌, ◌+◌, List, [], ◌∷◌, length, get_or, Option, Some, None, Bool, ap, sym, ◌∙◌, refl, arith}
 use Rattle.std.specs.Prelude.{option_map, if◌then◌else◌}
 use Rattle.std.proofs.lemmas.List.{get_or_past}
@@ -84,7 +84,7 @@ pub method_inside : (p : List Class) (c : ClassId) (name : List ℕ) (found : Op
     → found ≡ implementation p (chain p c) name
 method_inside p c name found table within nearest = nearest (chain p c) (chain_is p c table within)
 
--- What is begun
+-- The beginning of the call
 
 pub none_begun : (p : List Class) (at : Place) (v : Value) (vs : List Value) (o : Option MethodRef) (fs : List Frame) (s : State) (n : ℕ) → None ≡ o → begin_call p at v vs o fs s n ≡ Halt Stuck
 unfolding begin_call

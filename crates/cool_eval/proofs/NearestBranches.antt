@@ -20,7 +20,7 @@ pub nearest_here : (p : List Class) (cs : Cases) (c : ClassId) (n : ℕ) (b : Ta
 unfolding nearest_up climbed
 nearest_here p cs c n b is = ap (λ (o : Option Taken). first_branch o (nearest_branch p cs (climbed n p (parent_of p c)))) is
 
--- where a class has none, it is that of those above
+-- if a class has no branch, it is that of the classes above
 pub nearest_above : (p : List Class) (cs : Cases) (c : ClassId) (n : ℕ) → None ≡ branch_named cs (name_of p c) → nearest_up p cs (suc n) (Some c) ≡ nearest_up p cs n (parent_of p c)
 unfolding nearest_up climbed
 nearest_above p cs c n is = ap (λ (o : Option Taken). first_branch o (nearest_branch p cs (climbed n p (parent_of p c)))) (sym is)

@@ -1,4 +1,4 @@
--- How a new object is begun.
+-- The first step of creating a new object: defaults at new locations, and an identity.
 use Rattle.std.proofs.Common.{◌≡◌, ℕ, ◌+◌, List, ◌++◌, length, ap, sym, ◌∙◌}
 use Rattle.std.proofs.lemmas.List.{length-map}
 use Rattle.cool_classes.specs.declared.class_id.ClassId.{ClassId}

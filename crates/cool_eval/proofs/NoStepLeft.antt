@@ -1,5 +1,4 @@
--- Where no step is left nothing is printed and nothing is taken, up to the end or to the next step: methods that do so are calls, which
--- spend a step.
+-- When no step is left, nothing is printed and nothing is taken until the end or the next step: methods that print or take are calls, which spend a step.
 use Rattle.std.proofs.Common.{◌≡◌, ℕ, zero, suc, List, length, Option, Some, None, sym, ◌∙◌, refl, subst}
 use Rattle.std.specs.Prelude.{◌==◌, slice_get}
 use Rattle.cool_classes.specs.declared.class_id.ClassId.{ClassId}
@@ -134,6 +133,6 @@ module _ (p : List Class) (a : ℕ) where
     of_make = make_still;
   }
 
-  -- what a configuration without a step means has its console
+  -- the outcome of a configuration without a step left has its console
   pub means_still : (focus : Focus) (fs : List Frame) (s : State) → IsStill s (means p a (Continue focus fs s zero))
   means_still focus fs s = (of_configuration p a (λ A d. Still d) still_steps focus fs).at s

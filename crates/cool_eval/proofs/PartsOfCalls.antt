@@ -1,4 +1,4 @@
--- The parts of a dispatch stand in its body.
+-- The receiver and the arguments of a dispatch are in its body.
 use Rattle.std.proofs.Common.{◌≡◌, ◌<◌, ℕ, List, [], ◌∷◌, arith}
 use Rattle.std.specs.List.{AllByRecursion}
 use Rattle.cool_syntax.specs.declared.node.Node.{Node}

@@ -1,4 +1,4 @@
--- Where a device failed, or memory ran out, a part of the whole run was done.
+-- If a device failed or memory ran out, a part of the whole run was done.
 use Rattle.std.proofs.Common.{◌≡◌, ℕ, ◌+◌, ◌-◌, ◌≤◌, List, [], ◌++◌, Option, ap, sym, ◌∙◌, subst, append_assoc, arith}
 use Rattle.cool_ports.specs.SinkBytes.{appended, GotPrefix}
 use Rattle.cool_classes.specs.Chains.{Class}
@@ -35,7 +35,7 @@ module _ (p : List Class) (typed : IsTypedTable p) (names : List (List ℕ)) (in
       let all : n + (steps - n) ≡ steps = omega arith in
       subst (λ (k : ℕ). Extends (run p names input n) (run p names input k)) all (longer_extends p names input (never_stuck p typed names input) n (steps - n))
 
-  -- what is left of a run with fewer steps is left of the whole one
+  -- a rest that ends with the input left by a run with fewer steps also ends with that left by the whole one
   left_longer : (n : ℕ) (kept : List ℕ) → n ≤ steps → rest ≡ kept ++ (run p names input n).left
       → (more : List ℕ) × (rest ≡ more ++ (run p names input steps).left)
   left_longer n kept less is =

@@ -1,4 +1,4 @@
--- What the words of computations have that leave the console, and what spends steps, what a configuration means has.
+-- Properties that the combinators of computations preserve (console unchanged, steps spent) hold for the meaning of each configuration.
 use Rattle.std.proofs.Common.{ℕ, ◌*◌, ℤ, List, [], ◌∷◌, ◌++◌, length, Option, Some, None}
 use Rattle.std.specs.Prelude.{Bool, true, false, if◌then◌else◌, bytes_eq, codes, int_div, ◌+ℤ◌, ◌-ℤ◌, ◌*ℤ◌, neg_ℤ, not}
 use Rattle.cool_syntax.specs.declared.place.Place.{Place}
@@ -152,7 +152,7 @@ module _ (P : (A : Type 0) → Computation A → Type 0) (w : IsOfWords P) where
   of_branch_if true f r h k = h
   of_branch_if false f r h k = k
 
--- What spends steps has it too.
+-- The combinators that spend steps have it, too.
 pub record IsOfSteps (p : List Class) (a : ℕ) (P : (A : Type 0) → Computation A → Type 0) : Type 1 where
   pub words : IsOfWords P
   pub of_loop : (test body : Computation Value) → P _ test → P _ body → P _ (loop test body)
@@ -294,6 +294,6 @@ module _ (p : List Class) (a : ℕ) (P : (A : Type 0) → Computation A → Type
   of_focus (Return v) = h.words.of_give v
   of_focus (Start self rs ls) = of_initials self rs ls
 
-  -- what a configuration means has it
+  -- the meaning of a configuration has the property
   pub of_configuration : (focus : Focus) (fs : List Frame) → P _ (focus_means p a focus >>= resume p a fs)
   of_configuration focus fs = h.words.of_bind (of_focus focus) (λ v. of_resume fs v)

@@ -53,7 +53,7 @@ step_grows p input never n =
     longer_grows 1 d.outcome d.work d.words d.peak d' (never n) (never (suc n))
     ((eval_alike p n (suc n) 1 more Void [] main_call).alike (start input) n (suc n) 1 more).longer
 
--- where each output has more behind the one before it, the puts are the outputs
+-- if each output extends the one before it, the puts are the outputs
 steps_whole : (output : ℕ → List ℕ) → output 0 ≡ [] → ((n : ℕ) → Grows (output n) (output (suc n))) → (n : ℕ)
     → concat (steps_puts output n) ≡ output n
 steps_whole output none grows zero = sym none

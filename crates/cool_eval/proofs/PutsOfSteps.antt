@@ -1,4 +1,4 @@
--- What steps put: of outputs that grow, one after another, and of sinks before and after a step.
+-- The puts of steps: for outputs that grow, one after another, and for sinks before and after a step.
 use Rattle.std.proofs.Common.{◌≡◌, ℕ, zero, suc, ◌+◌, ◌≤◌, List, [], ◌++◌, length, refl, sym, ap, ◌∙◌, append_assoc, append-nil, arith}
 use Rattle.std.specs.Prelude.{◌-◌, take}
 use Rattle.std.proofs.Math.Seq.{drop-append_seam, drop-length, take-append_seam}
@@ -8,7 +8,7 @@ use Rattle.cool_ports.proofs.SeenSinks.{seen_is}
 use Rattle.cool_eval.specs.Devices.{sink_before, sink_after}
 use Rattle.cool_eval.specs.Puts.{written_since, steps_puts}
 
--- where the output stays the same, there is no piece
+-- if the output stays the same, there is no piece
 pub no_piece_since : (before now : List ℕ) → before ≡ now → pieces_of 64 (written_since before now) ≡ []
 no_piece_since before now is =
     ap (λ (xs : List ℕ). pieces_of 64 (written_since xs now)) is ∙ ap (pieces_of 64) (drop-length now)
@@ -19,11 +19,11 @@ sink_still first output =
     seen_is (sink_before first output) (sink_after first output output) refl
     (sym (append-nil first.puts) ∙ ap (λ (ps : List (List ℕ)). first.puts ++ ps) (sym (no_piece_since output output refl)))
 
--- what is written after an output
+-- the bytes written after an output
 pub text_since : (output bytes : List ℕ) → written_since output (output ++ bytes) ≡ bytes
 text_since output bytes = drop-append_seam output bytes
 
--- what stands before a last text
+-- the bytes before a last text
 pub before_text : (output text : List ℕ) → take (length (output ++ text) - length text) (output ++ text) ≡ output
 before_text output text =
     let count : length (output ++ text) - length text ≡ length output = omega (arith, length-append output text) in

@@ -26,7 +26,7 @@ use Rattle.cool_eval.specs.StackMachine.{Frame, Return, Next, after, begin_call}
 use Rattle.cool_ports.proofs.InputsInParts.{leaves_same}
 use Rattle.cool_eval.proofs.PutsOfSteps.{sink_still}
 
--- what came, with the sink as it was
+-- the result, with the sink as it was
 pub comes_reach : (p : List Class) (r : Result Focus Ending) (m : Machine) (first : SinkSeen) (output input : List ℕ)
     (next : Next)
     → IfErr r IsInner → Comes p r m input output next → Reaches p r m first output input input (sink_before first output) next
@@ -58,14 +58,14 @@ quiet_faults (Err ending.ReadFault) left left' inner = absurd inner
 quiet_faults (Err ending.WriteFault) left left' inner = absurd inner
 quiet_faults _ left left' inner = tt
 
--- what comes after a step was spent
+-- the fault counts after a step was spent
 pub spent_faults : {A : Type 0} (r : Result A Ending) (left mid left' : ℕ) → left ≡ mid + 1 → left' ≡ mid
     → FaultsInCalls r left left'
 spent_faults (Err ending.ReadFault) left mid left' spent same = omega (arith, spent, same)
 spent_faults (Err ending.WriteFault) left mid left' spent same = omega (arith, spent, same)
 spent_faults _ left mid left' spent same = tt
 
--- what is done next, seen otherwise
+-- the next action, with equal descriptions
 pub reaches_same : (p : List Class) (r : Result Focus Ending) (m : Machine) (ended : Bool) (past past' : Past)
     (sink sink' : SinkSeen) (next next' : List ℕ → List ℕ → Next)
     → ((input output : List ℕ) → next' input output ≡ next input output)

@@ -1,4 +1,4 @@
--- How a run begins: the configuration with the call of main on a new object of class Main.
+-- The beginning of a run: the configuration with the call of main on a new object of class Main.
 use Rattle.std.proofs.Common.{◌≡◌, ℕ, List, [], ◌∷◌, ◌++◌, None, Ok, Err, inl, sym, ◌∙◌, refl, subst, append-nil, arith}
 use Rattle.std.specs.Prelude.{codes}
 use Rattle.cool_ports.specs.SinkPuts.{SinkSeen, seen}
@@ -33,7 +33,7 @@ short_at_start p steps first input =
 quiet_start : (first : SinkSeen) → first ≡ sink_after first [] []
 quiet_start first = nothing_before first ∙ sink_still first []
 
--- what a step answered that touches neither source nor sink, over a sink that nothing was put to
+-- the result of a step that touches neither source nor sink, over a sink without puts
 comes_reaches : (p : List Class) (e : Ending) (m : Machine) (first : SinkSeen) (input : List ℕ) (next : Next)
     → Comes p (Err e) m input [] next → Reaches p (Err e) m (seen first.held first.puts) [] input input first next
 comes_reaches p (ending.Error e) m first input next is = ([], quiet_start first, is)

@@ -1,4 +1,4 @@
--- How an evaluation ends whose loop of steps ended: what was put at the end is what the runs of the source say.
+-- The end of an evaluation after its loop of steps ended: the bytes put by then are those that the runs of the source give.
 use Rattle.std.proofs.Common.{◌≡◌, ◌≢◌, ℕ, suc, ◌+◌, ◌≤◌, List, [], ◌++◌, length, Option, Ok, Err, inl, inr, ap, sym, ◌∙◌, refl, subst, append_assoc, append-nil, arith}
 use Rattle.std.specs.Prelude.{◌-◌, take}
 use Rattle.cool_ports.specs.SinkBytes.{appended, GotPrefix}
@@ -36,7 +36,7 @@ outcome_run : (p : List Class) (names : List (List ℕ)) (input : List ℕ) (n :
 unfolding outcome_of
 outcome_run p names input n = run_is p names input n (outcome_of p input n) (sym (start_means p input n))
 
--- what a run writes before its last line
+-- the output of a run before its last line
 cut_line : (p : List Class) (names : List (List ℕ)) (r : Run) (end : End) (output : List ℕ) → r.end ≡ end
     → r.output ≡ output ++ last_line p names end → before_last p names r ≡ output
 cut_line p names r end output ends is =
@@ -80,7 +80,7 @@ module _ (p : List Class) (names : List (List ℕ)) (input : List ℕ) where
           let r = run_at steps (On s) is in
           (r.end, (at.put ∙ ap (appended start.held) (sym (output_on steps s is)), at.left ∙ sym r.left))
 
-      -- what was taken where a read failed
+      -- the input taken when a read failed
       read_took : (h : FailsReading (outcome_of p input) steps start rest sink)
           → TookPart (run p names input h.spent) (run p names input (h.spent + 1)) rest
       read_took h =
@@ -100,7 +100,7 @@ module _ (p : List Class) (names : List (List ℕ)) (input : List ℕ) where
             input = read_took h;
           }
 
-      -- what the run writes of which a prefix was put
+      -- the output of the run of which a prefix was put
       abbrev WritesAfter : List ℕ → ℕ → Type 0
       WritesAfter output n =
           (printed : List ℕ) × ((run p names input n).output ≡ output ++ printed) × GotPrefix (appended start.held output) printed sink.held
@@ -138,7 +138,7 @@ module _ (p : List Class) (names : List (List ℕ)) (input : List ℕ) where
             got = got;
           })
 
-      -- what was written and taken where memory ran out
+      -- the output and the input taken when memory ran out
       record IsShort (h : RunsShort (outcome_of p input) steps start rest sink) : Type 0 where
         wrote : (run p names input h.spent).output ≡ h.output ++ last_line p names (run p names input h.spent).end
         took : TookPart (run p names input h.spent) (run p names input steps) rest
@@ -228,9 +228,9 @@ module _ (p : List Class) (names : List (List ℕ)) (input : List ℕ) where
         input = record { taken = []; left = r.left ∙ sym at.left; kept = []; later = at.left ∙ sym r.left };
       }
 
-  -- What was put
+  -- The puts of the run
 
-  -- what the runs write before their last lines is what the program prints
+  -- the output of the runs before their last lines is the program's output
   pub written_is : (n : ℕ) → written p names input n ≡ output_of (outcome_of p input n)
   written_is n = by (outcome_of p input n) refl
     where

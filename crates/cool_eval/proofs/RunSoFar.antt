@@ -1,4 +1,4 @@
--- What holds along a run, and how it ends: each configuration means what the whole program comes to, with any number of steps left.
+-- Invariant and end of a run: each configuration means the outcome of the whole program, with any number of steps left.
 use Rattle.std.proofs.Common.{◌≡◌, ℕ, zero, suc, ◌+◌, ◌<◌, List, [], ◌∷◌, ◌++◌, Option, Some, None, Ok, Err, inl, inr, ap, sym, ◌∙◌, refl, subst, arith, append_assoc, append-nil}
 use Rattle.std.specs.Prelude.{◌≢◌, ◌⊎◌, Bool, true, false, codes}
 use Rattle.std.proofs.lemmas.List.{append_cancel_left}
@@ -33,7 +33,7 @@ use Rattle.cool_eval.proofs.NoStepLeft.{IsStill, means_still}
 use Rattle.cool_eval.proofs.Growth.{means_later}
 use Rattle.cool_eval.proofs.RunsMean.{start_means}
 
--- What sinks hold
+-- The bytes that sinks hold
 
 pub nothing_appended : (first : Option (List ℕ)) → first ≡ appended first []
 unfolding appended
@@ -50,7 +50,7 @@ pub prefix_longer : (first : Option (List ℕ)) (a b : List ℕ) (held : Option 
 prefix_longer first a b held (rest, h) =
     (rest ++ b, record { front = h.front; cut = ap (λ (xs : List ℕ). xs ++ b) h.cut ∙ append_assoc h.front rest b; got = h.got })
 
--- What is left and what was put, of a state that comes later
+-- The input left and the bytes put, for a later state
 
 left_before : (rest : List ℕ) (s t : State) → HasLeft rest s → Later s t → HasLeft rest t
 left_before rest s t (kept, is) h =
@@ -85,7 +85,7 @@ taken_within taken rest s (Stop e t) is same = (same.output, (taken, same.input 
 taken_within taken rest s (On t) is same = (same.output, (taken, same.input ∙ is))
 taken_within taken rest s Stuck is same = tt
 
--- What was printed
+-- The printed output
 
 still_output : (s : State) (o : Outcome values.Value) → o ≢ Stuck → IsStill s o → output_of o ≡ s.output
 still_output s (Val v t n) some (same, none) = same.output
@@ -141,7 +141,7 @@ module _ (p : List Class) (input : List ℕ) (spent : ℕ) (focus : machine.Focu
   none_spent : spent + 0 ≡ spent
   none_spent = omega arith
 
-  -- what is printed with the steps up to here
+  -- the output with the steps up to here
   output_here : IsNeverStuck (outcome_of p input) → output_of (outcome_of p input spent) ≡ s.output
   output_here never = reached_output p input spent focus fs s reached never
 
@@ -189,7 +189,7 @@ module _ (p : List Class) (input : List ℕ) (spent : ℕ) (focus : machine.Focu
         puts = λ never. spent_puts n n' focus' fs' t c never;
       }
 
-  -- where the step is the end, what is printed up to the end is printed with the steps up to here, or with one more
+  -- if the step is the end, the output up to the end is the output with the steps up to here, or with one more
   end_puts : IsNeverStuck (outcome_of p input) → (n : ℕ) (o : Outcome values.Value) → next n ≡ Halt o
       → puts_of (outcome_of p input) (spent + n)
       ≡ puts_of (outcome_of p input) spent ++ pieces_of 64 (written_since s.output (output_of o))
@@ -242,7 +242,7 @@ module _ (p : List Class) (input : List ℕ) (spent : ℕ) (focus : machine.Focu
       subst (λ (o : Outcome values.Value). After t o) (next_means 1 (Continue focus' fs' t 0) (c.any 0)) (means_later p (spent + 1) focus' fs' t 0)
 
   module _ (steps n : ℕ) (whole : steps ≡ spent + n) where
-    -- what the program comes to with all steps
+    -- the outcome of the program with all steps
     pub ended_with : (o : Outcome values.Value) → next n ≡ Halt o → outcome_of p input steps ≡ o
     ended_with o is = ap (outcome_of p input) whole ∙ sym (next_means n (Halt o) is)
 
@@ -257,7 +257,7 @@ module _ (p : List Class) (input : List ℕ) (spent : ℕ) (focus : machine.Focu
       abbrev first : SinkSeen
       first = seen start.held before
 
-      -- where nothing is put, what was put up to here
+      -- the bytes put up to here, if nothing more is put
       same_held : sink ≡ sink_before first s.output → sink.held ≡ appended start.held s.output
       same_held is = ap (λ (k : SinkSeen). k.held) is
 
@@ -265,7 +265,7 @@ module _ (p : List Class) (input : List ℕ) (spent : ℕ) (focus : machine.Focu
           → sink.puts ≡ start.puts ++ puts_of (outcome_of p input) spent
       same_puts is never = ap (λ (k : SinkSeen). k.puts) is ∙ so_far never
 
-      -- where the step is the end
+      -- the case that the step is the end
       end_at : (rest : List ℕ) (o : Outcome values.Value) (t : State) → next n ≡ Halt o → output_of o ≡ t.output → rest ≡ t.input → sink ≡ sink_after first s.output t.output
           → IsAt (outcome_of p input) steps t start rest sink
       end_at rest o t is output left put = record {
@@ -437,7 +437,7 @@ module _ (p : List Class) (steps : ℕ) (start : SinkSeen) (input middle : List 
   ends_here =
       short_here p input h.spent (focus_of p f) (frames_of p m) (state_of m middle h.now) h.reached steps m.left h.whole start sink sink.puts h.puts [] middle refl stands refl
 
--- where the end was answered, nothing is left
+-- if the end was answered, nothing is left
 pub none_left : (is : Bool) (p q : Past) (left left' : Option (List ℕ)) (input rest : List ℕ) → Took false is p q left left'
     → Leaves p q input rest → is ≡ true → rest ≡ []
 none_left is p q left left' input rest t l e = by is t.ends e
@@ -446,7 +446,7 @@ none_left is p q left left' input rest t l e = by is t.ends e
     by true (more, end) e = l.all (omega (arith, more))
     by false same e = absurd cc
 
--- what was taken stands in front of the rest
+-- the bytes taken come before the rest
 pub front_taken : (was is : Bool) (p q : Past) (left left' : Option (List ℕ)) (input rest : List ℕ)
     → (t : Took was is p q left left') → Leaves p q input rest → input ≡ t.front ++ rest
 front_taken was is p q left left' input rest t l =

@@ -1,4 +1,4 @@
--- What the machine means at its start is the run of the program.
+-- The meaning of the machine's first configuration is the run of the program.
 use Rattle.std.proofs.Common.{◌≡◌, ℕ, List, [], ap, sym, ◌∙◌, refl}
 use Rattle.cool_classes.specs.Chains.{Class}
 use Rattle.cool_meaning.specs.Values.{Value, Void, start}

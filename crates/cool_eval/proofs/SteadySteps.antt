@@ -1,5 +1,4 @@
--- A step of the machine depends on the steps that are left only where it spends one: then it stops where none is left, and else goes on the
--- same with one less.
+-- A step of the machine depends on the steps that are left only if it spends one: then it stops if none is left, and else goes on the same with one less.
 use Rattle.std.proofs.Common.{◌≡◌, ℕ, zero, suc, pos, List, [], ◌∷◌, ◌++◌, Option, Some, None, inl, inr, ap, ◌∙◌, refl}
 use Rattle.std.specs.Prelude.{◌⊎◌, Bool, true, false, if◌then◌else◌, ◌==◌, slice_get}
 use Rattle.cool_syntax.specs.declared.place.Place.{Place}
@@ -30,7 +29,7 @@ left_as (Stop e s) k = Stop e s
 left_as (On s) k = On s
 left_as Stuck k = Stuck
 
--- what comes next, with so many steps left
+-- the next configuration, with so many steps left
 abbrev pub next_with : Next → ℕ → Next
 next_with (Continue focus fs s n) k = Continue focus fs s k
 next_with (Halt o) k = Halt (left_as o k)
@@ -194,7 +193,7 @@ module _ (p : List Class) where
   object_with c (Val ls s n) fs k = refl
   object_with c _ fs k = refl
 
-  -- what comes after the step, by three tests of the class
+  -- the result of the step, by three tests of the class
   abbrev made : Bool → Bool → Bool → ClassId → List Frame → State → ℕ → Next
   made two three four c fs s n =
       if two then Continue (Return (Int (pos 0))) fs s n
@@ -321,7 +320,7 @@ module _ (p : List Class) where
   step_kind (Return v) [] s = inl (λ n k. refl)
   step_kind (Return v) (f ∷ fs) s = returned_kind f v fs s
 
--- What one step leads to
+-- The result of one step
 
 -- A step that was spent: with no step left it stops at this state, and else it leads on with one less.
 pub record StopsBefore (s : State) (next : ℕ → Next) (n n' : ℕ) (focus : Focus) (fs : List Frame) (t : State) : Type 0 where

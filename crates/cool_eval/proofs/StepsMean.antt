@@ -70,7 +70,7 @@ module _ (p : List Class) (a : ℕ) where
   focus_means (Return v) = give v
   focus_means (Start self rs ls) = run_initials p calls self rs ls
 
-  -- what is still to come
+  -- the outcome that is still to come
   abbrev pub means : Next → Outcome Value
   means (Continue focus fs s n) = ((focus_means focus >>= resume fs) s n).outcome
   means (Halt o) = o

@@ -74,7 +74,7 @@ spent_reaches p r m mid m' past past' sink sink' at class name v vs c o found fr
     ∙ ap (λ (q : Option MethodRef). begin_call p at v vs q (frames_of p mid) (state_of mid input output) mid.left) (sym found) in
     subst (λ (k : Next). Reaches p r m' first output input rest sink' k) (sym same) (reaches first output input rest put leaves (λ e. at_end (sym ended ∙ e)))
 
--- where the class has no such method
+-- the case that the class has no such method
 pub none_reaches : (p : List Class) (m : Machine) (past : Past) (sink : SinkSeen) (at : Place) (v : Value) (vs : List Value) (o : Option MethodRef) → None ≡ o
     → OnDevices m.ended past past sink (λ first output input rest. Reaches p (Err ending.Stuck) m first output input rest sink (begin_call p at v vs o (frames_of p m) (state_of m input output) m.left))
 none_reaches p m past sink at v vs o none =
@@ -104,7 +104,7 @@ receiver_reaches p r m m' f past past' sink sink' v at class name vs is reaches 
 
 -- Single steps
 
--- what is done next, where there is something
+-- the next action, if there is one
 abbrev pub found : Result Focus Ending → Result (Option Focus) Ending
 found (Ok f) = Ok (Some f)
 found (Err e) = Err e

@@ -14,6 +14,6 @@ stored_more vs v = map-append value_of vs (v ∷ [])
 pub stored_all : (vs ws : List Value) → map value_of (vs ++ ws) ≡ map value_of vs ++ map value_of ws
 stored_all vs ws = map-append value_of vs ws
 
--- what is set is seen in its place
+-- a value that is set is seen at its location
 pub stored_set : (vs : List Value) (l : ℕ) (v : Value) → map value_of (slice_set vs l v) ≡ slice_set (map value_of vs) l (value_of v)
 stored_set vs l v = map-set value_of vs l v

@@ -21,7 +21,7 @@ line-byte b more above other =
     let some : (b == 0) ≡ false = grind arith in
     rw (some, other) refl
 
--- what a line leaves is the end of the input
+-- the input left after a line is the end of the input
 leaves_by : (zero_byte newline : Bool) (b : ℕ) (more kept : List ℕ) → (b == 0) ≡ zero_byte → (b == 10) ≡ newline → more ≡ kept ++ (line_of more).rest → (front : List ℕ) × (b ∷ more ≡ front ++ (line_of (b ∷ more)).rest)
 leaves_by true newline b more kept is _ more_is = (b ∷ kept, rw is (ap (λ bytes. b ∷ bytes) more_is))
 leaves_by false true b more kept is ten more_is = (b ∷ [], rw (is, ten) refl)
@@ -36,7 +36,7 @@ pub record LineUpTo (was : Bool) (said input rest : List ℕ) : Type 0 where
 pub line_begun : (was : Bool) (input : List ℕ) → (was ≡ true → input ≡ []) → LineUpTo was [] input input
 line_begun was input ended = record { is = refl; ended = ended }
 
--- what was told in front
+-- the bytes told in front
 front_told : (front mid rest : List ℕ) → Some mid ≡ with_front front (Some rest) → mid ≡ front ++ rest
 front_told front mid rest told = cc
 
@@ -89,7 +89,7 @@ line_short was ended byte said input mid rest l g other =
     let same : (line_of input).rest ≡ (line_of rest).rest = ap (λ line. line.rest) more.is in
     (later.0, rw same later.1)
 
--- where a byte came, it is not said that the end was answered
+-- if a byte came, it is not said that the end was answered
 pub still_ended : (was ended : Bool) (byte : ℕ) (before after : Option (List ℕ)) → GaveByte was before (Ok (Some byte)) ended after → ended ≡ was
 still_ended true ended byte before after g = absurd g
 still_ended false ended byte before after g = g.0

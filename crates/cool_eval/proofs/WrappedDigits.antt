@@ -1,4 +1,4 @@
--- Digits that are read with the low 32 bits alone.
+-- Reading digits modulo 2 ^ 32: only the low 32 bits are kept.
 use Rattle.std.proofs.Common.{◌≡◌, ℕ, ◌+◌, ◌-◌, ◌*◌, ◌%◌, ◌<◌, ◌≤◌, Bool, true, false, List, [], ◌∷◌, length, get_or, drop, refl, sym, ◌∙◌, ap, arith}
 use Rattle.std.proofs.lemmas.List.{at_drop_more}
 use Rattle.std.proofs.lemmas.Bool.Decides.{nat_tests}

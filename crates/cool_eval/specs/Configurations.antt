@@ -1,4 +1,4 @@
--- What the interpreter holds, as a configuration of the machine that evaluates with frames.
+-- The interpreter's state, as a configuration of the machine that evaluates with frames.
 use Rattle.std.specs.Prelude.{◌≡◌, ℕ, ℤ, slice_get, ◌+◌, List, [], ◌∷◌, ◌++◌, length, map, Contains, Option, Some, None, Result, Ok, Err}
 use denote.Ref.{Bor}
 use Rattle.cool_syntax.specs.declared.place.Place.{Place}
@@ -109,7 +109,7 @@ error_of (Overflow at) = meters.Overflow at
 error_of (Substring at) = meters.Substring at
 error_of (Aborted c) = meters.Aborted c
 
--- What a step that touches neither source nor sink answered, and the machine after it: where there was memory, it is this.
+-- The result of a step that touches neither source nor sink, with the machine after it: it is `next`, unless memory ran out.
 abbrev pub Comes : List Class → Result Focus Ending → Machine → List ℕ → List ℕ → Next → Type 0
 Comes p (Ok f) m input output next = next ≡ Continue (focus_of p f) (frames_of p m) (state_of m input output) m.left
 Comes p (Err (ending.Error e)) m input output next = next ≡ Halt (Stop (error_of e) (state_of m input output))

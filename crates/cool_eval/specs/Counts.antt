@@ -1,4 +1,4 @@
--- What the counts of faults of a source and a sink say of an answer.
+-- The relation between a result and the fault counts of a source and a sink.
 use Rattle.std.specs.Prelude.{◌≡◌, ◌<◌, ℕ, Result, Ok, Err}
 use Rattle.cool_ports.specs.Counts.{Rose}
 use Rattle.cool_eval.specs.declared.ending.Ending.{Ending}
@@ -29,7 +29,7 @@ CountedEnd Error source source' sink sink' = NoneRose source source' sink sink'
 CountedEnd StepLimit source source' sink sink' = NoneRose source source' sink sink'
 CountedEnd Memory source source' sink sink' = NoneRose source source' sink sink'
 
--- what is written at the end changes the sink alone
+-- the output at the end changes only the sink
 abbrev pub CountedFinish : Result (Unit {0}) Ending → EvalEnd → ℕ → ℕ → Type 0
 CountedFinish (Ok x) end sink sink' = CountedEnd end 0 0 sink sink'
 CountedFinish (Err (ending.Error e)) end sink sink' = CountedEnd end 0 0 sink sink'

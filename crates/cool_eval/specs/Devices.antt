@@ -1,4 +1,4 @@
--- What steps over a source and a sink answer, for an input that the source may have had and a rest of it that is left.
+-- Postcondition of interpreter steps with real devices, for an assumed input and the remaining part of it.
 use Rattle.std.specs.Prelude.{◌≡◌, ◌⊎◌, ℕ, Bool, true, List, [], ◌++◌, Option, Result, Ok, Err}
 use Rattle.cool_ports.specs.Answers.{Past, Leaves}
 use Rattle.cool_ports.specs.SinkBytes.{appended, GotPrefix}
@@ -27,7 +27,7 @@ state_at store input output = record { store = store.values; input = input; outp
 abbrev pub sink_before : SinkSeen → List ℕ → SinkSeen
 sink_before first output = seen (appended first.held output) first.puts
 
--- That sink after the step, with which the output is `now`: what the step wrote was put in pieces.
+-- The sink after the step, when the output is `now`: the bytes that the step wrote were put in pieces.
 abbrev pub sink_after : SinkSeen → List ℕ → List ℕ → SinkSeen
 sink_after first output now = seen (appended first.held now) (first.puts ++ pieces_of 64 (written_since output now))
 
@@ -43,7 +43,7 @@ OnDevices ended past past' sink holds =
 abbrev pub HasLeft : List ℕ → State → Type 0
 HasLeft rest s = (kept : List ℕ) × (rest ≡ kept ++ s.input)
 
--- of what is printed up to a state a prefix was put, after `output`, to a sink that held `first`
+-- a prefix of the output up to a state was put, after `output`, to a sink that held `first`
 abbrev pub HasPut : Option (List ℕ) → List ℕ → Option (List ℕ) → State → Type 0
 HasPut first output held s =
     (printed : List ℕ) × (s.output ≡ output ++ printed) × GotPrefix (appended first output) printed held
@@ -68,9 +68,9 @@ pub record ToStep (n : ℕ) (next : Next) (holds : State → Type 0) : Type 0 wh
   pub is : next ≡ Continue focus frames state n
   pub there : holds state
 
--- What a method of a basic class answered, with the store after it: an outcome, where there was memory and no fault. The sink was that of
--- `first` and `output` before, and `sink` after it; of `input` a rest is left. It takes no step. Where a read failed, or memory ran out, nothing was
--- put; where a write failed, nothing was taken.
+-- The result of a method of a basic class, with the store after it: the outcome, if there was memory and no fault. The sink was that of `first` and
+-- `output` before, and is `sink` after it; `rest` is left of `input`. It takes no step. If a read failed or memory ran out, nothing was put; if a write
+-- failed, nothing was taken.
 abbrev pub Acts : Result Value Ending → Store → SinkSeen → List ℕ → List ℕ → List ℕ → SinkSeen → ℕ
     → Outcome values.Value → Type 0
 Acts (Ok v) store first output input rest sink n o =
@@ -85,7 +85,7 @@ Acts (Err ending.ReadFault) store first output input rest sink n o =
     (sink ≡ sink_before first output) × ToValue n o (HasLeft rest)
 Acts (Err ending.WriteFault) store first output input rest sink n o = (rest ≡ input) × ToValue n o (HasPutSome first output sink)
 
--- What a step answered, with the machine after it: what is done next, where there was memory and no fault.
+-- The result of a step, with the machine after it: the next configuration, if there was memory and no fault.
 abbrev pub Reaches : List Class → Result Focus Ending → Machine → SinkSeen → List ℕ → List ℕ → List ℕ → SinkSeen
     → Next → Type 0
 Reaches p (Ok f) m first output input rest sink next =

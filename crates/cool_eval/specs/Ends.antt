@@ -1,5 +1,5 @@
--- How evaluating a program ends, by the runs of the source that the rules give, over a source and a sink that may fail. A run that has fewer
--- steps stops just before the call, the new value or the turn of a loop that would be its next step. Methods that read or write are calls.
+-- The end of an evaluation of a program, by the runs of the source that the rules give, over a source and a sink that may fail. A run that has fewer steps
+-- stops just before the call, the new value or the iteration of a loop that would be its next step. Methods that read or write are calls.
 use Rattle.std.specs.Prelude.{◌≡◌, ◌⊎◌, ℕ, ◌+◌, ◌<◌, ◌≤◌, List, [], ◌++◌, Option}
 use Rattle.cool_ports.specs.SinkBytes.{appended, GotPrefix}
 use Rattle.cool_classes.specs.Chains.{Class}
@@ -25,15 +25,15 @@ pub record IsPartOf (r : Run) (output rest : List ℕ) : Type 0 where
 abbrev pub IsPart : Run → Option (List ℕ) → List ℕ → Option (List ℕ) → Type 0
 IsPart r held rest held' = (output : List ℕ) × (held' ≡ appended held output) × IsPartOf r output rest
 
--- Of the input that a run leaves a part was taken, and no more than a further run takes.
+-- A part of the input that the shorter run leaves was taken, and no more than the longer run takes.
 pub record TookPart (shorter longer : Run) (rest : List ℕ) : Type 0 where
   pub taken : List ℕ
   pub left : shorter.left ≡ taken ++ rest
   pub kept : List ℕ
   pub later : rest ≡ kept ++ longer.left
 
--- A read failed. The run with `spent` steps stops before the call that reads: all that it writes was put. Of the input that it leaves the
--- call took a part, and no more than the run with one step more takes.
+-- A read failed. The run with `spent` steps stops before the call that reads: all that it writes was put. The call took a part of the input that this run
+-- leaves, and no more than the run with one step more takes.
 pub record StoppedReading (run : ℕ → Run) (steps : ℕ) (held : Option (List ℕ)) (rest : List ℕ)
     (held' : Option (List ℕ)) : Type 0 where
   pub spent : ℕ
@@ -48,8 +48,8 @@ pub record WritesNext (run : ℕ → Run) (steps spent : ℕ) (printed : List �
   pub goes_on : (run spent).end ≡ runs.GoesOn
   pub later : (run (spent + 1)).output ≡ (run spent).output ++ printed
 
--- A write of a call failed. The run with `spent` steps stops before the call that writes: all that it writes was put, and the input that it
--- leaves is left. Of what the run with one step more writes after that, a prefix was put.
+-- A write of a call failed. The run with `spent` steps stops before the call that writes: all that it writes was put, and the input that it leaves is left.
+-- A prefix of the bytes that the run with one step more writes after that was put, too.
 pub record StoppedWriting (run : ℕ → Run) (steps : ℕ) (held : Option (List ℕ)) (rest : List ℕ)
     (held' : Option (List ℕ)) : Type 0 where
   pub spent : ℕ
@@ -79,8 +79,8 @@ pub record StoppedAtLastLine (p : List Class) (names : List (List ℕ)) (r : Run
   pub left : rest ≡ r.left
   pub got : GotPrefix (appended held before) (last_line p names r.end) held'
 
--- Memory ran out after `spent` steps, or in the next one. All that the run with so many steps writes was put, but for the line that it writes
--- last where it ends. Of the input that it leaves a part was taken, and no more than the whole run takes.
+-- Memory ran out after `spent` steps, or in the next one. All that the run with so many steps writes was put, except for the line that it writes last if it
+-- ends. A part of the input that it leaves was taken, and no more than the whole run takes.
 pub record StoppedShort (p : List Class) (names : List (List ℕ)) (run : ℕ → Run) (steps : ℕ) (held : Option (List ℕ))
     (rest : List ℕ) (held' : Option (List ℕ)) : Type 0 where
   pub spent : ℕ
@@ -90,8 +90,8 @@ pub record StoppedShort (p : List Class) (names : List (List ℕ)) (run : ℕ �
   pub put : held' ≡ appended held before
   pub input : TookPart (run spent) (run steps) rest
 
--- How an evaluation of a program ends, whose files have these names, on an input, with so many steps: as its run does, or within it, where a
--- device failed or memory ran out.
+-- The end of an evaluation of a program, whose files have these names, on an input, with so many steps: that of its run, or within it, if a device failed
+-- or memory ran out.
 abbrev pub Evaluates : List Class → List (List ℕ) → List ℕ → ℕ → Option (List ℕ) → EvalEnd → List ℕ → Option (List ℕ)
     → Type 0
 Evaluates p names input steps held Done rest held' =

@@ -1,4 +1,4 @@
--- What the parts of the methods of the basic classes answer.
+-- The results of the functions that implement the methods of the basic classes.
 use Rattle.std.specs.Prelude.{◌≡◌, ℕ, Bool, List, [], ◌∷◌, ◌++◌, Result, Ok, Err}
 use denote.Ref.{Bor}
 use Rattle.std.proofs.Common.{Vec}
@@ -65,12 +65,12 @@ Makes (Err ending.StepLimit) store input output n o = ⊥
 Makes (Err ending.ReadFault) store input output n o = ⊥
 Makes (Err ending.WriteFault) store input output n o = ⊥
 
--- What a method that leaves source and store does to a sink: whatever the state, this computation.
+-- The effect on a sink of a method that leaves source and store unchanged: this computation, in each state.
 abbrev pub ActsOnSink : Result Value Ending → SinkSeen → SinkSeen → Computation values.Value → Type 0
 ActsOnSink r sink sink' d =
     (store : Store) (first : SinkSeen) (output input : List ℕ) (n : ℕ) → sink ≡ sink_before first output → Acts r store first output input input sink' n (d (state_at store input output) n).outcome
 
--- What a method that leaves sink and store does to a source.
+-- The effect on a source of a method that leaves sink and store unchanged.
 abbrev pub ActsOnSource : Result Value Ending → Bool → Past → Past → Computation values.Value → Type 0
 ActsOnSource r ended past past' d =
     (store : Store) (sink : SinkSeen) → OnDevices ended past past' sink (λ first output input rest. (n : ℕ) → Acts r store first output input rest sink n (d (state_at store input output) n).outcome)

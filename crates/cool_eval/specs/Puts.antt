@@ -1,5 +1,5 @@
--- What an evaluation gives its sink to put. A step that writes is one call of `out_string` or `out_int`, and what it writes is put before the
--- next step, in pieces of 64 bytes, the last perhaps shorter; so is the line that a run writes last.
+-- The puts of an evaluation to its sink. A step that writes is one call of `out_string` or `out_int`. Its bytes are put before the next step, in pieces of
+-- 64 bytes, the last perhaps shorter. So is the line that a run writes last.
 use Rattle.std.specs.Prelude.{◌≡◌, ℕ, zero, suc, ◌+◌, ◌-◌, ◌<◌, ◌≤◌, List, [], ◌∷◌, ◌++◌, length, take, drop, codes, refl}
 use Rattle.cool_ports.specs.SinkPuts.{pieces_of, PutFront}
 use Rattle.cool_classes.specs.Chains.{Class}
@@ -9,7 +9,7 @@ use Rattle.cool_eval.specs.Ends.{last_line, TookPart}
 use Rattle.cool_eval.specs.declared.evaluation.EvalEnd.{EvalEnd}
 use Rattle.cool_eval.specs.declared.evaluation.EvalEnd.TheVariants.{Done, Error, StepLimit, ReadFault, WriteFault, Memory}
 
--- what an output has more than one before it
+-- the bytes by which an output is longer than one before it
 abbrev pub written_since : List ℕ → List ℕ → List ℕ
 written_since before now = drop (length before) now
 
@@ -31,14 +31,14 @@ step_by_step = refl
 of_fewer_steps : steps_puts abc 2 ≡ codes "ab" ∷ []
 of_fewer_steps = refl
 
--- what a run writes before its last line
+-- the output of a run before its last line
 abbrev pub before_last : List Class → List (List ℕ) → Run → List ℕ
 before_last p names r = take (length r.output - length (last_line p names r.end)) r.output
 
 a_good_end : before_last [] [] (record { end = runs.Done; output = codes "hi" ++ done_text; left = []; work = 0; words = 0; peak = 0 }) ≡ codes "hi"
 a_good_end = refl
 
--- what is written before the last line by the runs of a program with each number of steps
+-- the output before the last line of a program's runs, for each number of steps
 abbrev pub written : List Class → List (List ℕ) → List ℕ → ℕ → List ℕ
 written p names input n = before_last p names (run p names input n)
 
@@ -47,9 +47,9 @@ abbrev pub run_puts : List Class → List (List ℕ) → List ℕ → ℕ → Li
 run_puts p names input n =
     steps_puts (written p names input) n ++ pieces_of 64 (last_line p names (run p names input n).end)
 
--- What an evaluation with so many steps gave its sink to put, which was given `before` and then `after`: all puts of the run. Where a read
--- failed, those of the steps before the call that reads; where memory ran out, those of the steps till then; of both what is left of the input
--- tells how far it came. Where a write failed, a front of all.
+-- The puts of an evaluation with so many steps, to a sink that had the puts `before` and then `after`: all puts of the run. If a read failed, those of the
+-- steps before the call that reads; if memory ran out, those of the steps until then. In both cases the rest of the input shows how far it came. If a write
+-- failed, a prefix of all puts.
 abbrev pub PutByRun : List Class → List (List ℕ) → List ℕ → ℕ → EvalEnd → List ℕ → List (List ℕ) → List (List ℕ) → Type 0
 PutByRun p names input steps Done rest before after = after ≡ before ++ run_puts p names input steps
 PutByRun p names input steps Error rest before after = after ≡ before ++ run_puts p names input steps

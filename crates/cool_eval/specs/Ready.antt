@@ -1,4 +1,4 @@
--- What holds of the tables that a run is set up with.
+-- Conditions on the tables that a run is set up with.
 use Rattle.std.specs.Prelude.{◌≡◌, List, Some, length, slice_get}
 use Rattle.std.specs.List.{AllByRecursion}
 use Rattle.std.proofs.Common.{Vec}

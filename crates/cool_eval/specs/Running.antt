@@ -1,4 +1,4 @@
--- How a run of the interpreter goes on and ends, by the evaluation of the whole program.
+-- Invariant and end of an interpreter's run, by the evaluation of the whole program.
 use Rattle.std.specs.Prelude.{◌≡◌, ◌≢◌, ℕ, suc, ◌+◌, ◌<◌, ◌≤◌, List, [], ◌++◌, Option, Some, None, Result, Ok, Err}
 use Rattle.cool_ports.specs.SinkBytes.{appended}
 use Rattle.cool_ports.specs.SinkPuts.{SinkSeen, PutFront}
@@ -17,11 +17,11 @@ use Rattle.cool_eval.specs.StackMachine.{Next, Halt}
 use Rattle.cool_eval.specs.Devices.{HasLeft, HasPut, Reaches, sink_before}
 use Rattle.cool_eval.specs.Puts.{steps_puts}
 
--- what the whole program comes to on an input, with so many steps
+-- the outcome of the whole program on an input, with so many steps
 unfoldable pub outcome_of : List Class → List ℕ → ℕ → Outcome values.Value
 outcome_of p input n = (eval p (calls_within p n) values.Void [] main_call (start input) n).outcome
 
--- What one step answered, with the machine after it: none where the value of the whole was returned.
+-- The result of one step, with the machine after it: none if the value of the whole was returned.
 abbrev pub Steps : List Class → Result (Option Focus) Ending → Machine → SinkSeen → List ℕ → List ℕ → List ℕ → SinkSeen
     → Next → Type 0
 Steps p (Ok (Some f)) m first output input rest sink next = Reaches p (Ok f) m first output input rest sink next
@@ -29,7 +29,7 @@ Steps p (Ok None) m first output input rest sink next =
     (v : values.Value) × (n : ℕ) × (sink ≡ sink_before first output) × (next ≡ Halt (Val v (state_of m rest output) n))
 Steps p (Err e) m first output input rest sink next = Reaches p (Err e) m first output input rest sink next
 
--- what was printed up to an outcome
+-- the output up to an outcome
 abbrev pub output_of : Outcome values.Value → List ℕ
 output_of (Val v s n) = s.output
 output_of (Stop e s) = s.output
@@ -95,8 +95,8 @@ pub record RunsShort (outcomes : ℕ → Outcome values.Value) (steps : ℕ) (st
   pub stands : OfState (outcomes spent) (HasTaken output rest)
   pub later : OfState (outcomes steps) (HasLeft rest)
 
--- How the loop of steps ended, of a program that comes to these outcomes with so many steps: with that of all steps, or within it, where a
--- device failed or memory ran out.
+-- The end of the loop of steps, for a program with these outcomes and so many steps: the outcome of all steps, or an end within them, if a device failed or
+-- memory ran out.
 abbrev pub Ended : (ℕ → Outcome values.Value) → ℕ → SinkSeen → Result (Unit {0}) Ending → List ℕ → SinkSeen → Type 0
 Ended outcomes steps start (Ok x) rest sink =
     (v : values.Value) × (s : State) × (n : ℕ) × (outcomes steps ≡ Val v s n) × IsAt outcomes steps s start rest sink

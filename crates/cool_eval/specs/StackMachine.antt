@@ -1,4 +1,4 @@
--- A machine that evaluates expressions with a stack of frames, on lists: what waits for the value of a part, and what a step does.
+-- A machine that evaluates expressions with a stack of frames, on lists: its frames, which wait for the value of a part, and its steps.
 use Rattle.std.specs.Prelude.{ℕ, zero, suc, ◌+◌, pos, neg_ℤ, true, false, not, ◌==◌, if◌then◌else◌, List, [], ◌∷◌, ◌++◌, length, slice_set, Option, Some, None, bytes_eq}
 use Rattle.cool_syntax.specs.declared.place.Place.{Place}
 use Rattle.cool_syntax.specs.declared.operator.ArithOp.{ArithOp}
@@ -21,7 +21,7 @@ use Rattle.cool_meaning.specs.Lookups.{class_made, method_at, attributes, defaul
 use Rattle.cool_meaning.specs.BasicMethods.{as_truth, as_number, basic, locate_all}
 use Rattle.cool_meaning.specs.Evaluation.{class_or, value_named, assign, exact, arithmetic, compare, is_void}
 
--- What waits for a value: the parts after each arrow of the rules.
+-- A frame, which waits for a value: the parts after each arrow of the rules.
 pub data Frame : Type 0 where
   AssignTo : (env : Environment) (name : List ℕ) → Frame
   Choose : (self : Value) (env : Environment) (first second : Tree) → Frame
@@ -41,7 +41,7 @@ pub data Frame : Type 0 where
   Compared : (self : Value) (env : Environment) (op : CompareOp) (right : Tree) → Frame
   CompareTo : (op : CompareOp) (left : Value) → Frame
 
--- What is to be done next: an expression is begun, a value is returned, or the next initial value of a new object is begun.
+-- The next action: an expression is begun, a value is returned, or the next initial value of a new object is begun.
 pub data Focus : Type 0 where
   Begin : (self : Value) (env : Environment) (t : Tree) → Focus
   Return : (value : Value) → Focus

@@ -16,7 +16,7 @@ value_of (held.Bool b) = Bool b
 value_of (held.Str bytes) = Str bytes.value.items
 value_of (held.Object o) = Obj o.class o.identity (locations_from o.first o.count)
 
--- what a contract sees of a store: the values at the locations, and how many identities were drawn
+-- a store as contracts see it: the values at the locations, and the number of identities that were drawn
 pub record Stored : Type 0 where
   pub values : List Value
   pub drawn : ℕ

@@ -1,4 +1,4 @@
--- What a contract sees of the interpreter's parts.
+-- The interpreter's data as contracts see them.
 use Rattle.std.specs.Prelude.{◌≡◌, ℕ, List, [], ◌∷◌, Option, Some, None}
 use Rattle.cool_syntax.specs.Tree.{Tree}
 use Rattle.cool_syntax.specs.declared.file_tree.AttributeDef.{AttributeDef}

@@ -1,4 +1,4 @@
-//! What the methods of IO put into the sink and take from the source.
+//! Output to the sink and input from the source, for the methods of IO.
 
 ghost use Rattle.std.specs.Prelude.{◌≡◌, ◌++◌, ℕ, List, [], true, IfErr, OnOk, OnErr};
 ghost use Rattle.cool_ports.specs.Answers.{Leaves};
@@ -13,10 +13,10 @@ use crate::ending::Ending;
 use cool_ports::{Sink, Source, next_byte, put_pieces};
 use std::alloc::Global;
 
-/// How many bytes a piece of output has at most.
+/// The largest number of bytes in a piece of output.
 const PIECE: usize = 64;
 
-/// Puts bytes in pieces. `Err` comes only where a put fails; then a prefix of the bytes was put.
+/// Puts bytes in pieces. Returns `Err` only if a put fails; then a prefix of the bytes was put.
 pub(crate) fn print<K: Sink>(sink: &mut K, bytes: &[u8]) -> Result<(), Ending>
     ensures put { OnOk result (K.held sink.new ≡ appended (K.held sink.old) bytes.now) }
     ensures pieces { OnOk result (K.puts sink.new ≡ K.puts sink.old ++ pieces_of 64 bytes.now) }

@@ -1,4 +1,4 @@
-//! How a run ends before its value.
+//! The reasons why a run ends before its value, and the run-time errors.
 
 ghost use Rattle.std.specs.Prelude.{◌≡◌};
 
@@ -30,7 +30,7 @@ pub(crate) enum Ending {
     ReadFault,
     /// A put failed.
     WriteFault,
-    /// Want of memory.
+    /// Out of memory.
     Memory,
     /// No rule applies. It never comes to a typed program.
     Stuck,

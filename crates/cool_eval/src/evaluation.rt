@@ -1,4 +1,4 @@
-//! The run of a program.
+//! The evaluation of a program: its whole run.
 
 ghost use Rattle.std.specs.Prelude.{◌≡◌, ℕ, Bool, false, List, IfOk, codes, map, string_bytes};
 ghost use Rattle.cool_ports.specs.Answers.{Leaves};
@@ -23,7 +23,7 @@ use cool_rules::TypedProgram;
 use cool_syntax::Name;
 use std::alloc::{AllocError, Global};
 
-/// How a run ends.
+/// The end of a run.
 #[derive(Clone, Copy)]
 pub enum EvalEnd {
     /// The program ended.
@@ -36,7 +36,7 @@ pub enum EvalEnd {
     ReadFault,
     /// A put failed.
     WriteFault,
-    /// Want of memory.
+    /// Out of memory.
     Memory,
 }
 

@@ -1,4 +1,4 @@
-//! What waits for a value, and what is done next.
+//! The frames of the interpreter, which wait for a value, and its next action.
 
 use crate::part::{Call, Part, Parts, Twigs};
 use crate::scene::Scene;
@@ -7,7 +7,7 @@ use cool_classes::AttributeRef;
 use cool_syntax::{ArithOp, CompareOp, Name, Place};
 use std::rc::Rc;
 
-/// What waits for a value.
+/// A frame, which waits for a value.
 #[derive(Drop)]
 pub(crate) enum Frame<'a> {
     AssignTo {
@@ -87,8 +87,8 @@ pub(crate) enum Frame<'a> {
     },
 }
 
-/// What is done next: an expression is begun, a value is returned, or the next initial value of a new object is begun, whose
-/// attributes from one on are left.
+/// The next action: an expression is begun, a value is returned, or the next initial value of a new object is begun, with the attributes from one on still
+/// left.
 #[derive(Drop)]
 pub(crate) enum Focus<'a> {
     Begin {

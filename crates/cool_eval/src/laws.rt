@@ -1,4 +1,4 @@
-//! Laws on evaluations: what they put, and those that stopped.
+//! Theorems on evaluations: their puts are their output, and a stopped one did a part of its run.
 
 ghost use Rattle.std.specs.Prelude.{◌≡◌, ℕ, List, Option};
 ghost use Rattle.std.specs.List.{concat};
@@ -8,8 +8,8 @@ ghost use Rattle.cool_eval.specs.Ends.{IsPart, StoppedAtLastLine, StoppedReading
 ghost use Rattle.cool_eval.specs.Puts.{run_puts};
 ghost use Rattle.cool_meaning.specs.SourceRun.{run};
 
-/// Where a device failed, or memory ran out, a part of the whole run of a typed program was done: a prefix of its output was put, and at
-/// least the input that it leaves is left.
+/// If a device failed or memory ran out, a part of the whole run of a typed program was done: a prefix of its output was put, and at least the input that
+/// it leaves is left.
 pub fn law_stopped_within()
     ensures reading { (p : List Class) → IsTypedTable p → (names : List (List ℕ)) (input : List ℕ) (steps : ℕ) (held : Option (List ℕ)) (rest : List ℕ) (held' : Option (List ℕ))
         → StoppedReading (run p names input) steps held rest held' → IsPart (run p names input steps) held rest held' }

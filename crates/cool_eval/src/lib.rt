@@ -1,11 +1,11 @@
 //! Running programs without a machine: an interpreter over the meaning of the source.
 //!
-//! Comes in: a typed program, a source and a sink. Goes out: how its run ends. It meets `specs/Ends.antt`, by the run of the program that
+//! Input: a typed program, a source and a sink. Output: how its run ends. It implements `specs/Ends.antt`, by the run of the program that
 //! `cool_meaning` defines. `specs/StackMachine.antt` is a machine with a stack of frames whose steps the code takes; `proofs/StepsMean.antt` shows
 //! that they are evaluation.
 //!
-//! What a step does is compiled into the one loop of `run` (`#[inline(always)]`), so that focus, frame and values pass in registers, and each
-//! frame's own parts alone are written where it waits.
+//! Each step is compiled into the one loop of `run` (`#[inline(always)]`), so that focus, frame and values pass in registers, and only each
+//! frame's own parts are written where it waits.
 #![tactic(auto)]
 
 mod basic;

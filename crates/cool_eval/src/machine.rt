@@ -1,4 +1,4 @@
-//! What a run holds: frames, a store, and the steps that are left.
+//! The state of a run: frames, a store, and the steps that are left.
 
 ghost use Rattle.std.specs.Prelude.{◌≡◌, ◌∷◌, [], ◌++◌, ◌+◌, List, IfErr, IfOk, OnErr, OnOk};
 ghost use Rattle.cool_classes.specs.Chains.{Class};
@@ -57,7 +57,7 @@ impl<'a> Machine<'a> {
     }
 }
 
-/// No items yet, and room for so many. `Err` comes only for want of memory.
+/// No items yet, and room for so many. Returns `Err` only if memory runs out.
 #[inline(always)]
 pub(crate) fn room<T: Drop>(alloc: Global, count: usize) -> Result<Vec<T>, Ending>
     ensures empty { IfOk result (λ items. items.items ≡ []) }
@@ -80,7 +80,7 @@ pub(crate) fn add<T: Drop>(items: &mut Vec<T>, item: T) -> Result<(), Ending>
     }
 }
 
-/// A scene that several may hold. `Err` comes only for want of memory.
+/// A scene that several may hold. Returns `Err` only if memory runs out.
 pub(crate) fn shared<'a>(alloc: Global, scene: Scene<'a>) -> Result<Rc<Scene<'a>>, Ending>
     ensures shared { IfOk result (λ copy. copy.value ≡ scene.entry) }
     ensures memory { IfErr result (λ e. e ≡ Ending.Memory) }
@@ -91,7 +91,7 @@ pub(crate) fn shared<'a>(alloc: Global, scene: Scene<'a>) -> Result<Rc<Scene<'a>
     }
 }
 
-/// The same scene. `Err` comes only for want of memory.
+/// The same scene. Returns `Err` only if memory runs out.
 #[inline(always)]
 pub(crate) fn share<'a>(scene: &Rc<Scene<'a>>) -> Result<Rc<Scene<'a>>, Ending>
     ensures shared { IfOk result (λ copy. copy.value ≡ scene.now.value) }

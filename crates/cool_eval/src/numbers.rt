@@ -1,4 +1,4 @@
-//! Arithmetic and comparison.
+//! Arithmetic and comparison of numbers.
 
 ghost use Rattle.std.specs.Prelude.{◌≡◌, ℤ, SomeIff, FitsSigned, IfErr};
 ghost use Rattle.std.specs.Int.{w64};

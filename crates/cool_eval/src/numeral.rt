@@ -1,4 +1,4 @@
-//! Numbers written in text.
+//! Parsing numbers in text.
 
 ghost use Rattle.std.specs.Prelude.{◌≡◌, ◌%◌, ◌^◌};
 ghost use Rattle.cool_meaning.specs.Numbers as numbers;
@@ -11,7 +11,7 @@ pub(crate) fn number_of(line: &[u8]) -> i32
     after_blanks(skip_blanks(line))
 }
 
-/// What follows the blanks and tabs at the front.
+/// The rest of a line after the blanks and tabs at the front.
 fn skip_blanks(line: &[u8]) -> &[u8]
     ensures { result.now ≡ numbers.skip_blanks line.now }
 {

@@ -1,4 +1,4 @@
-//! New objects.
+//! Creating objects: defaults first, then the initial values.
 
 ghost use Rattle.std.specs.Prelude.{◌≡◌, ℕ, List, IfErr, length};
 ghost use Rattle.cool_meaning.specs.Values as values;

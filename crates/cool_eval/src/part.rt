@@ -1,4 +1,4 @@
-//! Expressions of a body, opened one at a time.
+//! The expressions of a body, opened one at a time.
 
 ghost use Rattle.std.specs.Prelude.{◌≡◌, ◌<◌, None, Some, ◌∷◌, [], IfSome, map};
 ghost use Rattle.std.specs.List.{AllByRecursion};

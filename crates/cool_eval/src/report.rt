@@ -1,4 +1,4 @@
-//! What is written at the end of a run.
+//! The output at the end of a run.
 
 ghost use Rattle.std.specs.Prelude.{◌≡◌, ◌++◌, ℕ, List, IfOk, codes, map, string_bytes};
 ghost use Rattle.cool_ports.specs.SinkPuts.{SinkSeen, seen};

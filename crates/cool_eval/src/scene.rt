@@ -1,4 +1,4 @@
-//! Where an expression is evaluated: in a method of an object, with variables.
+//! The context in which an expression is evaluated: a method of an object, with variables.
 
 ghost use Rattle.std.specs.Prelude.{◌≡◌, ◌∷◌, [], ◌++◌, IfOk, IfErr, map, option_map, slice_get};
 ghost use Rattle.std.specs.List.{AllByRecursion};
@@ -25,7 +25,7 @@ use cool_classes::{AttributeRef, BOOL, ClassId, ClassTable, INT, STRING};
 use cool_syntax::{AttributeDef, Body, Feature, Name};
 use std::alloc::{AllocError, Global};
 
-/// What stays the same during a run: the class table, and the attributes of each class.
+/// The constant context of a run: the class table, and the attributes of each class.
 #[derive(Clone, Copy)]
 pub(crate) struct RunSetting<'a> {
     pub(crate) alloc: Global,
@@ -139,7 +139,7 @@ impl<'a> RunSetting<'a> {
         Ok(Value::Void)
     }
 
-    /// What attributes begin with, before their initial values.
+    /// The default values of attributes, before their initial values.
     pub(crate) fn defaults(&self, attributes: &[AttributeRef]) -> Result<Vec<Value>, Ending>
         requires has { AllByRecursion (HasAttribute self.now.table.now) attributes.now }
         ensures defaults { IfOk result (λ found. map value_of found.items ≡ default_values self.now.table.now attributes.now) }
@@ -207,7 +207,7 @@ impl<'a> Scene<'a> {
         }
     }
 
-    /// The same with one more variable. `Err` comes only for want of memory.
+    /// The same with one more variable. Returns `Err` only if memory runs out.
     pub(crate) fn with(
         &self,
         alloc: Global,

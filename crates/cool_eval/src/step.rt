@@ -1,4 +1,4 @@
-//! Values that come to what waits for them, and single steps.
+//! Single steps: returning values to the frames that wait for them.
 
 ghost use Rattle.std.specs.Prelude.{◌≡◌, ◌∷◌, [], ◌++◌, ℕ, List, None, IfErr, IfOk};
 ghost use Rattle.cool_ports.specs.Answers.{Leaves};

@@ -39,7 +39,7 @@ impl Store {
         }
     }
 
-    /// How many locations there are: the next one.
+    /// The number of locations, which is the next location.
     #[tactic(auto, using(crate::proofs::StoredValues::stored_length))]
     pub(crate) fn len(&self) -> usize
         ensures { result ≡ length self.now.values }

@@ -27,7 +27,7 @@ pub(crate) enum Value {
 }
 
 impl Value {
-    /// The same value. `Err` comes only for want of memory.
+    /// The same value. Returns `Err` only if memory runs out.
     #[inline(always)]
     pub(crate) fn copy(&self) -> Result<Value, AllocError>
         ensures { IfOk result (λ copy. value_of copy ≡ value_of self.now) }

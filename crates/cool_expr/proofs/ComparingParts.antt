@@ -18,7 +18,7 @@ bare_exprs : (es : List Expr) → bare_all (of_list (map tree es)) ≡ of_list (
 bare_exprs [] = refl
 bare_exprs (e ∷ es) = ap (More (bare (tree e))) (bare_exprs es)
 
--- the trees of two lists of expressions differ in places alone where those of their elements do
+-- the trees of two lists of expressions differ only in places if those of their elements do
 pub same_exprs : (ts us : List Tree) (xs ys : List Expr) → map tree xs ≡ ts → map tree ys ≡ us → (bare_all (of_list ts) ≡ bare_all (of_list us)) ↔ (map (λ e. bare (tree e)) xs ≡ map (λ e. bare (tree e)) ys)
 same_exprs ts us xs ys p q =
     let a : bare_all (of_list ts) ≡ of_list (map (λ e. bare (tree e)) xs) = sym (ap (λ w. bare_all (of_list w)) p) ∙ bare_exprs xs in
@@ -44,7 +44,7 @@ bare_branches : (bs : List Branch) → bare_cases (of_twigs (map twig bs)) ≡ o
 bare_branches [] = refl
 bare_branches (b ∷ bs) = let w = bare_twig (twig b) in ap (CaseOf w.at w.name w.declared w.body) (bare_branches bs)
 
--- the branches of two cases differ in places alone where each branch does
+-- the branches of two cases differ only in places if each branch does
 pub same_branches : (ws vs : List Twig) (xs ys : List Branch) → map twig xs ≡ ws → map twig ys ≡ vs → (bare_cases (of_twigs ws) ≡ bare_cases (of_twigs vs)) ↔ (map (λ b. bare_twig (twig b)) xs ≡ map (λ b. bare_twig (twig b)) ys)
 same_branches ws vs xs ys p q =
     let a : bare_cases (of_twigs ws) ≡ of_twigs (map (λ b. bare_twig (twig b)) xs) = sym (ap (λ w. bare_cases (of_twigs w)) p) ∙ bare_branches xs in

@@ -13,7 +13,7 @@ use cool_pool::Pool;
 use cool_syntax::{Node, NodeBranch, NodeId};
 use std::alloc::{AllocError, Global};
 
-/// The tree at this number of a pool, as an expression in memory of its own. `Err` comes only for want of memory.
+/// The tree at this number of a pool, as an expression in memory of its own. Returns `Err` only if memory runs out.
 ///
 /// It calls itself once for each level of the tree, so it takes stack in proportion to the depth.
 #[cycle(boxed)]

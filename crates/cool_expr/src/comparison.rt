@@ -1,4 +1,4 @@
-//! Comparison of expressions, with no regard to places.
+//! Comparison of expressions, ignoring places.
 
 ghost use Rattle.std.specs.Prelude.{◌≡◌, ◌↔◌, IsTrue};
 ghost use Rattle.cool_syntax.specs.Tree.{of_list, of_option, of_twigs};

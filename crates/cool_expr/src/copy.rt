@@ -8,7 +8,7 @@ use crate::expr::{Branch, Expr};
 use crate::parts::{Branches, Child, Exprs};
 use std::alloc::{AllocError, Global};
 
-/// A copy of the expression, with its places. `Err` comes only for want of memory.
+/// A copy of the expression, with its places. Returns `Err` only if memory runs out.
 ///
 /// It calls itself once for each level of the tree, so it takes stack in proportion to the depth.
 #[cycle(copy)]

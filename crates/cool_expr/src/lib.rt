@@ -1,7 +1,7 @@
-//! Expressions in boxes, apart from the lists of nodes that the commands work with: made of the nodes of a pool, copied and compared; and trees
-//! written as tokens. No command calls these.
+//! Expressions in boxes, apart from the lists of nodes that the commands work with: made of the nodes of a pool, copied and compared; and trees written as
+//! tokens. No command calls these.
 //!
-//! Comes in: a pool, an expression, or the tree of a file. Goes out: an expression, whether two are the same, or the tokens of a file.
+//! Input: a pool, an expression, or the tree of a file. Output: an expression, the answer whether two are the same, or the tokens of a file.
 #![tactic(auto)]
 
 mod boxed;

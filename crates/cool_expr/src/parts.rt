@@ -35,7 +35,7 @@ impl Model for Child {
 }
 
 impl Child {
-    /// The expression in a box of its own. `Err` comes only for want of memory, and lets the expression go.
+    /// The expression in a box of its own. Returns `Err` only if memory runs out; then the expression is dropped.
     pub fn new(alloc: Global, e: Expr) -> Result<Child, AllocError>
         ensures { IfOk result (λ c. c ≡ tree e) }
     {
@@ -96,8 +96,7 @@ impl Exprs {
         items
     }
 
-    /// Adds an expression at the end. `Err` comes only for want of memory, leaves the list as it is, and lets the
-    /// expression go.
+    /// Adds an expression at the end. Returns `Err` only if memory runs out; then the list stays as it is, and the expression is dropped.
     pub fn push(&mut self, item: Expr) -> Result<(), AllocError>
         ensures { self.new ≡ (if is_ok result then self.old ++ tree item ∷ [] else self.old) }
     {
@@ -157,7 +156,7 @@ impl Branches {
         items
     }
 
-    /// Adds a branch at the end. `Err` comes only for want of memory, leaves the list as it is, and lets the branch go.
+    /// Adds a branch at the end. Returns `Err` only if memory runs out; then the list stays as it is, and the branch is dropped.
     pub fn push(&mut self, item: Branch) -> Result<(), AllocError>
         ensures { self.new ≡ (if is_ok result then self.old ++ twig item ∷ [] else self.old) }
     {

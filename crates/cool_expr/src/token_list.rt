@@ -43,7 +43,7 @@ impl TokenList {
         tokens
     }
 
-    /// One more token of this kind. `Err` comes only for want of memory.
+    /// One more token of this kind. Returns `Err` only if memory runs out.
     pub(crate) fn push(&mut self, kind: TokenKind, at: Place) -> Result<(), AllocError>
         ensures { OnOk result (self.new ≡ self.old ++ record { kind = kind; at = at } ∷ []) }
     {

@@ -16,7 +16,7 @@ use cool_syntax::{
 };
 use std::alloc::AllocError;
 
-/// Writes the expression of this number. `Err` comes only for want of memory.
+/// Writes the expression of this number. Returns `Err` only if memory runs out.
 ///
 /// It calls itself once for each level of the tree, so it takes stack in proportion to the depth.
 #[cycle(written)]

@@ -13,10 +13,10 @@ use cool_syntax::{
 };
 use std::alloc::{AllocError, Global};
 
-/// Tokens that the grammar reads to the same tree (Cool manual, section 11). `Err` comes only for want of memory.
+/// Tokens that the grammar reads to the same tree (Cool manual, section 11). Returns `Err` only if memory runs out.
 ///
-/// Every operand that is no atom stands in parentheses, and each token has the place of the tree, the feature or the class
-/// that it belongs to. No block and no case may be empty. The call takes stack in proportion to the depth of the trees.
+/// Every operand that is no atom stands in parentheses, and each token has the place of the tree, the feature or the class that it belongs to. No block and
+/// no case may be empty. The call takes stack in proportion to the depth of the trees.
 pub fn tokens_of(alloc: Global, tree: &FileTree) -> Result<Vec<Token>, AllocError>
     requires writable { AreClassesWritable tree.now.classes }
     ensures parses { IfOk result (λ tokens. Parses tokens.items tree.now.classes) }

@@ -24,7 +24,7 @@ pub no_rows : (IsRow : ClassKind → Place → Type 0) (fs : List ClassFault) �
 no_rows IsRow [] rows none = refl
 no_rows IsRow (f ∷ fs) rows none = absurd (none f.kind f.at rows.only.0)
 
--- where no row of classes holds, there is no cycle, and no fault of classes
+-- if no row of classes holds, there is no cycle, and no fault of classes
 no_cycles : (ds : List ClassDef) → ((kind : ClassKind) (at : Place) → IsClassFault ds kind at → ⊥) → AreOnCycles ds []
 no_cycles ds none = record {
   only = tt;

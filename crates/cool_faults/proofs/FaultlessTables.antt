@@ -112,7 +112,7 @@ settled ds os none depths = record {
   grounded = depths;
 }
 
--- What the walks find
+-- The hierarchy that the walks find
 
 pub hierarchy_of : (ds : List ClassDef) → Hierarchy (parents_meant (names_with_basic ds) ds) (parents_within ds)
 hierarchy_of ds = hierarchy (parents_meant (names_with_basic ds) ds) (parents_within ds)
@@ -121,7 +121,7 @@ no_cyclic : (ds : List ClassDef) (ks : List ℕ) → cycle_faults ds ks ≡ [] �
 no_cyclic ds [] e = refl
 no_cyclic ds (k ∷ ks) e = absurd (cc)
 
--- where that is empty, depths are known
+-- if that is empty, depths are known
 pub depths_of : (ds : List ClassDef) → class_phase ds (hierarchy_of ds).cyclic ≡ [] → AreDepths (parents_meant (names_with_basic ds) ds) (hierarchy_of ds).depths
 depths_of ds none =
     let h = hierarchy_of ds in

@@ -1,8 +1,8 @@
--- How many bytes files have together.
+-- The number of bytes of files together.
 use Rattle.std.proofs.Common.{◌≡◌, ℕ, ◌+◌, List, [], ◌∷◌, ◌++◌, length, arith}
 use Rattle.cool_faults.specs.Files.{total}
 
--- those of one file more are counted
+-- the bytes of one more file are counted
 pub total-push : (contents : List (List ℕ)) (bytes : List ℕ) → total (contents ++ bytes ∷ []) ≡ total contents + length bytes
 total-push [] bytes = omega arith
 total-push (x ∷ contents) bytes = omega (arith, total-push contents bytes)

@@ -9,7 +9,7 @@ use Rattle.cool_faults.specs.declared.fault.Refusal.TheVariants as refusal
 use Rattle.cool_faults.specs.declared.findings.Findings.{Findings}
 use Rattle.cool_faults.specs.Phases.{AreFound, none, good, bad, Adds, AreFaultsFound, AreFaultsOf}
 
--- what was found goes on with whatever is found in what is left
+-- the findings so far, followed by whatever is found in the rest, are the findings
 abbrev pub GoesOn : {I T : Type 0} → (ℕ → I → T → Type 0) → (ℕ → I → Fault → Type 0) → List I → ℕ → List I → Findings T → Type 0
 GoesOn {I} {T} IsGood IsBad all i left found =
     (ts : List T) (fs : List Fault) → AreFound IsGood IsBad i left ts fs → AreFound IsGood IsBad 0 all (found.results ++ ts) (found.faults ++ fs)

@@ -151,7 +151,7 @@ module _ (parents : List ClassId) (below : AllByRecursion (λ (q : ClassId). q.0
   }
   walks (suc n) most = let next : n + 1 ≡ suc n = omega arith in subst Walked next (walk n (walks n (omega arith)) (omega arith))
 
-  -- what the walks find
+  -- the hierarchy that the walks find
   pub record Hierarchy : Type 0 where
     pub cyclic : List ℕ
     pub depths : List (Option ℕ)

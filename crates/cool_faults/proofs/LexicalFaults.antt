@@ -36,7 +36,7 @@ at_place count file bytes k at less small e =
     let short : at.line ≤ MOST_SOURCE_BYTES + 1 = omega (arith, line, low) in
     (same, (inside, short))
 
--- what shows a fault stands at a place of the file
+-- a fault that shows stands at a place of the file
 shows_placed : (count file : ℕ) (bytes : List ℕ) (at : ℕ) (left : List ℕ) (r : Run) (k : LexKind) (p : Place) → file < count → length bytes ≤ MOST_SOURCE_BYTES
     → Shows file bytes at left r k p → (p.file ≡ file) × IsPlaced count p
 shows_placed count file bytes at left r k p less small (inl (offset, e, is)) = at_place count file bytes (at + offset) p less small is

@@ -97,7 +97,7 @@ rest_in_order : {X : Type 0} (standing : X → Standing) (x : X) (xs : List X) �
 rest_in_order standing x [] order = tt
 rest_in_order standing x (y ∷ ys) order = order.1
 
--- where something in a list in order stands so, its first stands no later
+-- if an item of an ordered list has this standing, the first item stands no later
 first_no_later : {X : Type 0} (standing : X → Standing) (s : Standing) (x : X) (xs : List X) → AreInOrder standing (x ∷ xs) → 0 < sum_by (stands standing s) (x ∷ xs) → IsNoLater (standing x) s
 first_no_later standing s x [] order some =
     elim (one_or_not s (standing x)) [
@@ -125,7 +125,7 @@ none_and_some {X} x xs same =
     let some : sum_by (each {X = X}) (x ∷ xs) ≡ 1 + sum_by (each {X = X}) xs = sum_by-cons each x xs in
     omega (arith, none, some)
 
--- what holds of all holds of them in another order
+-- a property of all holds of them in another order
 pub all_moved : {X : Type 0} (P : X → Type 0) (xs ys : List X) → IsPermutation xs ys → AllByRecursion P xs → AllByRecursion P ys
 all_moved P xs ys moved h = recursion_from_All P ys (All-permutation P xs ys moved (All-from_recursion P xs h))
 

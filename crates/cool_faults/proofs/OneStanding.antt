@@ -48,7 +48,7 @@ class_kind_at F7 = refl
 class_kind_at F8 = refl
 class_kind_at F9 = refl
 
--- what stands at one number in a list is one
+-- two items at one number in a list are one
 one_at : {X : Type 0} (all : List X) (m n : ℕ) (x y : X) → slice_get all m ≡ Some x → slice_get all n ≡ Some y → m ≡ n → x ≡ y
 one_at all m n x y a b e = same_Some x y (sym a ∙ ap (λ (k : ℕ). slice_get all k) e ∙ b)
 

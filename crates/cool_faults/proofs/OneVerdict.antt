@@ -51,7 +51,7 @@ one_trees file (bytes ∷ files) (t ∷ ts) (u ∷ us) a b =
     let first = one_tree file bytes t u a.0 b.0 in
     let rest = one_trees (file + 1) files ts us a.1 b.1 in λ i. first i ∷ rest i
 
--- where all files are trees, none has a fault of the lexer or the parser
+-- if all files are trees, none has a fault of the lexer or the parser
 pub no_lexical : (file : ℕ) (files : List (List ℕ)) (ts : List FileTree) (faults : List Fault) → AreTrees file files ts → LexFaults file files faults → faults ≡ []
 no_lexical file files ts faults trees (verdict.none f) = refl
 no_lexical file files [] faults trees (verdict.good f bytes rest fs tokens lexes more) = absurd trees
@@ -72,7 +72,7 @@ no_syntactic file files (t ∷ ts) faults trees (verdict.bad f bytes rest fs tok
 abbrev pub AreOfTyping : List FileTree → List Fault → Type 0
 AreOfTyping ts faults = IsPermutation (map Typing (typing_faults (classes_meant (definitions ts)))) faults
 
--- where no phase before typing finds a fault, none has any, if typing has none
+-- if no phase before typing finds a fault, none has any, if typing has none
 pub nothing_but_typing : (files : List (List ℕ)) (faults : List Fault) (ts : List FileTree) → AreTrees 0 files ts → HasClassPhase (definitions ts) []
     → feature_phase (definitions ts) ≡ [] → ((us : List FileTree) → AreTrees 0 files us → AreOfTyping us faults → faults ≡ [])
     → IsPhase files faults → faults ≡ []
@@ -88,7 +88,7 @@ nothing_but_typing files faults ts are classes features typing (of_features us t
     none_moved faults (subst (λ (xs : List ClassFault). IsPermutation (map OfClasses xs) faults) none moved)
 nothing_but_typing files faults ts are classes features typing (of_typing us trees phase other moved) = typing us trees moved
 
--- where no phase finds a fault, no phase has any
+-- if no phase finds a fault, no phase has any
 nothing_found : (files : List (List ℕ)) (faults : List Fault) → AreFaultless files → IsPhase files faults → faults ≡ []
 nothing_found files faults a = nothing_but_typing files faults a.trees a.are_trees a.classes a.features none
   where
@@ -236,7 +236,7 @@ one_list files xs ys (faulty fs some phase order) (faulty gs more other also) = 
     moved : IsPermutation fs gs
     moved = one_phase files fs gs some more phase other
 
-    -- where of the faults no two have one standing
+    -- if no two of the faults have one standing, the lists are equal
     apart : (Is : Fault → Type 0) → ((x y : Fault) → Is x → Is y → standing_of x ≡ standing_of y → x ≡ y) → AllByRecursion Is fs → fs ≡ gs
     apart Is one all = one_order standing_of Is one fs gs all (all_moved Is fs gs moved all) order also (λ (f : Fault → ℕ). sym (sum_by-IsPermutation f fs gs moved))
 

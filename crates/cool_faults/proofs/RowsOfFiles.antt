@@ -50,7 +50,7 @@ has_mapped (g ∷ fs) f there =
       | inr rest ↦ has_rest (OfClasses g) (OfClasses f) (map OfClasses fs) (has_mapped fs f rest)
     ]
 
--- what holds of all faults of a list holds of each of them as a fault of files
+-- a property of all faults of a list holds of each of them as a fault of files
 holds_mapped : (P : ClassFault → Type 0) (fs : List ClassFault) (f : ClassFault) → AllByRecursion P fs → Contains (map OfClasses fs) (OfClasses f) → P f
 holds_mapped P [] f all there = absurd (has_nothing (OfClasses f) there)
 holds_mapped P (g ∷ fs) f all there =
@@ -84,7 +84,7 @@ no_class_among (f ∷ fs) g there =
 fault : ClassKind → Place → ClassFault
 fault kind at = record { kind = kind; at = at }
 
--- where no definition and no feature has a fault, no row holds
+-- if no definition and no feature has a fault, no row holds
 no_class_row : (ds : List ClassDef) → HasClassPhase ds [] → NoRow ds
 unfolding fault
 no_class_row ds phase kind at row = has_nothing (fault kind at) ((phase_rows ds [] phase).all kind at row)
@@ -101,7 +101,7 @@ nothing_moved fs (x ∷ xs) none moved =
     let long = length_permutation [] (x ∷ xs) (subst (λ (gs : List ClassFault). IsPermutation (map OfClasses gs) (x ∷ xs)) none moved) in
     absurd (omega arith)
 
--- what a permutation has
+-- the members of a permutation
 moved_in : (fs : List ClassFault) (faults : List Fault) (f : ClassFault) → IsPermutation (map OfClasses fs) faults → Contains fs f → Contains faults (OfClasses f)
 moved_in fs faults f moved there = Contains-permutation (map OfClasses fs) faults (OfClasses f) moved (has_mapped fs f there)
 
@@ -117,7 +117,7 @@ without_rows ds faults phase none nothing = record {
   features = λ clear kind at row. absurd (no_table_row ds none kind at row);
 }
 
--- those of definitions with a fault
+-- the faults of definitions with a fault
 with_class_rows : (ds : List ClassDef) (fs : List ClassFault) (faults : List Fault) → faults ≢ [] → HasClassPhase ds fs → IsPermutation (map OfClasses fs) faults → AreOfRows ds faults
 with_class_rows ds fs faults some phase moved =
     let rows = phase_rows ds fs phase in

@@ -1,4 +1,4 @@
--- What the parser says of a slice of tokens is said of the tokens.
+-- The parser's result for a slice of tokens holds for the tokens.
 use Rattle.std.proofs.Common.{◌≡◌, ℕ, ◌≤◌, List, subst}
 use Rattle.std.specs.List.{AllByRecursion}
 use Rattle.cool_syntax.specs.declared.token.Token.{Token}

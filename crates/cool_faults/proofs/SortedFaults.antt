@@ -6,7 +6,7 @@ use Rattle.std.proofs.lemmas.List.Sorted.{IsPermutation-cons, IsPermutation-inse
 use Rattle.cool_syntax.specs.FaultOrder.{IsLessOr, IsNoLater, Standing, AreInOrder}
 use Rattle.lists.proofs.Numbers.{le_or_ge}
 
--- of two standings one is no later
+-- one of two standings is no later than the other
 less_or : (m n : ℕ) (P Q : Type 0) → P ⊎ Q → IsLessOr m n P ⊎ IsLessOr n m Q
 less_or m n P Q follows =
     elim (cases_order m n) [

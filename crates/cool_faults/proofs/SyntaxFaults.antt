@@ -1,4 +1,4 @@
--- The findings of the parser, from what the lexer found: the trees of the files, or their syntax faults in rising files.
+-- The findings of the parser, from the lexer's findings: the trees of the files, or their syntax faults in rising files.
 use Rattle.std.proofs.Common.{◌≡◌, inl, inr, ℕ, ◌+◌, ◌<◌, ◌≤◌, List, [], ◌∷◌, ◌++◌, length, refl, sym, subst, arith}
 use Rattle.std.specs.List.{AllByRecursion}
 use Rattle.cool_syntax.specs.declared.TheConstants.{MOST_SOURCE_BYTES}
@@ -30,7 +30,7 @@ pub record IsWhole (file : ℕ) (bytes : List ℕ) (tree : FileTree) : Type 0 wh
   pub weight : classes_weight tree.classes ≤ length bytes
   pub bounded : AllByRecursion IsBoundedClass tree.classes
 
--- what the parser makes of what the lexer made
+-- the parser's result for the lexer's result
 pub whole_of : (file : ℕ) (bytes : List ℕ) (l : Lexed) (t : FileTree) → IsLexed file bytes l → IsParsed file l t → IsWhole file bytes t
 whole_of file bytes l t h g =
     record {

@@ -1,4 +1,4 @@
--- What each phase says of the files: they are refused, or their table fits.
+-- The result of each phase on the files: they are refused, or their table fits.
 use Rattle.std.proofs.Common.{◌≡◌, ℕ, ◌+◌, ◌<◌, ◌≤◌, List, [], ◌∷◌, length, map, inl, inr, refl, sym, subst, arith}
 use Rattle.std.specs.List.{AllByRecursion}
 use Rattle.std.specs.Prelude.{Result, Ok, Err, MatchResult, IfOk, IfErr, OnOk}
@@ -141,7 +141,7 @@ table_accepted files ts p q small few whole of meant none t keeps e well typed =
       fits = table_of_trees_fits files ts p (length files) small all few whole of t keeps;
     })
 
--- what typing answers is the verdict
+-- the answer of typing is the verdict
 pub typing_decides : (files : List (List ℕ)) (ts : List FileTree) (p : List Class) (r : Result (List Class) Refusal) → total files ≤ MOST_SOURCE_BYTES → length files ≤ MOST_FILES
     → AllFound IsWhole 0 files ts → IsTableOf (definitions ts) p → p ≡ classes_meant (definitions ts) → HaveNoFault ts → IsTable p → KeepsLimits p → IfOk r (λ q. q ≡ p) → OnOk r (typing_faults p ≡ []) → OnOk r (IsTypedTable p)
     → IfErr r (AreTypingFaults p) → IfErr r IsTypeRefusal → ((n : ℕ) → AreWithin n p → IfErr r (ArePlaced n))

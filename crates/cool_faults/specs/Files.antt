@@ -1,4 +1,4 @@
--- Files as lists of bytes, and how many bytes they have together.
+-- Files as lists of bytes, and the number of bytes that they have together.
 use Rattle.std.specs.Prelude.{ℕ, ◌+◌, List, [], ◌∷◌, map, length}
 use Rattle.std.specs.Global.{Vec}
 

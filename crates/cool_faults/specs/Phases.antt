@@ -1,4 +1,4 @@
--- What a phase finds in its inputs, one after the other: a result of each good one, and a fault of each of the others.
+-- The findings of a phase in its inputs, one after the other: a result of each good one, and a fault of each of the others.
 use Rattle.std.specs.Prelude.{◌≡◌, ◌≢◌, ◌⊎◌, ℕ, ◌+◌, ◌<◌, ◌≤◌, List, [], ◌∷◌, ◌++◌, map, length}
 use Rattle.std.specs.List.{AllByRecursion}
 use Rattle.std.specs.List.Sorted.{IsPermutation}
@@ -35,7 +35,7 @@ Adds {T} IsGood IsBad old new =
     ((t : T) × IsGood t × (new.results ≡ old.results ++ t ∷ []) × (new.faults ≡ old.faults))
     ⊎ ((f : Fault) × IsBad f × (new.results ≡ old.results) × (new.faults ≡ old.faults ++ f ∷ []))
 
--- want of memory
+-- out of memory
 abbrev pub IsMemory : Refusal → Type 0
 IsMemory refusal.Memory = Unit {0}
 IsMemory (refusal.Faults faults) = ⊥
@@ -81,23 +81,23 @@ IsSyntactic file lexed (Syntax f) = IsUnexpected lexed.tokens.items lexed.end f.
 IsSyntactic file lexed (OfClasses f) = ⊥
 IsSyntactic file lexed (Typing f) = ⊥
 
--- faults of classes and features, or want of memory
+-- faults of classes and features, or out of memory
 abbrev pub IsClassRefusal : Refusal → Type 0
 IsClassRefusal refusal.Memory = Unit {0}
 IsClassRefusal (refusal.Faults faults) = (faults ≢ []) × AllByRecursion IsOfClasses faults × AreInOrder standing_of faults
 
--- faults of typing, or want of memory
+-- faults of typing, or out of memory
 abbrev pub IsTypeRefusal : Refusal → Type 0
 IsTypeRefusal refusal.Memory = Unit {0}
 IsTypeRefusal (refusal.Faults faults) = (faults ≢ []) × AllByRecursion IsOfTyping faults × AreInOrder standing_of faults
 
--- the faults of classes where there are any, and else those of features, of these definitions, in some order; or want of memory
+-- the faults of classes if there are any, and else those of features, of these definitions, in some order; or out of memory
 abbrev pub AreTableFaults : List ClassDef → Refusal → Type 0
 AreTableFaults ds refusal.Memory = Unit {0}
 AreTableFaults ds (refusal.Faults faults) =
     ((fs : List ClassFault) × HasClassPhase ds fs × IsPermutation (map OfClasses fs) faults) ⊎ (HasClassPhase ds [] × IsPermutation (map OfClasses (feature_phase ds)) faults)
 
--- the faults of typing of a table, in some order; or want of memory
+-- the faults of typing of a table, in some order; or out of memory
 abbrev pub AreTypingFaults : List Class → Refusal → Type 0
 AreTypingFaults p refusal.Memory = Unit {0}
 AreTypingFaults p (refusal.Faults faults) = IsPermutation (map Typing (typing_faults p)) faults
@@ -107,7 +107,7 @@ abbrev pub ArePlaced : ℕ → Refusal → Type 0
 ArePlaced files refusal.Memory = Unit {0}
 ArePlaced files (refusal.Faults faults) = AllByRecursion (λ f. IsPlaced files (place_of f)) faults
 
--- files are refused with these faults; want of memory says nothing of them
+-- files are refused with these faults; out of memory says nothing of them
 abbrev pub IsRefusedWith : List (List ℕ) → Refusal → Type 0
 IsRefusedWith files refusal.Memory = Unit {0}
 IsRefusedWith files (refusal.Faults faults) = IsRefused files faults

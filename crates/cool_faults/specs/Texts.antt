@@ -10,7 +10,7 @@ use Rattle.cool_faults.specs.declared.fault.Fault.{Fault}
 use Rattle.cool_faults.specs.declared.fault.Fault.TheVariants.{Lex, Syntax, Class, Typing}
 use Rattle.cool_faults.specs.Verdicts.{place_of}
 
--- a kind, and what it says
+-- a kind, and its message
 abbrev pub lex_words : LexKind → List ℕ
 lex_words L1 = codes "L1: unknown character"
 lex_words L2 = codes "L2: string not closed"

@@ -1,5 +1,4 @@
--- What files are before typing: their tokens, their trees and the table of their classes, or the faults of the first phase before typing
--- that finds any.
+-- Files before typing: their tokens, their trees and the table of their classes, or the faults of the first phase before typing that finds any.
 use Rattle.std.specs.Prelude.{◌≡◌, ℕ, List, []}
 use Rattle.std.specs.List.{AllByRecursion}
 use Rattle.cool_syntax.specs.declared.TheConstants.{MOST_FILES}
@@ -44,7 +43,7 @@ pub record IsRefusedEarly (files : List (List ℕ)) (faults : List Fault) : Type
   pub refused : IsRefused files faults
   pub early : AllByRecursion IsEarly faults
 
--- the same; want of memory says nothing of files
+-- the same; out of memory says nothing of files
 abbrev pub IsEarlyRefusal : List (List ℕ) → Refusal → Type 0
 IsEarlyRefusal files refusal.Memory = Unit {0}
 IsEarlyRefusal files (refusal.Faults faults) = IsRefusedEarly files faults

@@ -1,5 +1,4 @@
--- What the parts of the compiler's front say of source files: their trees, a class table and its program, or the faults of the first
--- part that finds any.
+-- The verdict of the front end on source files: their trees, a class table and its program, or the faults of the first part that finds any.
 use Rattle.std.specs.Prelude.{◌≡◌, ◌≢◌, ℕ, ◌+◌, ◌<◌, List, [], ◌∷◌, map, length}
 use Rattle.std.specs.List.{AllByRecursion}
 use Rattle.std.specs.List.Sorted.{IsPermutation}
@@ -130,8 +129,8 @@ pub record IsRefused (files : List (List ℕ)) (faults : List Fault) : Type 0 wh
   pub some : faults ≢ []
   pub places : 0 < length files → AllByRecursion (λ f. IsPlaced (length files) (place_of f)) faults
 
--- Files are accepted as a program where they are trees, none of whose classes and features breaks a rule, and it is the table of these, is
--- typed and keeps the limits. Then, and then alone, the fault list is empty (`specs/Laws.antt`).
+-- Files are accepted as a program if they are trees, none of whose classes and features breaks a rule, and it is the table of these, is typed and keeps the
+-- limits. The fault list is empty exactly then (`specs/Laws.antt`).
 pub record IsAccepted (files : List (List ℕ)) (p : List Class) : Type 0 where
   pub trees : List FileTree
   pub are_trees : AreTrees 0 files trees

@@ -12,11 +12,10 @@ use crate::untyped_files::untyped;
 use cool_rules::TypedProgram;
 use std::alloc::{AllocError, Global};
 
-/// Whether files are a program, by the Cool manual and the limits of this compiler. There are at most 64, and they have at most
-/// 1,048,576 bytes together.
+/// Whether files are a program, by the Cool manual and the limits of this compiler. There are at most 64, and they have at most 1,048,576 bytes together.
 ///
-/// The faults are those of the first phase that finds any, in the order of files, bytes and kinds: of the lexer or the parser the first
-/// of each file, of classes and then of features all, of typing the first of each feature. `Err` comes only for want of memory.
+/// The faults are those of the first phase that finds any, in the order of files, bytes and kinds: the first of each file from the lexer or the parser, all
+/// of classes and then of features, the first of each feature from typing. Returns `Err` only if memory runs out.
 pub fn accept(alloc: Global, files: &[Vec<u8>]) -> Result<Verdict, AllocError>
     requires few { length files.now ≤ MOST_FILES }
     requires small { total (bytes_of files.now) ≤ MOST_SOURCE_BYTES }
@@ -29,10 +28,9 @@ pub fn accept(alloc: Global, files: &[Vec<u8>]) -> Result<Verdict, AllocError>
     }
 }
 
-/// The program that files are.
+/// The program of the files.
 ///
-/// `Err(Faults(..))` comes where they are none, and holds the faults of the first phase that finds any. `Err(Memory)` comes only for
-/// want of memory.
+/// `Err(Faults(..))` comes if they are no program, and holds the faults of the first phase that finds any. `Err(Memory)` comes only if memory runs out.
 fn program(alloc: Global, files: &[Vec<u8>]) -> Result<TypedProgram, Refusal>
     requires few { length files.now ≤ MOST_FILES }
     requires small { total (bytes_of files.now) ≤ MOST_SOURCE_BYTES }

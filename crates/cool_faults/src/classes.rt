@@ -16,8 +16,7 @@ use std::alloc::{AllocError, Global};
 
 /// The class table of the trees.
 ///
-/// `Err(Faults(..))` comes where their classes or features have faults, and holds them in order. `Err(Memory)` comes only for want of
-/// memory.
+/// `Err(Faults(..))` comes if their classes or features have faults, and holds them in order. `Err(Memory)` comes only if memory runs out.
 pub(crate) fn class_table(alloc: Global, trees: Vec<FileTree>) -> Result<ClassTable, Refusal>
     requires few { AreFew (definitions trees.items) }
     ensures of { IfOk result (IsTableOf (definitions trees.items)) }
@@ -39,7 +38,7 @@ pub(crate) fn class_table(alloc: Global, trees: Vec<FileTree>) -> Result<ClassTa
     }
 }
 
-/// The faults as faults of files. `Err` comes only for want of memory.
+/// The faults as faults of files. Returns `Err` only if memory runs out.
 fn of_classes(alloc: Global, faults: &[ClassFault]) -> Result<Vec<Fault>, AllocError>
     ensures { IfOk result (λ all. all.items ≡ map phase.Class faults.now) }
 {

@@ -39,7 +39,7 @@ impl Fault {
     }
 }
 
-/// What is said of files.
+/// The verdict on files.
 #[derive(Drop)]
 pub enum Verdict {
     /// They are this program.
@@ -48,7 +48,7 @@ pub enum Verdict {
     Refused(Listed<Fault>),
 }
 
-/// What files are before typing.
+/// Files before typing, without a fault.
 #[derive(Drop)]
 pub struct Untyped {
     /// The tokens of each file.
@@ -57,7 +57,7 @@ pub struct Untyped {
     pub classes: ClassTable,
 }
 
-/// What is said of files before typing.
+/// The verdict on files before typing.
 #[derive(Drop)]
 pub enum ClassVerdict {
     /// They have these tokens and this table.
@@ -66,7 +66,7 @@ pub enum ClassVerdict {
     Refused(Listed<Fault>),
 }
 
-/// Why files are no program.
+/// The reason why files are no program.
 #[derive(Drop)]
 pub enum Refusal {
     /// Want of memory.

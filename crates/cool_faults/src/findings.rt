@@ -1,4 +1,4 @@
-//! What a phase finds in its inputs, one after the other.
+//! The findings of a phase in its inputs, one after the other.
 
 ghost use Rattle.std.specs.Prelude.{◌≡◌, [], MatchResult};
 ghost use Rattle.cool_faults.specs.Phases.{AreFaultsOf};
@@ -7,7 +7,7 @@ use crate::fault::{Fault, Refusal};
 use cool_syntax::Listed;
 use std::alloc::Global;
 
-/// What a phase has found so far: what it makes of the good inputs, and a fault of each of the others.
+/// The findings of a phase so far: its results for the good inputs, and a fault of each of the others.
 #[derive(Drop)]
 pub(crate) struct Findings<T> {
     pub(crate) results: Listed<T>,

@@ -12,8 +12,8 @@ use std::alloc::Global;
 
 /// The tokens of each file (the Cool manual, section 10). There are at most 64 files, and they have at most 1,048,576 bytes together.
 ///
-/// `Err(Faults(..))` comes where a file has a lexical fault: it holds the first one of each such file, in the order of files.
-/// `Err(Memory)` comes only for want of memory.
+/// `Err(Faults(..))` comes if a file has a lexical fault: it holds the first one of each such file, in the order of files. `Err(Memory)` comes only if
+/// memory runs out.
 pub fn lex_files(alloc: Global, files: &[Vec<u8>]) -> Result<Vec<Lexed>, Refusal>
     requires few { length files.now ≤ MOST_FILES }
     requires small { total (bytes_of files.now) ≤ MOST_SOURCE_BYTES }
@@ -26,7 +26,7 @@ pub fn lex_files(alloc: Global, files: &[Vec<u8>]) -> Result<Vec<Lexed>, Refusal
     found.outcome()
 }
 
-/// Adds the tokens of the file of this number, or its first fault. `Err` comes only for want of memory.
+/// Adds the tokens of the file of this number, or its first fault. Returns `Err` only if memory runs out.
 fn lex_file(
     alloc: Global,
     file: u32,

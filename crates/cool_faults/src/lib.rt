@@ -1,7 +1,7 @@
-//! Whether source files are a program, and if not, which faults stand where.
+//! The front end's verdict: whether source files are a program, and if not, which faults they have at which places.
 //!
-//! Comes in: the bytes of source files. Goes out: the program, or the faults of the first phase that finds any, and their lines.
-//! `specs/Verdicts.antt` and `specs/Texts.antt` define what they are, and `specs/Phases.antt` what each phase finds.
+//! Input: the bytes of source files. Output: the program, or the faults of the first phase that finds any, and their lines. `specs/Verdicts.antt` and
+//! `specs/Texts.antt` define them, and `specs/Phases.antt` the findings of each phase.
 #![tactic(auto)]
 
 mod acceptance;

@@ -14,8 +14,8 @@ use std::alloc::Global;
 
 /// The tree of each file, by its tokens.
 ///
-/// `Err(Faults(..))` comes where the tokens of a file are no tree: it holds the fault of each such file, in the order of files.
-/// `Err(Memory)` comes only for want of memory.
+/// `Err(Faults(..))` comes if the tokens of a file are no tree: it holds the fault of each such file, in the order of files. `Err(Memory)` comes only if
+/// memory runs out.
 pub(crate) fn parse_files(alloc: Global, files: &[Lexed]) -> Result<Vec<FileTree>, Refusal>
     requires few { length files.now ≤ MOST_FILES }
     requires small { AllByRecursion (λ file. length file.tokens.items ≤ MOST_SOURCE_BYTES) files.now }
@@ -28,7 +28,7 @@ pub(crate) fn parse_files(alloc: Global, files: &[Lexed]) -> Result<Vec<FileTree
     found.outcome()
 }
 
-/// Adds the tree of the file of this number, or its fault. `Err` comes only for want of memory.
+/// Adds the tree of the file of this number, or its fault. Returns `Err` only if memory runs out.
 fn parse_file(
     alloc: Global,
     file: u32,

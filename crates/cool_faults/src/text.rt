@@ -10,8 +10,8 @@ use cool_classes::ClassKind;
 use cool_lexer::LexKind;
 use std::alloc::{AllocError, Global};
 
-/// The line of a fault with its newline: `NAME:LINE: KIND: WORDS`. The names are those of the files, in the order of their numbers. `Err`
-/// comes only for want of memory.
+/// The line of a fault with its newline: `NAME:LINE: KIND: WORDS`. The names are those of the files, in the order of their numbers. Returns `Err` only if
+/// memory runs out.
 pub fn fault_text(alloc: Global, names: &[String], fault: &Fault) -> Result<Vec<u8>, AllocError>
     requires named { (place_of fault.now).file < length names.now }
     ensures line { IfOk result (λ line. line.items ≡ fault_line (map string_bytes names.now) fault.now) }
@@ -22,7 +22,7 @@ pub fn fault_text(alloc: Global, names: &[String], fault: &Fault) -> Result<Vec<
     Ok(format!(in alloc; "{name}:{line}: {words}\n")?.into_bytes())
 }
 
-/// The kind of a fault, and what it says.
+/// The kind of a fault, and its message.
 pub fn fault_words(fault: &Fault) -> &'static str
     ensures { result.now ≡ fault_words fault.now }
 {

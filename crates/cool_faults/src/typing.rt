@@ -18,8 +18,8 @@ use std::alloc::{AllocError, Global};
 
 /// The program of a table.
 ///
-/// `Err(Faults(..))` comes where a feature is not well typed, and holds the first fault of each such feature, in order. `Err(Memory)`
-/// comes only for want of memory.
+/// `Err(Faults(..))` comes if a feature is not well typed, and holds the first fault of each such feature, in order. `Err(Memory)` comes only if memory
+/// runs out.
 pub(crate) fn typed_program(alloc: Global, classes: ClassTable) -> Result<TypedProgram, Refusal>
     requires fits { Fits classes MOST_FILES }
     ensures program { IfOk result (λ p. p ≡ classes) }
@@ -39,7 +39,7 @@ pub(crate) fn typed_program(alloc: Global, classes: ClassTable) -> Result<TypedP
     }
 }
 
-/// Typing faults as faults of files. `Err` comes only for want of memory.
+/// Typing faults as faults of files. Returns `Err` only if memory runs out.
 pub fn of_typing(alloc: Global, faults: &[TypeFault]) -> Result<Vec<Fault>, AllocError>
     ensures { IfOk result (λ all. all.items ≡ map phase.Typing faults.now) }
 {

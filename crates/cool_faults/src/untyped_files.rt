@@ -1,4 +1,4 @@
-//! What files are before typing.
+//! Files before typing: their tokens and the table of their classes, or the faults of the first phase that finds any.
 
 ghost use Rattle.std.specs.Prelude.{◌≤◌, IfOk, MatchResult, length};
 ghost use Rattle.cool_syntax.specs.declared.TheConstants.{MOST_FILES, MOST_SOURCE_BYTES};
@@ -11,11 +11,9 @@ use crate::lexing::lex_files;
 use crate::parsing::parse_files;
 use std::alloc::{AllocError, Global};
 
-/// What files are before typing: their tokens and the table of their classes. There are at most 64, and they have at most 1,048,576
-/// bytes together.
+/// The tokens of files and the table of their classes. There are at most 64, and they have at most 1,048,576 bytes together.
 ///
-/// They are refused exactly where a phase before typing finds a fault, with the faults of the first that does. `Err` comes only for want
-/// of memory.
+/// They are refused exactly if a phase before typing finds a fault, with the faults of the first that does. Returns `Err` only if memory runs out.
 pub fn class_phase(alloc: Global, files: &[Vec<u8>]) -> Result<ClassVerdict, AllocError>
     requires few { length files.now ≤ MOST_FILES }
     requires small { total (bytes_of files.now) ≤ MOST_SOURCE_BYTES }
@@ -30,8 +28,8 @@ pub fn class_phase(alloc: Global, files: &[Vec<u8>]) -> Result<ClassVerdict, All
 
 /// The tokens of files and the table of their classes.
 ///
-/// `Err(Faults(..))` comes where a phase before typing finds a fault, and holds the faults of the first that does. `Err(Memory)` comes
-/// only for want of memory.
+/// `Err(Faults(..))` comes if a phase before typing finds a fault, and holds the faults of the first that does. `Err(Memory)` comes only if memory runs
+/// out.
 pub(crate) fn untyped(alloc: Global, files: &[Vec<u8>]) -> Result<Untyped, Refusal>
     requires few { length files.now ≤ MOST_FILES }
     requires small { total (bytes_of files.now) ≤ MOST_SOURCE_BYTES }

@@ -1,4 +1,4 @@
--- What is found of the expressions of a table from one position on: those there, and those that come after it.
+-- The expressions of a table from one position on: those there, and those that come after it.
 use Rattle.std.proofs.Common.{◌≡◌, ℕ, zero, suc, ◌+◌, ◌≤◌, ◌<◌, List, [], ◌∷◌, ◌++◌, length, drop, Option, Some, ap, sym, ◌∙◌, refl, subst, append_assoc, arith}
 use Rattle.std.specs.Prelude.{slice_get, option_map, unwrap_or}
 use Rattle.std.proofs.Math.ListN.{drop_of_length-le}
@@ -36,7 +36,7 @@ classes_later ds before k within =
     append_assoc before here (expressions_from (k + 1) (drop (k + 1) ds))
     ∙ sym (ap (λ (es : List Expression). before ++ es) first)
 
--- where nothing is left
+-- if nothing is left, the expressions found are all
 pub nothing_after : {A : Type 0} (found left all : List A) → found ++ left ≡ all → left ≡ [] → found ≡ all
 nothing_after found left all is none = sym (append-nil found) ∙ (sym (ap (λ xs. found ++ xs) none) ∙ is)
 

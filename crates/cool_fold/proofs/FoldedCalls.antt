@@ -195,7 +195,7 @@ module _ (p p' : List Class) (typed : IsTypedTable p) (same_tables : SameTables 
 
     -- Cases
 
-    -- what branches of a class do with a value that fits it
+    -- the claim for branches of a class with a value that fits it
     abbrev pub KeptBranch : World → ClassId → Option Branch → Option Branch → Type 0
     KeptBranch w d None None = Unit {0}
     KeptBranch w d None (Some f) = ⊥

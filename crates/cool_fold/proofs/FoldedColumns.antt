@@ -99,7 +99,7 @@ module _ (p p' : List Class) (s : FindSame p p') (c : ClassId) where
 
 -- Columns so far, and those that are left
 
--- from an item on there are it and what comes after it
+-- the items from one on are it and those after it
 left_first : {A B : Type 0} (f : A → B) (xs : List A) (k : ℕ) (x : A) → slice_get xs k ≡ Some x
     → map f (drop k xs) ≡ f x ∷ map f (drop (k + 1) xs)
 left_first f xs k x there = ap (map f) (drop_one xs k x (slice_get_within xs k x there) (sym (get_or_from_slice_get xs k x x there)))

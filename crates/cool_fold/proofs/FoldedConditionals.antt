@@ -21,7 +21,7 @@ use Rattle.cool_fold.specs.Shrinking.{shrunk, taken}
 use Rattle.cool_fold.specs.FoldedNodes.{Folds, HasTypes}
 use Rattle.lists.proofs.ItemsAt.{there_is}
 
--- what is taken is one of the parts
+-- the part taken is one of the parts
 pub taken_is : (o : Option Truth) (v w whole : Ty) (yes_id no_id part : NodeId) → taken o v w whole yes_id no_id ≡ Some part
     → (part ≡ yes_id) ⊎ (part ≡ no_id)
 taken_is None v w whole yes_id no_id part e = absurd cc
@@ -46,7 +46,7 @@ part_within b at e yes_id no_id k n (inr is) first second =
     subst (λ (i : NodeId). (i.0 < n) × (tree_size (tree_at b i) + tree_size e ≤ tree_size (trees.If at e (tree_at b yes_id) (tree_at b no_id)))) (sym is)
     (second, omega arith)
 
--- where the types at the numbers say what is taken
+-- the part taken is the one that the types at the numbers decide
 pub taken_part_is : (types : List Ty) (o : Option Truth) (whole yes_id no_id part : NodeId) → whole.0 < length types → yes_id.0 < length types
     → no_id.0 < length types
     → ((v w u : Ty) → slice_get types yes_id.0 ≡ Some v → slice_get types no_id.0 ≡ Some w → slice_get types whole.0 ≡ Some u
@@ -68,7 +68,7 @@ cut_short mid start = omega (arith, length-take start mid)
 pub cut_shorter : {A : Type 0} (mid : List A) (start : ℕ) → length (take start mid) ≤ length mid
 cut_shorter mid start = omega (arith, length-take start mid)
 
--- what is taken stands where the parts do
+-- the part taken stands where the parts do
 pub taken_stands : (b : TypedBody) (scope : List Binding) (yes_id no_id k : NodeId) → (k ≡ yes_id) ⊎ (k ≡ no_id) → IsPart b scope yes_id
     → IsPart b scope no_id → IsPart b scope k
 taken_stands b scope yes_id no_id k (inl is) first second = subst (IsPart b scope) (sym is) first

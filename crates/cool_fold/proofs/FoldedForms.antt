@@ -1,4 +1,4 @@
--- What is answered of an operator or an assignment whose parts were folded, and placed one after the other.
+-- The results for an operator or an assignment whose parts were folded, and placed one after the other.
 use Rattle.std.proofs.Common.{◌≡◌, ℕ, ℤ, ◌+◌, List, [], ◌∷◌, ◌++◌, length, Option, Some, None, Bool as Truth, true, false, Ok, refl, sym, ap, ◌∙◌, subst, append_assoc}
 use Rattle.std.specs.Prelude.{Result, IfOk, OnOk, neg_ℤ, ◌+ℤ◌, ◌-ℤ◌, ◌*ℤ◌, int_div, not, if◌then◌else◌}
 use Rattle.std.specs.Option.{option_map}

@@ -1,4 +1,4 @@
--- What is answered where a node was placed after its parts, or a constant in place of them, is what the tree is folded to.
+-- If a node was placed after its parts, or a constant in place of them, the result is the folded tree.
 use Rattle.std.proofs.Common.{◌≡◌, ℕ, ℤ, ◌+◌, List, [], ◌∷◌, ◌++◌, length, take, Option, Some, None, Bool as Truth, true, Ok, Err, refl, sym, ap, ◌∙◌, append_assoc, length-append, arith}
 use Rattle.std.proofs.Math.Seq.{take-append_seam}
 use Rattle.std.specs.Prelude.{Result, IfOk, OnOk}
@@ -64,7 +64,7 @@ module _ (p : List Class) (c : ClassId) (scope : List Binding) (before : List Ty
   truth_types (Some v) is = cut_types bool_type v
 
 module _ (s : FoldingSetting) (scope : List Binding) (t : Tree) (before after : Placed) where
-  -- what was placed is what the tree is folded to
+  -- the nodes placed are those of the folded tree
   answered : {E : Type 0} (f : Found) → value_of f.constant ≡ constant_in (shrunk s.table.now s.class scope t)
       → after.nodes.items ≡ before.nodes.items ++ nodes (length before.nodes.items) (shrunk s.table.now s.class scope t)
       → (HasTypes before → after.types.held ≡ before.types.held ++ node_types s.table.now s.class scope (shrunk s.table.now s.class scope t))

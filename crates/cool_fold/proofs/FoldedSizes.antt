@@ -64,7 +64,7 @@ both_most h k = record {
 over_most : {x x' : Size} → AtMost x x' → AtMost (over x) (over x')
 over_most h = record { nodes = (let a = h.nodes in omega arith); branches = h.branches; text = h.text }
 
--- what is no larger than a node over small parts is no larger than one over greater parts
+-- a size at most that of a node over small parts is at most that of one over greater parts
 then_most : {row x x' : Size} → AtMost x x' → AtMost row (over x) → AtMost row (over x')
 then_most h k = record {
   nodes = let a = h.nodes in let b = k.nodes in omega arith;

@@ -31,12 +31,12 @@ all_folded p c P Q [] step h = tt
 all_folded p c P Q (x ∷ fs) step (h, hs) = (step x h, all_folded p c P Q fs step hs)
 
 module _ (p : List Class) where
-  -- what holds of the features of a class, folded
+  -- a property of the features of a class, folded
   pub each_folded : (c : ClassId) (P Q : Feature → Type 0) → ((x : Feature) → P x → Q (fold_feature p c x)) → AllByRecursion P (features_of p c)
       → AllByRecursion Q (features_of (fold_table p) c)
   each_folded c P Q step h = subst (AllByRecursion Q) (sym (features_folded p c)) (all_folded p c P Q (features_of p c) step h)
 
-  -- what is known of each folded feature holds of each feature of the folded table
+  -- a property of each folded feature holds of each feature of the folded table
   of_folded : (c : ClassId) (k : ℕ) (P : Feature → Type 0) → ((y : Feature) → slice_get (features_of p c) k ≡ Some y → P (fold_feature p c y))
       → (x : Feature) → slice_get (features_of (fold_table p) c) k ≡ Some x → P x
   of_folded c k P known x there = by (slice_get (features_of p c) k) refl (sym (feature_at p c k) ∙ there)

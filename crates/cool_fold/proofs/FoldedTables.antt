@@ -15,7 +15,7 @@ use Rattle.cool_fold.proofs.FoldedCalls.{SameTables}
 use Rattle.cool_classes.proofs.AlikeTablesKept.{implementation_same, attributes_same}
 use Rattle.cool_fold.proofs.SameShapes.{chain_same, classes_same}
 
--- Folding changes bodies and initial values alone
+-- Folding changes only bodies and initial values
 
 features_alike : (p : List Class) (c : ClassId) (fs : List Feature) → AllDeclareSame fs (map (fold_feature p c) fs)
 features_alike p c [] = tt
@@ -32,7 +32,7 @@ folded_alike p = classes_alike p 0 p
 pub folded_shape : (p : List Class) → FindSame p (fold_table p)
 folded_shape p = find_same p (fold_table p) (folded_alike p)
 
--- what evaluation looks up in tables of one shape
+-- evaluation looks up the same in tables of one shape
 pub tables_same : (p : List Class) → SameTables p (fold_table p)
 tables_same p =
     let s = folded_shape p in
@@ -46,7 +46,7 @@ tables_same p =
       classes = classes_same p (fold_table p) s;
     }
 
--- Where each folded feature stands
+-- The position of each folded feature
 
 -- a class with its features folded
 abbrev folded_class : List Class → ClassId → Class → Class

@@ -1,4 +1,4 @@
--- What is answered of loops, blocks, dispatches, `let`, `case` and conditionals that stay, whose parts were folded and placed one after the other.
+-- The results for loops, blocks, dispatches, `let`, `case` and conditionals that stay, whose parts were folded and placed one after the other.
 use Rattle.std.proofs.Common.{◌≡◌, ℕ, ◌+◌, List, [], ◌∷◌, ◌++◌, length, Option, Some, None, Bool as Truth, true, false, Ok, refl, sym, ap, ◌∙◌, append_assoc, length-append}
 use Rattle.std.specs.Prelude.{Result, IfOk, OnOk, if◌then◌else◌, unwrap_or}
 use Rattle.std.specs.Global.{Vec}

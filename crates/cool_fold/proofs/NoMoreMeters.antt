@@ -1,4 +1,4 @@
--- Computations that come to the same as others, with no meter greater, wherever the store fits its world.
+-- Computations with the results of others, and no meter greater, if the store fits its world.
 use Rattle.std.proofs.Common.{◌≡◌, ℕ, zero, suc, ◌<◌, ◌≤◌, Bool as Truth, true, false, List, refl, sym, ◌∙◌, subst, arith}
 use Rattle.std.specs.Prelude.{if◌then◌else◌}
 use Rattle.cool_classes.specs.Chains.{Class}
@@ -23,11 +23,11 @@ no_more_then a b c h k =
     let w1 = h.work in let w2 = k.work in let g1 = h.words in let g2 = k.words in let p1 = h.peak in let p2 = k.peak in
     record { outcome = k.outcome ∙ h.outcome; work = omega arith; words = omega arith; peak = omega arith }
 
--- from every state with at most b steps whose store fits
+-- the claim from every state with at most b steps whose store fits
 pub record Keeps {A : Type 0} (p : List Class) (b : ℕ) (w : World) (d d' : Computation A) : Type 0 where
   pub keeps : (s : State) (n : ℕ) → n ≤ b → AllFit p w s.store w → NoMore (d s n) (d' s n)
 
--- from every state
+-- the claim from every state
 pub record Always {A : Type 0} (d d' : Computation A) : Type 0 where
   pub always : (s : State) (n : ℕ) → NoMore (d s n) (d' s n)
 

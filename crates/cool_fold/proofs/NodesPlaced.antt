@@ -1,4 +1,4 @@
--- What nodes placed after others are, by the tree that they make.
+-- The nodes placed after others, by the tree that they make.
 use Rattle.std.proofs.Common.{◌≡◌, ℕ, ◌+◌, ◌-◌, ℤ, List, [], ◌∷◌, ◌++◌, Option, Some, None, Bool as Truth, length, sym, ap, ◌∙◌, append_assoc, length-append, arith}
 use Rattle.std.proofs.Math.Seq.{take-append_seam}
 use Rattle.cool_syntax.specs.declared.node.Node.{Node}

@@ -205,12 +205,12 @@ pub all_becomes : (p : List Class) (es : List Expression) → es ≡ expressions
 all_becomes p es is =
     subst (λ (xs : List Expression). Becomes p xs (fold_table p)) (sym is) (record { places = all_placed p; becomes = all_replaced p })
 
--- where no expression is left
+-- if no expression is left to replace, the tables are equal
 pub nothing_left : (p : List Class) (es : List Expression) (q : List Class) → length es ≡ 0 → Becomes p es q → p ≡ q
 nothing_left p [] q none h = h.becomes
 nothing_left p (e ∷ es) q none h = absurd (omega arith)
 
--- what holds of all holds of the front and of the last
+-- a property of all holds of the front and of the last
 split_last : (P : Expression → Type 0) (es : List Expression) (e : Expression) → AllByRecursion P (es ++ e ∷ []) → AllByRecursion P es × P e
 split_last P [] e (h, hs) = (tt, h)
 split_last P (x ∷ es) e (h, hs) = let (front, last) = split_last P es e hs in ((h, front), last)

@@ -15,7 +15,7 @@ use Rattle.cool_fold.specs.declared.folding_setting.FoldingSetting.{FoldingSetti
 use Rattle.cool_fold.specs.FoldedNodes.{Folds, FoldsMaybe, HasTypes}
 use Rattle.cool_fold.specs.Shrinking.{shrunk, shrunk_maybe}
 
--- those of one list and then those of another
+-- the types of one list and then those of another
 pub types_later : (before first second xs ys : List Ty) → first ≡ before ++ xs → second ≡ first ++ ys → second ≡ before ++ (xs ++ ys)
 types_later before first second xs ys e f = f ∙ ap (λ (types : List Ty). types ++ ys) e ∙ append_assoc before xs ys
 

@@ -1,4 +1,4 @@
--- Which classes define a method of a name themselves, by a table of names.
+-- The classes that define a method of a name themselves, by a table of names.
 use Rattle.std.specs.Prelude.{◌≡◌, ℕ, ◌&&◌, ◌||◌, Bool as Truth, List, [], length, Option, Some, None, is_some, bytes_eq}
 use Rattle.std.specs.List.{list_any}
 use Rattle.std.specs.Borrow.{Bor}

@@ -1,4 +1,4 @@
--- Worked examples of folding: what each row computes, and what is left as it is.
+-- Worked examples of folding: the result of each row, and expressions that are left as they are.
 use Rattle.std.specs.Prelude.{◌≡◌, refl, ℕ, true, false, List, [], ◌∷◌, ◌++◌, Some, codes}
 use Rattle.cool_syntax.specs.declared.type_ref.TypeRef.{TypeRef}
 use Rattle.cool_syntax.specs.declared.file_tree.Feature.{Feature}
@@ -113,7 +113,7 @@ no_void = refl
 maybe_void : folded (IsVoid nowhere s) ≡ IsVoid nowhere s
 maybe_void = refl
 
--- Tests: the part that is taken stands for the whole where it has its type. A Square is no Shape for what finds methods by the type.
+-- Tests: the part that is taken stands for the whole if it has its type. A Square is no Shape for code that finds methods by the type.
 
 taken : folded (If nowhere (compared Less (Int nowhere 1) (Int nowhere 2)) (computed Add 3 4) (Int nowhere 0)) ≡ Int nowhere 7
 unfolding chain above climbed is_among first_among join_in type_of_name type_meant

@@ -12,12 +12,12 @@ abbrev pub expression_at : ClassId → ℕ → Option Tree → List Expression
 expression_at c k None = []
 expression_at c k (Some t) = record { class = c; feature = k; body = t } ∷ []
 
--- those of features of a class, from this number on
+-- the expressions of features of a class, from this number on
 abbrev pub expressions_of : ClassId → ℕ → List Feature → List Expression
 expressions_of c k [] = []
 expressions_of c k (x ∷ xs) = expression_at c k (expression_of x) ++ expressions_of c (k + 1) xs
 
--- those of classes, from this number on
+-- the expressions of classes, from this number on
 abbrev pub expressions_from : ℕ → List Class → List Expression
 expressions_from n [] = []
 expressions_from n (d ∷ ds) = expressions_of (class_number n) 0 d.features ++ expressions_from (n + 1) ds

@@ -1,4 +1,4 @@
--- What the code of folding answers and adds to the nodes that it places.
+-- The results of the code of folding, and the nodes that it adds to those placed.
 use Rattle.std.specs.Prelude.{◌≡◌, ℕ, ℤ, Bool as Truth, List, [], ◌∷◌, ◌++◌, length, take, Option, Some, None, Result, IfOk, OnOk}
 use Rattle.std.specs.Global.{Vec}
 use Rattle.cool_syntax.specs.declared.node.Node.{Node}

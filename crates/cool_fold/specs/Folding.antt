@@ -1,5 +1,5 @@
--- Folding: what becomes of each form of expression, bottom up. A constant is a number, a string or a truth of the source. What has no value
--- by the rules of running is left, with its place. `Examples.antt` has an example of each row.
+-- Folding: the result for each form of expression, bottom up. A constant is a number, a string or a truth of the source. An expression that has no value by
+-- the rules of running is left, with its place. `Examples.antt` has an example of each row.
 use Rattle.std.specs.Prelude.{ℕ, zero, suc, ◌+◌, ℤ, ◌+ℤ◌, ◌-ℤ◌, ◌*ℤ◌, neg_ℤ, int_div, int_lt, int_le, Bool as Truth, true, false, not, ◌&&◌, if◌then◌else◌, List, [], ◌∷◌, ◌++◌, map, length, Option, Some, None, is_some}
 use Rattle.std.specs.List.{list_any}
 use Rattle.cool_syntax.specs.declared.place.Place.{Place}
@@ -61,7 +61,7 @@ result Sub m n = exactly (m -ℤ n)
 result Mul m n = exactly (m *ℤ n)
 result Div m n = if is_zero n then None else exactly (int_div m n)
 
--- Rows: what a form becomes, by the constants that its parts are
+-- Rows: the result for a form, by the constants that its parts are
 
 -- a number in place of a tree, where there is one
 abbrev pub number_or : Tree → Place → Option ℤ → Tree

@@ -1,5 +1,5 @@
--- In what an expression is folded: a class of a whole table, where the column of the body has a type of the table for each node; and the
--- trees that numbers of the body stand for.
+-- The settings in which an expression is folded: a class of a whole table, where the column of the body has a type of the table for each node; and the
+-- trees at numbers of the body.
 use Rattle.std.specs.Prelude.{◌≡◌, ◌<◌, List, length, slice_get, Some}
 use Rattle.std.specs.List.{AllByRecursion}
 use Rattle.cool_syntax.specs.declared.node.Node.{Node}
@@ -25,7 +25,7 @@ pub record IsSound (s : FoldingSetting) : Type 0 where
 abbrev pub typed_body : FoldingSetting → TypedBody
 typed_body s = record { table = s.table.now; class = s.class; body = s.body.now; types = s.types.now }
 
--- A node stands at this number, with these names in scope: its parts stand at their numbers, and the type there is that of what it makes.
+-- A node stands at this number, with these names in scope: its parts stand at their numbers, and the type there is that of the expression that it makes.
 pub record IsStanding (s : FoldingSetting) (scope : List Binding) (id : NodeId) (n : Node) : Type 0 where
   pub types : AreTypes s.table.now scope
   pub parts : HasParts (typed_body s) scope n

@@ -1,4 +1,4 @@
--- What a law on folding claims: a run against that of the folded program.
+-- The statement of the laws on folding: a run against that of the folded program.
 use Rattle.std.specs.Prelude.{◌≡◌, ◌≤◌}
 use Rattle.cool_meaning.specs.SourceRun.{Run}
 

@@ -1,5 +1,5 @@
--- What comes of placing the node of a form after the nodes of its parts: where the parts were folded with some names in scope, one after
--- the other, and the type is that of the form, the form is folded with these names in scope. Of nodes of other forms nothing is said.
+-- Placing the node of a form after the nodes of its parts: if the parts were folded with some names in scope, one after the other, and the type is that of
+-- the form, the form is folded with these names in scope. Nothing is said of nodes of other forms.
 use Rattle.std.specs.Prelude.{◌≡◌, ℕ, List, length, Option, None, Ok, Result}
 use Rattle.std.specs.Global.{Vec}
 use Rattle.std.specs.declared.alloc.AllocError.{AllocError}
@@ -37,7 +37,7 @@ IsMaybeFolded s scope o before after id = FoldsMaybe {E = AllocError} s scope o 
 abbrev pub AreCasesFolded : FoldingSetting → List Binding → Cases → Placed → Placed → Vec NodeBranch → Type 0
 AreCasesFolded s scope cs before after branches = FoldsCases {E = AllocError} s scope cs before after (Ok branches)
 
--- the type is that of what the node makes, with these names in scope
+-- the type is that of the expression that the node makes, with these names in scope
 pub record IsTypeOf (s : FoldingSetting) (scope : List Binding) (n : Node) (found : Ty) : Type 0 where
   pub types : AreTypes s.table.now scope
   pub type : found ≡ type_of s.table.now s.class scope (tree_of_node s.body.now n)

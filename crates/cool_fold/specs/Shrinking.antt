@@ -1,5 +1,5 @@
--- Folding as the code does it: a decided conditional is judged by the types that its parts have before they are folded. Where an expression
--- is typed, `shrunk` is `fold`, since a folded part keeps its type.
+-- Folding as the code does it: a decided conditional is judged by the types that its parts have before they are folded. If an expression is typed, `shrunk`
+-- is `fold`, since a folded part keeps its type.
 use Rattle.std.specs.Prelude.{ℤ, neg_ℤ, int_lt, int_le, Bool as Truth, true, false, not, if◌then◌else◌, List, Option, Some, None, unwrap_or}
 use Rattle.std.specs.Option.{option_map}
 use Rattle.cool_syntax.specs.declared.place.Place.{Place}
@@ -20,7 +20,7 @@ use Rattle.cool_meaning.specs.Evaluation.{same, is_void}
 use Rattle.cool_rules.specs.StaticTypes.{type_of}
 use Rattle.cool_fold.specs.Folding.{constant_in, number_in, truth_in, one_sort, exactly, result, number_or, dispatch_by}
 
--- What operators make of constants
+-- The results of operators on constants
 
 abbrev pub computed : ArithOp → Option ℤ → Option ℤ → Option ℤ
 computed op None n = None
@@ -51,7 +51,7 @@ abbrev pub truth_or : Tree → Place → Option Truth → Tree
 truth_or t at None = t
 truth_or t at (Some b) = trees.Bool at b
 
--- of two parts the one that a truth takes, where it has the type of the whole
+-- the one of two parts that a truth takes, if it has the type of the whole
 abbrev pub taken : {A : Type 0} → Option Truth → Ty → Ty → Ty → A → A → Option A
 taken None y n whole a b = None
 taken (Some true) y n whole a b = if same_type y whole then Some a else None

@@ -1,4 +1,4 @@
-//! Constants, and what operators make of them.
+//! Constants, and the results of operators on them.
 
 ghost use Rattle.std.specs.Prelude.{◌≡◌, not};
 ghost use Rattle.std.specs.Option.{option_map};

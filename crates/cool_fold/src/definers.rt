@@ -13,15 +13,15 @@ use std::alloc::{AllocError, Global};
 /// Names of methods, each with the classes that define it.
 type ByName<'a> = IndexMap<&'a [u8], Vec<ClassId>>;
 
-/// For each name the classes of a program that have a method of the name of their own, in the order of classes.
+/// The classes of a program that have a method of their own, for each name of a method, in the order of classes.
 #[derive(Drop)]
 pub struct Definers<'a> {
     by_name: ByName<'a>,
 }
 
 impl<'a> Definers<'a> {
-    /// The classes of a table by the names of the methods that they have of their own. It goes over the features of all classes once. `Err`
-    /// comes only for want of memory.
+    /// The classes of a table by the names of the methods that they have of their own. It goes over the features of all classes once. Returns `Err` only if
+    /// memory runs out.
     pub fn new(alloc: Global, table: &'a ClassTable) -> Result<Definers<'a>, AllocError>
         ensures { IfOk result (AreDefiners table.now) }
     {
@@ -43,7 +43,7 @@ impl<'a> Definers<'a> {
     }
 }
 
-/// Adds a class to those that define the methods that it has of its own. `Err` comes only for want of memory.
+/// Adds a class to those that define the methods that it has of its own. Returns `Err` only if memory runs out.
 fn add_class<'a>(
     alloc: Global,
     by_name: &mut ByName<'a>,
@@ -60,7 +60,7 @@ fn add_class<'a>(
     }
 }
 
-/// Adds a basic class to those that define its methods. `Err` comes only for want of memory.
+/// Adds a basic class to those that define its methods. Returns `Err` only if memory runs out.
 fn add_basic(alloc: Global, by_name: &mut ByName<'_>, class: ClassId) -> Result<(), AllocError>
     ensures { OnOk result (Adds class (λ name. list_any (is_basic_named name) (basic_methods class.0)) by_name.old.entries by_name.new.entries) }
 {
@@ -70,7 +70,7 @@ fn add_basic(alloc: Global, by_name: &mut ByName<'_>, class: ClassId) -> Result<
     Ok(())
 }
 
-/// Adds a class to those that define the methods among these features. `Err` comes only for want of memory.
+/// Adds a class to those that define the methods among these features. Returns `Err` only if memory runs out.
 fn add_features<'a>(
     alloc: Global,
     by_name: &mut ByName<'a>,
@@ -87,7 +87,7 @@ fn add_features<'a>(
     Ok(())
 }
 
-/// Adds a class to those that define a method of this name. `Err` comes only for want of memory.
+/// Adds a class to those that define a method of this name. Returns `Err` only if memory runs out.
 fn add<'a>(
     alloc: Global,
     by_name: &mut ByName<'a>,

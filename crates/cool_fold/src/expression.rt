@@ -18,11 +18,10 @@ use crate::place::{Found, Placed, place, place_constant};
 use cool_syntax::{Node, NodeId};
 use std::alloc::AllocError;
 
-/// Folds the expression at this number. `Err` comes only for want of memory.
+/// Folds the expression at this number. Returns `Err` only if memory runs out.
 ///
-/// It calls itself once for each level of an expression. So that a level takes little of the process's stack, each form has a function of
-/// its own, which is not inlined and keeps no node and no copy while a part is folded. These are made afterwards, by a function that places
-/// the form and calls no folding.
+/// It calls itself once for each level of an expression. So that a level takes little of the process's stack, each form has a function of its own, which is
+/// not inlined and keeps no node and no copy while a part is folded. These are made afterwards, by a function that places the form and calls no folding.
 #[cycle(folding)]
 pub(crate) fn fold<'a>(
     setting: &FoldingSetting<'a, '_>,
@@ -58,7 +57,7 @@ pub(crate) fn fold<'a>(
     }
 }
 
-/// Folds a name, a constant or a new object: it stays. `Err` comes only for want of memory.
+/// Folds a name, a constant or a new object: it stays. Returns `Err` only if memory runs out.
 #[inline(never)]
 fn fold_leaf<'a>(
     setting: &FoldingSetting<'a, '_>,
@@ -107,8 +106,7 @@ fn fold_leaf<'a>(
     }
 }
 
-/// Folds some expressions, in order. It is inlined, so that a level of a block or of arguments has no frame more. `Err` comes only for want
-/// of memory.
+/// Folds some expressions, in order. It is inlined, so that a level of a block or of arguments has no frame more. Returns `Err` only if memory runs out.
 #[cycle(folding)]
 #[inline(always)]
 pub(crate) fn fold_all<'a>(

@@ -28,10 +28,10 @@ pub(crate) struct FoldedFeature {
     pub(crate) types: NodeTypes,
 }
 
-/// The folded expression of a feature of a class, by its number among the features of the class: the body of a method or an initial value,
-/// and none for an attribute without one; and the types of its nodes. The classes that define methods are those of the program.
+/// The folded expression of a feature of a class, by its number among the features of the class: the body of a method or an initial value, and none for an
+/// attribute without one; and the types of its nodes. The classes that define methods are those of the program.
 ///
-/// `Err` comes only for want of memory. It calls itself once for each level of an expression, so it takes stack in proportion to the depth.
+/// Returns `Err` only if memory runs out. It calls itself once for each level of an expression, so it takes stack in proportion to the depth.
 pub(crate) fn fold_body<'a>(
     alloc: Global,
     p: &'a TypedProgram,

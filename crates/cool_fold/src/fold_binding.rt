@@ -15,7 +15,7 @@ use crate::place_form::{add_branch, place_case, place_let};
 use cool_syntax::{Node, NodeBranch, NodeId};
 use std::alloc::AllocError;
 
-/// Folds a `let`, whose parts have numbers below this one. `Err` comes only for want of memory.
+/// Folds a `let`, whose parts have numbers below this one. Returns `Err` only if memory runs out.
 #[cycle(folding)]
 #[inline(never)]
 pub(crate) fn fold_let<'a>(
@@ -44,7 +44,7 @@ pub(crate) fn fold_let<'a>(
     }
 }
 
-/// Folds an initial value, where there is one. `Err` comes only for want of memory.
+/// Folds an initial value, where there is one. Returns `Err` only if memory runs out.
 #[cycle(folding)]
 fn fold_option<'a>(
     setting: &FoldingSetting<'a, '_>,
@@ -67,7 +67,7 @@ fn fold_option<'a>(
     }
 }
 
-/// Folds a `case`, whose parts have numbers below this one. `Err` comes only for want of memory.
+/// Folds a `case`, whose parts have numbers below this one. Returns `Err` only if memory runs out.
 #[cycle(folding)]
 #[inline(never)]
 pub(crate) fn fold_case<'a>(
@@ -100,7 +100,7 @@ pub(crate) fn fold_case<'a>(
     }
 }
 
-/// Folds branches, in order. `Err` comes only for want of memory.
+/// Folds branches, in order. Returns `Err` only if memory runs out.
 #[cycle(folding)]
 #[inline(always)]
 fn fold_branches<'a>(

@@ -16,8 +16,8 @@ use cool_rules::class_of;
 use cool_syntax::{Node, NodeId};
 use std::alloc::AllocError;
 
-/// Folds a dispatch: to a direct call, where no class below the receiver's defines the method anew. Its parts have numbers below this one.
-/// `Err` comes only for want of memory.
+/// Folds a dispatch: to a direct call, if no class below the receiver's defines the method anew. Its parts have numbers below this one. Returns `Err` only
+/// if memory runs out.
 #[cycle(folding)]
 #[inline(never)]
 pub(crate) fn fold_dispatch<'a>(
@@ -55,7 +55,7 @@ pub(crate) fn fold_dispatch<'a>(
     }
 }
 
-/// Folds a dispatch to the method of a class that it names. Its parts have numbers below this one. `Err` comes only for want of memory.
+/// Folds a dispatch to the method of a class that it names. Its parts have numbers below this one. Returns `Err` only if memory runs out.
 #[cycle(folding)]
 #[inline(never)]
 pub(crate) fn fold_static<'a>(
@@ -84,8 +84,8 @@ pub(crate) fn fold_static<'a>(
     }
 }
 
-/// Folds arguments, in order. It is not inlined, so that a level of a receiver does not take the stack that arguments need. `Err` comes
-/// only for want of memory.
+/// Folds arguments, in order. It is not inlined, so that a level of a receiver does not take the stack that arguments need. Returns `Err` only if memory
+/// runs out.
 #[cycle(folding)]
 #[inline(never)]
 fn fold_args<'a>(

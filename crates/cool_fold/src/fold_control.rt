@@ -19,7 +19,7 @@ use cool_classes::Ty;
 use cool_syntax::{Node, NodeId};
 use std::alloc::AllocError;
 
-/// Folds a loop, whose parts have numbers below this one. `Err` comes only for want of memory.
+/// Folds a loop, whose parts have numbers below this one. Returns `Err` only if memory runs out.
 #[cycle(folding)]
 #[inline(never)]
 pub(crate) fn fold_while<'a>(
@@ -48,7 +48,7 @@ pub(crate) fn fold_while<'a>(
     }
 }
 
-/// Folds a block, whose items have numbers below this one. `Err` comes only for want of memory.
+/// Folds a block, whose items have numbers below this one. Returns `Err` only if memory runs out.
 #[cycle(folding)]
 #[inline(never)]
 pub(crate) fn fold_block<'a>(
@@ -76,8 +76,8 @@ pub(crate) fn fold_block<'a>(
     }
 }
 
-/// Folds a conditional, whose parts have numbers below this one: to one of them, where the test is decided and the part has the type of the
-/// whole. Then the other part is not folded. `Err` comes only for want of memory.
+/// Folds a conditional, whose parts have numbers below this one: to one of them, if the test is decided and the part has the type of the whole. Then the
+/// other part is not folded. Returns `Err` only if memory runs out.
 #[cycle(folding)]
 #[inline(never)]
 pub(crate) fn fold_if<'a>(

@@ -15,7 +15,7 @@ use crate::place_operator::{place_binary, place_unary};
 use cool_syntax::{Node, NodeId};
 use std::alloc::AllocError;
 
-/// Folds an assignment, `isvoid`, `~` or `not`, whose part has a number below this one. `Err` comes only for want of memory.
+/// Folds an assignment, `isvoid`, `~` or `not`, whose part has a number below this one. Returns `Err` only if memory runs out.
 #[cycle(folding)]
 #[inline(never)]
 pub(crate) fn fold_unary<'a>(
@@ -39,7 +39,7 @@ pub(crate) fn fold_unary<'a>(
     place_unary(setting, placed, start, node, setting.types.get(id), &part)
 }
 
-/// Folds arithmetic or a comparison, whose parts have numbers below this one. `Err` comes only for want of memory.
+/// Folds arithmetic or a comparison, whose parts have numbers below this one. Returns `Err` only if memory runs out.
 #[cycle(folding)]
 #[inline(never)]
 pub(crate) fn fold_binary<'a>(

@@ -1,4 +1,4 @@
-//! What stays the same while the expression of a feature is folded, and which methods are redefined there.
+//! The constant context of folding the expression of a feature, and the methods that are redefined there.
 
 ghost use Rattle.std.specs.Prelude.{◌≡◌, ◌<◌, length};
 ghost use Rattle.cool_classes.specs.ClimbedChains.{above};

@@ -1,8 +1,8 @@
-//! Folding: constants are computed, tests on constants decided, and a dispatch that can go to one method only is called directly.
+//! Folding: constants are computed, tests on constants decided, and a dispatch that can go to only one method is called directly.
 //!
-//! Comes in: an accepted program. Goes out: the folded program. `specs/Folding.antt` defines what becomes of each form of expression and of a
-//! table, over the static types of `cool_rules`; `specs/Foldable.antt` says of what nothing is left to fold. The functions `law_*` say what a
-//! folded program is. The types of expressions are read in the program's columns and not computed, and the folded program has its own.
+//! Input: an accepted program. Output: the folded program. `specs/Folding.antt` defines the result for each form of expression and for a table, over the
+//! static types of `cool_rules`; `specs/Foldable.antt` defines when nothing is left to fold. The functions `law_*` state the properties of a folded
+//! program. The types of expressions are read in the program's columns and not computed, and the folded program has its own.
 #![tactic(auto)]
 
 mod constant;

@@ -1,4 +1,4 @@
-//! Placing nodes after others, and what is answered of an expression whose nodes were placed.
+//! Placing nodes after others, and the results for expressions whose nodes were placed.
 
 ghost use Rattle.std.specs.Prelude.{◌≡◌, ◌∷◌, ◌++◌, ◌-◌, ◌+◌, ◌<◌, ◌≤◌, ◌^◌, [], None, length, take, IfOk, OnOk};
 ghost use Rattle.cool_rules.specs.Typing.{bool_type, int_type};
@@ -17,7 +17,7 @@ pub(crate) struct Placed {
     pub(crate) types: Column<Ty>,
 }
 
-/// What is known of an expression whose folded nodes were placed: the constant that it is, and the number of its last node.
+/// The result for an expression whose folded nodes were placed: the constant that it is, and the number of its last node.
 #[derive(Clone, Copy)]
 pub(crate) struct Found<'a> {
     pub(crate) constant: Option<Constant<'a>>,
@@ -35,7 +35,7 @@ pub(crate) fn cut(placed: &mut Placed, start: usize)
     placed.types.cut(start);
 }
 
-/// Places the node of an expression of this type after its parts. `Err` comes only for want of memory.
+/// Places the node of an expression of this type after its parts. Returns `Err` only if memory runs out.
 pub(crate) fn place<'a>(placed: &mut Placed, node: Node, ty: Ty) -> Result<Found<'a>, AllocError>
     requires few { length placed.old.nodes.items < 2 ^ 32 - 1 }
     requires types { length placed.old.types.held + 1 ≤ placed.old.types.room }
@@ -49,7 +49,7 @@ pub(crate) fn place<'a>(placed: &mut Placed, node: Node, ty: Ty) -> Result<Found
     place_constant(placed, node, ty, None)
 }
 
-/// Places the node of an expression of this type that is this constant. `Err` comes only for want of memory.
+/// Places the node of an expression of this type that is this constant. Returns `Err` only if memory runs out.
 pub(crate) fn place_constant<'a>(
     placed: &mut Placed,
     node: Node,
@@ -71,7 +71,7 @@ pub(crate) fn place_constant<'a>(
     Ok(Found { constant, id })
 }
 
-/// Places a number in place of the nodes from this one on, or else the node of an Int after its parts. `Err` comes only for want of memory.
+/// Places a number in place of the nodes from this one on, or else the node of an Int after its parts. Returns `Err` only if memory runs out.
 pub(crate) fn place_number<'a>(
     placed: &mut Placed,
     start: usize,
@@ -103,7 +103,7 @@ pub(crate) fn place_number<'a>(
     }
 }
 
-/// Places a truth in place of the nodes from this one on, or else the node of a Bool after its parts. `Err` comes only for want of memory.
+/// Places a truth in place of the nodes from this one on, or else the node of a Bool after its parts. Returns `Err` only if memory runs out.
 pub(crate) fn place_truth<'a>(
     placed: &mut Placed,
     start: usize,

@@ -11,7 +11,7 @@ use cool_classes::{ClassId, Ty};
 use cool_syntax::{Listed, Node, NodeBranch, NodeId, TypeRef};
 use std::alloc::{AllocError, Global};
 
-/// Places a loop of this type and these parts. `Err` comes only for want of memory.
+/// Places a loop of this type and these parts. Returns `Err` only if memory runs out.
 #[inline(never)]
 pub(crate) fn place_while<'a>(
     setting: &FoldingSetting<'_, '_>,
@@ -38,7 +38,7 @@ pub(crate) fn place_while<'a>(
     }
 }
 
-/// Places a block of this type and these items. `Err` comes only for want of memory.
+/// Places a block of this type and these items. Returns `Err` only if memory runs out.
 #[inline(never)]
 pub(crate) fn place_block<'a>(
     setting: &FoldingSetting<'_, '_>,
@@ -64,7 +64,7 @@ pub(crate) fn place_block<'a>(
     }
 }
 
-/// Places a conditional of this type and these parts, which stays. `Err` comes only for want of memory.
+/// Places a conditional of this type and these parts, which stays. Returns `Err` only if memory runs out.
 #[inline(never)]
 pub(crate) fn place_if<'a>(
     setting: &FoldingSetting<'_, '_>,
@@ -93,7 +93,7 @@ pub(crate) fn place_if<'a>(
     }
 }
 
-/// Places a `let` of this type and these parts. `Err` comes only for want of memory.
+/// Places a `let` of this type and these parts. Returns `Err` only if memory runs out.
 #[inline(never)]
 pub(crate) fn place_let<'a>(
     setting: &FoldingSetting<'_, '_>,
@@ -133,7 +133,7 @@ pub(crate) fn place_let<'a>(
     }
 }
 
-/// Places a `case` of this type and these parts. `Err` comes only for want of memory.
+/// Places a `case` of this type and these parts. Returns `Err` only if memory runs out.
 #[inline(never)]
 pub(crate) fn place_case<'a>(
     setting: &FoldingSetting<'_, '_>,
@@ -164,7 +164,7 @@ pub(crate) fn place_case<'a>(
     }
 }
 
-/// Adds a copy of a branch with this body to others. `Err` comes only for want of memory.
+/// Adds a copy of a branch with this body to others. Returns `Err` only if memory runs out.
 #[inline(never)]
 pub(crate) fn add_branch(
     alloc: Global,
@@ -185,8 +185,8 @@ pub(crate) fn add_branch(
     Ok(())
 }
 
-/// Places a dispatch of this type on a receiver of this class, with these parts: a direct call where no class below the receiver's defines
-/// the method anew. `Err` comes only for want of memory.
+/// Places a dispatch of this type on a receiver of this class, with these parts: a direct call if no class below the receiver's defines the method anew.
+/// Returns `Err` only if memory runs out.
 #[inline(never)]
 pub(crate) fn place_dispatch<'a>(
     setting: &FoldingSetting<'_, '_>,
@@ -236,7 +236,7 @@ pub(crate) fn place_dispatch<'a>(
     }
 }
 
-/// Places a dispatch of this type and these parts to the method of the class that it names. `Err` comes only for want of memory.
+/// Places a dispatch of this type and these parts to the method of the class that it names. Returns `Err` only if memory runs out.
 #[inline(never)]
 pub(crate) fn place_static<'a>(
     setting: &FoldingSetting<'_, '_>,

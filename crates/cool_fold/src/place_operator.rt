@@ -12,8 +12,8 @@ use cool_classes::Ty;
 use cool_syntax::Node;
 use std::alloc::AllocError;
 
-/// Places an assignment, `isvoid`, `~` or `not` of this type and this part, or the constant that it is. The nodes of the part are those
-/// from a number on. `Err` comes only for want of memory.
+/// Places an assignment, `isvoid`, `~` or `not` of this type and this part, or the constant that it is. The nodes of the part are those from a number on.
+/// Returns `Err` only if memory runs out.
 #[inline(never)]
 pub(crate) fn place_unary<'a>(
     setting: &FoldingSetting<'_, '_>,
@@ -66,8 +66,8 @@ pub(crate) fn place_unary<'a>(
     }
 }
 
-/// Places arithmetic or a comparison of these parts, or the constant that it is. The nodes of the parts are those from a number on. `Err`
-/// comes only for want of memory.
+/// Places arithmetic or a comparison of these parts, or the constant that it is. The nodes of the parts are those from a number on. Returns `Err` only if
+/// memory runs out.
 #[inline(never)]
 pub(crate) fn place_binary<'a>(
     setting: &FoldingSetting<'_, '_>,

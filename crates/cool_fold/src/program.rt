@@ -33,9 +33,9 @@ struct Expressions {
 
 /// The program with each expression folded, by the types of the program as it was.
 ///
-/// `Err` comes only for want of memory. Each node is folded once; a dispatch goes through the classes that define its method besides. The
-/// folded expressions stand beside those of the program until all are made: memory in proportion to the nodes of the program. It takes
-/// stack in proportion to the depth of the deepest expression.
+/// Returns `Err` only if memory runs out. Each node is folded once; a dispatch goes through the classes that define its method besides. The folded
+/// expressions stand beside those of the program until all are made: memory in proportion to the nodes of the program. It takes stack in proportion to the
+/// depth of the deepest expression.
 pub fn fold(alloc: Global, p: TypedProgram) -> Result<TypedProgram, AllocError>
     ensures folded { IfOk result (λ q. q ≡ fold_table p) }
     ensures fits { (count : ℕ) → Fits p count → IfOk result (λ q. Fits q count) }
@@ -53,7 +53,7 @@ pub fn fold(alloc: Global, p: TypedProgram) -> Result<TypedProgram, AllocError>
     Ok(TypedProgram::new(table, types))
 }
 
-/// The expressions of the folded program, in order. `Err` comes only for want of memory.
+/// The expressions of the folded program, in order. Returns `Err` only if memory runs out.
 fn folded_expressions(alloc: Global, p: &TypedProgram) -> Result<Expressions, AllocError>
     ensures all { IfOk result (λ folded. folded.all.items ≡ expressions_from 0 (fold_table p.now)) }
     ensures types { IfOk result (λ folded. columns_of folded.types.items ≡ table_types (fold_table p.now)) }
@@ -68,8 +68,7 @@ fn folded_expressions(alloc: Global, p: &TypedProgram) -> Result<Expressions, Al
     Ok(Expressions { all, types })
 }
 
-/// Adds the folded expressions of the features of a class, in order, and answers the types of the nodes of each. `Err` comes only for want
-/// of memory.
+/// Adds the folded expressions of the features of a class, in order, and answers the types of the nodes of each. Returns `Err` only if memory runs out.
 fn add_folded<'a>(
     alloc: Global,
     p: &'a TypedProgram,

@@ -22,11 +22,11 @@ use Rattle.lists.proofs.AllItems.{all_at}
 pub attributes_there : (p : List Class) → IsRooted p → (c : ClassId) → c.0 < length p → AllByRecursion (HasAttribute p) (attributes p c)
 attributes_there p r c within = attributes_have p (chain p c) (λ k d less. all_at (λ (e : ClassId). e.0 < length p) (chain p c) k d (chain_in p r (Some c) within (chain p c) (chain_is p r c within)) less)
 
--- those of a class whose parent has a tag
+-- the attributes of a class whose parent has a tag
 pub next_is : (p : List Class) → IsRooted p → (c : ClassId) → c.0 < length p → (k j : ℕ) → c ≡ class_of p k → IsAbove p k (Some j) → attributes p c ≡ attributes p (class_of p j) ++ own_attributes c 0 (features_of p c)
 next_is p r c within k j is up = attributes_step p r c (class_of p j) within (ap (parent_of p) is ∙ up.1)
 
--- those of a class with no parent
+-- the attributes of a class with no parent
 pub first_is : (p : List Class) → IsRooted p → (c : ClassId) → c.0 < length p → (k : ℕ) → c ≡ class_of p k → IsAbove p k None → attributes p c ≡ own_attributes c 0 (features_of p c)
 first_is p r c within k is top = attributes_top p r c within (ap (parent_of p) is ∙ top)
 

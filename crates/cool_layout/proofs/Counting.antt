@@ -1,4 +1,4 @@
--- How often a class stands in a list, and in a family: as often as the head of the family stands on the chain of the class.
+-- The number of times that a class stands in a list and in a family: as often as the head of the family stands on the chain of the class.
 use Rattle.std.proofs.Common.{◌≡◌, ◌≢◌, ℕ, zero, suc, ◌+◌, ◌<◌, ◌≤◌, List, [], ◌∷◌, ◌++◌, length, flat_map, filter, Option, Some, None, Bool, true, false, cond, refl, sym, ap, ◌∙◌, arith}
 use Rattle.std.specs.Prelude.{nat_eq}
 use Rattle.cool_classes.specs.declared.class_id.ClassId.{ClassId}

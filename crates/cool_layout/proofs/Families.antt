@@ -93,7 +93,7 @@ object_top p r = at p r.table.basic
     at [] e = refl
     at (c ∷ cs) e = let h = ap (λ (xs : List Class). parent_of xs (class_number 0)) e in h
 
--- where a list is cut around one of its elements
+-- a list is cut around one of its elements
 pub member_cut : (k : ClassId) (xs : List ClassId) → 1 ≤ times k xs → (front : List ClassId) × (back : List ClassId) × (xs ≡ front ++ k ∷ back)
 member_cut k [] h = absurd (omega arith)
 member_cut k (x ∷ xs) h = by (nat_eq x.0 k.0) refl h (λ more. member_cut k xs more)
@@ -119,7 +119,7 @@ child_there p q k child = let e : times k (children p q) ≡ 1 = counted in omeg
     counted : times k (children p q) ≡ 1
     counted = is_one (children p q) ∙ among_numbers k (λ c. is_parent q (parent_of p c)) 0 (length p) (omega arith) (let w = child.0 in omega arith) ∙ ap (λ (o : Option ClassId). one (is_parent q o)) child.1 ∙ ap one parent
 
--- where the preorder is cut around a family
+-- the preorder is cut around a family
 abbrev pub Cut : List Class → ClassId → Type 0
 Cut p c = (front : List ClassId) × (back : List ClassId) × (preorder p ≡ front ++ (family p c ++ back))
 

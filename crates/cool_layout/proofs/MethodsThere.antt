@@ -15,7 +15,7 @@ use Rattle.cool_layout.specs.Members.{slots, method, methods}
 use Rattle.cool_layout.specs.Roots.{IsRooted}
 use Rattle.cool_layout.proofs.ShortChains.{chain_in, chain_is}
 
--- what a chain implements is a method
+-- the implementation that a chain has is a method
 pub implementation_has : (p : List Class) (ds : List ClassId) (f : List ℕ) → AllByRecursion (λ d. d.0 < length p) ds → IfSome (implementation p ds f) (HasMethod p)
 implementation_has p [] f within = tt
 implementation_has p (d ∷ ds) f within = by (own_method p d f) (own_has p d f within.0) (implementation_has p ds f within.1)

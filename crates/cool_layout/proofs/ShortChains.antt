@@ -30,7 +30,7 @@ chain_in p r None w (d ∷ ds) h = absurd h
 chain_in p r (Some c) w [] h = absurd h
 chain_in p r (Some c) w (d ∷ ds) h = (subst (λ (x : ClassId). x.0 < length p) (sym h.0) w, chain_in p r (parent_of p c) (parent_in p r c w (parent_of p c) refl) ds h.1)
 
--- what stands on a chain has a chain of its own, which is no longer
+-- a class on a chain has a chain of its own, which is no longer
 abbrev ShorterChain : List Class → ℕ → ClassId → Type 0
 ShorterChain p n c = (es : List ClassId) × IsChain p (Some c) es × (length es ≤ n)
 

@@ -30,7 +30,7 @@ shown_lookup f (entry ∷ rest) = ap (λ (o : Option ℕ). cond (bytes_eq f entr
 pub shown_after : {S : Type 0} (m : IndexMap (Vec ℕ) ℕ S) (key : Vec ℕ) (k : ℕ) → get same_key m key ≡ None → slots_shown (insert_entry same_key m.entries key k) ≡ slots_shown m.entries ++ (key.items, k) ∷ []
 shown_after m key k none = ap slots_shown (insert_entry-new same_key m key k none) ∙ map-append (λ (entry : Vec ℕ × ℕ). (entry.0.items, entry.1)) m.entries ((key, k) ∷ [])
 
--- what is found among entries with one after them
+-- a name found among entries with one after them is found among the first ones, or is the last
 found_more : (f name : List ℕ) (es : List (List ℕ × ℕ)) (k j : ℕ) → lookup (bytes_eq f) (es ++ (name, k) ∷ []) ≡ Some j → (lookup (bytes_eq f) es ≡ Some j) ⊎ ((bytes_eq f name ≡ true) × (k ≡ j))
 found_more f name [] k j h = by (bytes_eq f name) refl h
   where

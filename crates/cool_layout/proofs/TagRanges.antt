@@ -111,7 +111,7 @@ head_first p r c within =
 abbrev pub CutAt : List Class → ClassId → Type 0
 CutAt p c = (front : List ClassId) × (back : List ClassId) × (preorder p ≡ front ++ (family p c ++ back)) × (tag p c ≡ length front)
 
--- how often a class stands in the three parts
+-- the number of times that a class stands in the three parts
 parts : (d : ClassId) (front mid back : List ClassId) → times d (front ++ (mid ++ back)) ≡ times d front + (times d mid + times d back)
 parts d front mid back = times-append d front (mid ++ back) ∙ ap (λ n. times d front + n) (times-append d mid back)
 

@@ -32,7 +32,7 @@ all_in : (p : List Class) (q : ClassId) (xs : List ClassId) → AllByRecursion (
 all_in p q [] all = tt
 all_in p q (x ∷ xs) all = (all.0.0, all_in p q xs all.1)
 
--- what waits, the next class first
+-- the waiting classes, the next one first
 turned : (rest : List ClassId) (c : ClassId) → reverse (rest ++ c ∷ []) ≡ c ∷ reverse rest
 turned rest c = reverse-append rest (c ∷ [])
 

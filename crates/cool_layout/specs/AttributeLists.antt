@@ -6,6 +6,6 @@ use Rattle.cool_classes.specs.Chains.{Class}
 use Rattle.cool_layout.specs.Members.{attributes}
 use Rattle.cool_layout.specs.SlotTables.{class_of}
 
--- those of the class of each tag
+-- the attributes of the class of each tag
 abbrev pub AreAttributes : List Class → List (Vec AttributeRef) → Type 0
 AreAttributes p known = (k : ℕ) (d : Vec AttributeRef) → k < length known → (get_or known k d).items ≡ attributes p (class_of p k)

@@ -1,4 +1,4 @@
--- What a layout keeps of a class table.
+-- The data that a layout keeps of a class table.
 use Rattle.std.specs.Prelude.{◌≡◌, List, length}
 use Rattle.cool_classes.specs.Chains.{Class}
 use Rattle.cool_classes.specs.Limits.{KeepsLimits}

@@ -31,7 +31,7 @@ class_objects_lines p order = label class_objects ∷ map (λ c. words (Address 
 abbrev pub dispatch_table_lines : List Class → ClassId → List Line
 dispatch_table_lines p c = label (dispatch_table p c) ∷ words (map (λ m. Address (method_label p m)) (methods p c)) ∷ []
 
--- what an attribute of a declared type holds before it is given a value (the Cool manual, section 5.1)
+-- the value of an attribute of a declared type before one is assigned (the Cool manual, section 5.1)
 abbrev pub default_value : List ℕ → WordItem
 default_value name =
     if bytes_eq name (codes "Int") then Address default_int
@@ -39,7 +39,7 @@ default_value name =
     else if bytes_eq name (codes "String") then Address default_string
     else Number (pos 0)
 
--- what stands after the head of the String of no bytes: its length, and a zero
+-- the fields after the head of the empty String: its length, and a zero
 abbrev pub empty_string_fields : List WordItem
 empty_string_fields = Address default_int ∷ Number (pos 0) ∷ []
 

@@ -1,5 +1,5 @@
--- Where the attributes of a class stand in its objects, and its methods in its dispatch table: those of the parent first, then its own
--- in textual order.
+-- The offsets of a class's attributes in its objects, and the slots of its methods in its dispatch table: those of the parent first, then its own in
+-- textual order.
 use Rattle.std.specs.Prelude.{◌≡◌, ℕ, ◌+◌, ◌*◌, List, [], ◌∷◌, ◌++◌, map, flat_map, position, unwrap_or, Option, Some, None, Bool, ◌&&◌, nat_eq, nat_lt, if◌then◌else◌, codes, bytes_eq, refl}
 use Rattle.std.specs.List.{position_or_len, list_any}
 use Rattle.cool_syntax.specs.declared.file_tree.Feature.{Feature}
@@ -20,7 +20,7 @@ attributes p c = attributes_of p (chain p c)
 abbrev pub is_attribute : AttributeRef → AttributeRef → Bool
 is_attribute a b = nat_eq b.owner.0 a.owner.0 && nat_eq b.index a.index
 
--- where an attribute stands in the objects of a class: after a head of three words
+-- the offset of an attribute in the objects of a class: after a head of three words
 abbrev pub offset : List Class → ClassId → AttributeRef → ℕ
 offset p c a = 12 + 4 * position_or_len (is_attribute a) (attributes p c)
 

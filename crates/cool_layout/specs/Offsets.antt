@@ -19,7 +19,7 @@ attribute_count [] = 0
 attribute_count (Method m ∷ fs) = attribute_count fs
 attribute_count (Attribute a ∷ fs) = attribute_count fs + 1
 
--- how many attributes stand before those of the class's own
+-- the number of attributes before those of the class's own
 abbrev pub attributes_above : List Class → Option ClassId → ℕ
 attributes_above p None = 0
 attributes_above p (Some q) = length (attributes p q)
@@ -27,11 +27,11 @@ attributes_above p (Some q) = length (attributes p q)
 abbrev pub above_count : List Class → ClassId → ℕ
 above_count p c = attributes_above p (parent_of p c)
 
--- how many attributes the class of each tag has, as far as they are counted
+-- the number of attributes of the class of each tag, as far as they are counted
 abbrev pub AreCounts : List Class → List ℕ → Type 0
 AreCounts p counts = (k d : ℕ) → k < length counts → get_or counts k d ≡ length (attributes p (class_of p k))
 
--- those of each of so many classes
+-- the offsets of each of so many classes
 pub record AreOffsets (p : List Class) (n : ℕ) (all : List (Vec ℕ)) : Type 0 where
   pub same : length all ≡ n
   pub offsets : (c : ℕ) (d : Vec ℕ) → c < n → (get_or all c d).items ≡ offsets_among (above_count p (class_number c)) (features_of p (class_number c))

@@ -4,7 +4,7 @@ use Rattle.cool_classes.specs.declared.class_id.ClassId.{ClassId}
 use Rattle.cool_classes.specs.Chains.{Class, class_number, parent_of}
 use Rattle.cool_classes.specs.Tables.{IsTable}
 
--- a whole table in which the parent of a class is a class, and Object alone has none
+-- a whole table in which the parent of a class is a class, and only Object has none
 pub record IsRooted (p : List Class) : Type 0 where
   pub table : IsTable p
   pub above : (c q : ClassId) → c.0 < length p → parent_of p c ≡ Some q → q.0 < length p

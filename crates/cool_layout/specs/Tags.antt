@@ -1,4 +1,4 @@
--- What tags are good for: each class has one of its own, and those of a class and the classes below it are a range.
+-- The properties of tags: each class has its own, and those of a class and the classes below it are a range.
 use Rattle.std.specs.Prelude.{◌≡◌, ℕ, ◌<◌, ◌≤◌, List, length}
 use Rattle.cool_classes.specs.declared.class_id.ClassId.{ClassId}
 use Rattle.cool_classes.specs.Chains.{Class, Below}

@@ -11,7 +11,7 @@ pub record AreChildren (p : List Class) (n : ℕ) (all : List (Vec ClassId)) : T
   pub same : length all ≡ length p
   pub children : (q : ℕ) (d : Vec ClassId) → q < length p → (get_or all q d).items ≡ filter (λ c. is_parent (class_number q) (parent_of p c)) (numbers_from 0 n)
 
--- for each of these classes in preorder, the class after its family
+-- the class after the family of each of these classes in preorder
 abbrev pub AreNext : List Class → List ClassId → List (Option ClassId) → Type 0
 AreNext p order next = (k : ℕ) → k < length order → get_or next k None ≡ slice_get (preorder p) (k + length (family p (get_or order k (class_number 0))))
 

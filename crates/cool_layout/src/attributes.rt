@@ -36,8 +36,7 @@ fn with_own(
     Ok(all)
 }
 
-/// The attributes of the class of the next tag, whose parent has the tag `above` if it has a parent. `Err` comes only for want of
-/// memory.
+/// The attributes of the class of the next tag, whose parent has the tag `above` if it has a parent. Returns `Err` only if memory runs out.
 pub(crate) fn next_attributes(
     alloc: Global,
     t: &ClassTable,

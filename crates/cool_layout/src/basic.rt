@@ -9,7 +9,7 @@ use crate::slots::{Table, add_method};
 use cool_classes::{ClassTable, MethodRef, NamedMethod, basic_class_methods};
 use std::alloc::{AllocError, Global};
 
-/// Adds the methods of a basic class. `Err` comes only for want of memory.
+/// Adds the methods of a basic class. Returns `Err` only if memory runs out.
 pub(crate) fn add_basic(
     alloc: Global,
     t: &ClassTable,

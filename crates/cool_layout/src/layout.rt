@@ -24,7 +24,7 @@ use cool_syntax::Name;
 use mips_isa::Line;
 use std::alloc::{AllocError, Global};
 
-/// Where the classes of a table stand at run time.
+/// The run-time layout of the classes of a table.
 #[derive(Drop)]
 pub struct Layout {
     /// The classes in preorder.
@@ -40,7 +40,7 @@ pub struct Layout {
 }
 
 impl Layout {
-    /// The layout of a table. `Err` comes only for want of memory.
+    /// The layout of a table. Returns `Err` only if memory runs out.
     pub fn new(alloc: Global, t: &ClassTable) -> Result<Layout, AllocError>
         requires limits { KeepsLimits t.now }
         ensures { IfOk result (λ layout. IsLayoutOf layout t.now) }
@@ -75,7 +75,7 @@ impl Layout {
         self.lasts[c.0 as usize]
     }
 
-    /// Where an attribute of a class stands in the objects of the class, in bytes.
+    /// The offset of an attribute in the objects of the class, in bytes.
     pub fn offset(&self, c: ClassId, a: AttributeRef) -> u32
         requires { (p : List Class) × IsLayoutOf self.now p × (c.0 < length p) × Contains (attributes p c) a }
         ensures offset { (p : List Class) → IsLayoutOf self.now p → c.0 < length p → Contains (attributes p c) a → result ≡ offset p c a }
@@ -85,7 +85,7 @@ impl Layout {
         self.offsets[a.owner.0 as usize][a.index as usize]
     }
 
-    /// The slot of a method of a class in its dispatch table; none where the class has no method of that name.
+    /// The slot of a method of a class in its dispatch table; none if the class has no method of that name.
     pub fn slot(&self, c: ClassId, f: &Name) -> Option<u32>
         requires { (p : List Class) × IsLayoutOf self.now p × (c.0 < length p) }
         ensures slot { (p : List Class) → IsLayoutOf self.now p → c.0 < length p → result ≡ slot p c f.now }
@@ -99,7 +99,7 @@ impl Layout {
         }
     }
 
-    /// The lines of the layout in the data, of the table for which it was made. `Err` comes only for want of memory.
+    /// The lines of the layout in the data, of the table for which it was made. Returns `Err` only if memory runs out.
     pub fn lines(&self, alloc: Global, t: &ClassTable) -> Result<Vec<Line>, AllocError>
         requires layout { IsLayoutOf self.now t.now }
         ensures { IfOk result (λ lines. lines_of lines.items ≡ layout_lines t.now) }

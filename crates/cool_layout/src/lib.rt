@@ -1,7 +1,7 @@
-//! Where the classes of a program stand at run time: their tags, the attributes in their objects, the methods in their dispatch
-//! tables, and the lines of all that in the data.
+//! The run-time layout of the classes of a program: their tags, the attributes in their objects, the methods in their dispatch tables, and the lines of
+//! all that in the data.
 //!
-//! Comes in: a class table. Goes out: the layout of its classes, and its lines (`specs/Preorder.antt`, `specs/Members.antt`,
+//! Input: a class table. Output: the layout of its classes, and its lines (`specs/Preorder.antt`, `specs/Members.antt`,
 //! `specs/LinesOfLayout.antt`).
 #![tactic(auto)]
 

@@ -16,8 +16,7 @@ use std::alloc::{AllocError, Global};
 /// The first attribute's offset: three words of head stand before it.
 const HEAD_BYTES: u32 = 12;
 
-/// The offset of each attribute among the features of a class, with so many attributes above; 0 for methods. `Err` comes only for
-/// want of memory.
+/// The offset of each attribute among the features of a class, with so many attributes above; 0 for methods. Returns `Err` only if memory runs out.
 fn own_offsets(alloc: Global, features: &[Feature], above: usize) -> Result<Vec<u32>, AllocError>
     requires few { above + attribute_count features.now ≤ 2000 }
     ensures { IfOk result (λ offsets. offsets.items ≡ offsets_among above features.now) }
@@ -36,7 +35,7 @@ fn own_offsets(alloc: Global, features: &[Feature], above: usize) -> Result<Vec<
     Ok(offsets)
 }
 
-/// How many of the features of a class are attributes.
+/// The number of attributes among the features of a class.
 fn own_count(features: &[Feature]) -> usize
     ensures { result ≡ attribute_count features.now }
 {
@@ -50,7 +49,7 @@ fn own_count(features: &[Feature]) -> usize
     count
 }
 
-/// How many attributes the parent of a class has, by the counts of classes with smaller tags.
+/// The number of attributes of the parent of a class, by the counts of classes with smaller tags.
 fn count_above(t: &ClassTable, tags: &[u32], counts: &[usize], class: ClassId) -> usize
     requires rooted { IsRooted t.now }
     requires tags { AreTagsOf t.now tags.now }
@@ -65,7 +64,7 @@ fn count_above(t: &ClassTable, tags: &[u32], counts: &[usize], class: ClassId) -
     }
 }
 
-/// How many attributes the class of each tag has, with those that it inherits. `Err` comes only for want of memory.
+/// The number of attributes of the class of each tag, with those that it inherits. Returns `Err` only if memory runs out.
 fn counts_of(
     alloc: Global,
     t: &ClassTable,
@@ -88,7 +87,7 @@ fn counts_of(
     Ok(counts)
 }
 
-/// The offsets of the attributes of each class, by feature. `Err` comes only for want of memory.
+/// The offsets of the attributes of each class, by feature. Returns `Err` only if memory runs out.
 pub(crate) fn offsets_of(
     alloc: Global,
     t: &ClassTable,

@@ -50,7 +50,7 @@ fn add_reversed(waiting: &mut Vec<ClassId>, classes: &[ClassId]) -> Result<(), A
     Ok(())
 }
 
-/// The classes in preorder. `Err` comes only for want of memory.
+/// The classes in preorder. Returns `Err` only if memory runs out.
 pub(crate) fn preorder(alloc: Global, t: &ClassTable) -> Result<Walk, AllocError>
     ensures rooted { OnOk result (IsRooted t.now) }
     ensures walk { IfOk result (λ walk. IsWalk t.now walk) }

@@ -26,7 +26,7 @@ const HEAD_WORDS: usize = 3;
 /// The size in words of the String of no bytes.
 const EMPTY_STRING_WORDS: usize = 5;
 
-/// What an attribute whose type is this class holds at first.
+/// The default value of an attribute whose type is this class.
 #[tactic(auto, unfolding(cool_runtime::specs::RoutineLabels::default_int, cool_runtime::specs::RoutineLabels::default_string, cool_runtime::specs::Labels::false_constant))]
 fn default_of_class(alloc: Global, t: &ClassTable, class: ClassId) -> Result<WordItem, AllocError>
     requires rooted { IsRooted t.now }
@@ -45,7 +45,7 @@ fn default_of_class(alloc: Global, t: &ClassTable, class: ClassId) -> Result<Wor
     }
 }
 
-/// What an attribute holds at first.
+/// The default value of an attribute.
 fn default_value(
     alloc: Global,
     t: &ClassTable,
@@ -61,7 +61,7 @@ fn default_value(
     }
 }
 
-/// What attributes hold at first.
+/// The default values of attributes.
 fn default_values(
     alloc: Global,
     t: &ClassTable,
@@ -78,7 +78,7 @@ fn default_values(
     Ok(fields)
 }
 
-/// What stands after the head of a new object of a class with these attributes.
+/// The fields after the head of a new object of a class with these attributes.
 fn new_fields(
     alloc: Global,
     t: &ClassTable,
@@ -99,7 +99,7 @@ fn new_fields(
     }
 }
 
-/// What stands after the head of the String of no bytes: its length, and a zero.
+/// The fields after the head of the empty String: its length, and a zero.
 #[tactic(auto, unfolding(cool_runtime::specs::RoutineLabels::default_int))]
 fn empty_string_fields(alloc: Global) -> Result<Vec<WordItem>, AllocError>
     ensures { IfOk result (λ fields. map item_of fields.items ≡ written.empty_string_fields) }
@@ -133,7 +133,7 @@ fn add_prototype(
     lines.append(&mut prototype)
 }
 
-/// Adds the prototypes of classes. `Err` comes only for want of memory.
+/// Adds the prototypes of classes. Returns `Err` only if memory runs out.
 pub(crate) fn add_prototypes(
     alloc: Global,
     lines: &mut Vec<Line>,
@@ -157,7 +157,7 @@ pub(crate) fn add_prototypes(
     Ok(())
 }
 
-/// Adds the Int 0 and the String of no bytes. `Err` comes only for want of memory.
+/// Adds the Int 0 and the empty String. Returns `Err` only if memory runs out.
 #[tactic(auto, unfolding(cool_runtime::specs::RoutineLabels::default_int, cool_runtime::specs::RoutineLabels::default_string, cool_runtime::specs::Labels::string_table))]
 pub(crate) fn add_defaults(
     alloc: Global,

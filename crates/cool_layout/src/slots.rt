@@ -90,7 +90,7 @@ fn inherited_slot(tables: &[Table], above: Option<usize>, name: &[u8]) -> Option
     }
 }
 
-/// Adds a method of the class's own. `Err` comes only for want of memory.
+/// Adds a method of the class's own. Returns `Err` only if memory runs out.
 pub(crate) fn add_method(
     alloc: Global,
     t: &ClassTable,
@@ -111,7 +111,7 @@ pub(crate) fn add_method(
     add_own(alloc, table, inherited, name, method)
 }
 
-/// Adds the methods among the features of a class. `Err` comes only for want of memory.
+/// Adds the methods among the features of a class. Returns `Err` only if memory runs out.
 fn add_features(
     alloc: Global,
     t: &ClassTable,
@@ -141,7 +141,7 @@ fn add_features(
     Ok(())
 }
 
-/// A table with the slots of the one above it, and no method of its own. `Err` comes only for want of memory.
+/// A table with the slots of the one above it, and no method of its own. Returns `Err` only if memory runs out.
 fn start_table(
     alloc: Global,
     t: &ClassTable,
@@ -166,7 +166,7 @@ fn start_table(
     })
 }
 
-/// Adds the methods that a class has of its own. `Err` comes only for want of memory.
+/// Adds the methods that a class has of its own. Returns `Err` only if memory runs out.
 fn add_all_own(
     alloc: Global,
     t: &ClassTable,
@@ -202,7 +202,7 @@ pub(crate) fn tag_above(t: &ClassTable, tags: &[u32], class: ClassId) -> Option<
     }
 }
 
-/// The tables of all classes, by their tags. `Err` comes only for want of memory.
+/// The tables of all classes, by their tags. Returns `Err` only if memory runs out.
 pub(crate) fn tables_of(
     alloc: Global,
     t: &ClassTable,

@@ -31,7 +31,7 @@ fn name_addresses(alloc: Global, order: &[ClassId]) -> Result<Vec<WordItem>, All
     Ok(items)
 }
 
-/// Adds the table of the names of classes. `Err` comes only for want of memory.
+/// Adds the table of the names of classes. Returns `Err` only if memory runs out.
 #[tactic(auto, unfolding(cool_runtime::specs::Labels::name_table))]
 pub(crate) fn add_class_names(
     alloc: Global,
@@ -64,7 +64,7 @@ fn add_class_object(
     Ok(())
 }
 
-/// Adds the table of the prototypes and the initializers of classes. `Err` comes only for want of memory.
+/// Adds the table of the prototypes and the initializers of classes. Returns `Err` only if memory runs out.
 #[tactic(auto, unfolding(cool_runtime::specs::RoutineLabels::class_objects))]
 pub(crate) fn add_class_objects(
     alloc: Global,
@@ -118,7 +118,7 @@ fn add_dispatch_table(
     Ok(())
 }
 
-/// Adds the dispatch tables of classes. `Err` comes only for want of memory.
+/// Adds the dispatch tables of classes. Returns `Err` only if memory runs out.
 pub(crate) fn add_dispatch_tables(
     alloc: Global,
     lines: &mut Vec<Line>,

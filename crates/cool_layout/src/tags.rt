@@ -11,7 +11,7 @@ use crate::order::Walk;
 use cool_classes::{ClassId, ClassTable};
 use std::alloc::{AllocError, Global};
 
-/// The tag of each class: its place in preorder. `Err` comes only for want of memory.
+/// The tag of each class: its place in preorder. Returns `Err` only if memory runs out.
 pub(crate) fn tags_of(alloc: Global, t: &ClassTable, walk: &Walk) -> Result<Vec<u32>, AllocError>
     requires rooted { IsRooted t.now }
     requires walk { IsWalk t.now walk.now }
@@ -40,7 +40,7 @@ fn last_tag(t: &ClassTable, walk: &Walk, tags: &[u32], class: ClassId) -> u32
     }
 }
 
-/// The last tag of each class. `Err` comes only for want of memory.
+/// The last tag of each class. Returns `Err` only if memory runs out.
 pub(crate) fn lasts_of(
     alloc: Global,
     t: &ClassTable,

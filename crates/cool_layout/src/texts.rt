@@ -37,7 +37,7 @@ fn add_name(
     lines.append(&mut string)
 }
 
-/// Adds the Strings of the names of classes. `Err` comes only for want of memory.
+/// Adds the Strings of the names of classes. Returns `Err` only if memory runs out.
 pub(crate) fn add_names(
     alloc: Global,
     lines: &mut Vec<Line>,
@@ -73,7 +73,7 @@ fn add_all(alloc: Global, lines: &mut Vec<Line>, texts: &[Text<'_>]) -> Result<(
     Ok(())
 }
 
-/// Adds the texts that routines write. `Err` comes only for want of memory.
+/// Adds the texts that routines write. Returns `Err` only if memory runs out.
 #[tactic(auto, unfolding(cool_runtime::specs::Labels::end_text, cool_runtime::specs::Labels::abort_text, cool_runtime::specs::Labels::newline_text, cool_runtime::specs::Labels::colon_text, cool_runtime::specs::Labels::no_branch_text, cool_runtime::specs::Labels::stop_text, cool_runtime::specs::RoutineLabels::dispatch_text, cool_runtime::specs::RoutineLabels::case_text, cool_runtime::specs::RoutineLabels::division_text, cool_runtime::specs::RoutineLabels::substring_text, cool_runtime::specs::RoutineLabels::overflow_text))]
 pub(crate) fn add_texts(alloc: Global, lines: &mut Vec<Line>) -> Result<(), AllocError>
     ensures { OnOk result (lines_of lines.new.items ≡ lines_of lines.old.items ++ written.texts_lines) }

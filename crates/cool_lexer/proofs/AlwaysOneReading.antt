@@ -66,7 +66,7 @@ at_rest [] file bytes at tokens run place is read further = inl (tokens, lexes f
 at_rest (b ∷ bs) file bytes at tokens run place is read further =
     at_front (front_of (class_of b) b bs) file bytes at tokens run place read (subst (λ (l : List ℕ). Begins l (front_of (class_of b) b bs)) is (begins b bs)) further
 
--- from each place on there is a reading
+-- there is a reading from each place on
 reading : (fuel : ℕ) (file : ℕ) (bytes : List ℕ) (at : ℕ) (tokens : List Token) (run : Run) (place : Place) → length bytes ≤ at + fuel → IsRead file bytes at tokens run place → HasReading file bytes
 reading zero file bytes at tokens run place l read = inl (tokens, lexes file bytes at tokens run place read (omega arith))
 reading (suc fuel) file bytes at tokens run place l read =

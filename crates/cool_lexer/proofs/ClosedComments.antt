@@ -4,7 +4,7 @@ use Rattle.std.specs.Prelude.{Option, Some, None, option_map}
 use Rattle.std.proofs.lemmas.List.{take-append-drop}
 use Rattle.cool_syntax.specs.Lexemes.{Mark, Opens, Closes, Plain, mark, depth_after, more_bytes, ended, comment_size}
 
--- what is there stays
+-- a value that is there stays
 abbrev Kept : Option ℕ → Option ℕ → Type 0
 Kept o more = (o ≡ None) ⊎ (more ≡ o)
 
@@ -21,7 +21,7 @@ kept_ended Closes zero o more h = kept_more o more h
 kept_ended Closes (suc zero) o more h = inr refl
 kept_ended Closes (suc (suc d)) o more h = kept_more o more h
 
--- what is closed in a text is closed at the same place in a longer one
+-- a comment that is closed in a text is closed at the same place in a longer one
 kept : (d k : ℕ) (xs ys : List ℕ) → Kept (comment_size d k xs) (comment_size d k (xs ++ ys))
 kept d k [] ys = inl refl
 kept d (suc k) (b ∷ xs) ys = kept_more _ _ (kept d k xs ys)
@@ -49,7 +49,7 @@ one_less (Some m) n h = (m, refl, cc)
 abbrev Ends : Mark → ℕ → Option ℕ → ℕ → Type 0
 Ends m d o n = ((n ≡ 2) × ((x : Option ℕ) → ended m d x ≡ Some 2)) ⊎ ((k : ℕ) × (o ≡ Some k) × (n ≡ k + 1))
 
--- where a comment is closed, one of the two holds
+-- if a comment is closed, one of the two holds
 ends : (m : Mark) (d : ℕ) (o : Option ℕ) (n : ℕ) → ended m d o ≡ Some n → Ends m d o n
 ends Opens d o n h = inr (one_less o n h)
 ends Plain d o n h = inr (one_less o n h)

@@ -18,7 +18,7 @@ fold_grows n (b ∷ bs) = omega (arith, fold_grows (step n b) bs)
 above : (n : ℕ) → 2147483647 < n → None ≡ within_limit n
 above n h = grind (arith, nat_tests)
 
--- where the digits up to one are above the limit, so are all
+-- if the digits up to one are above the limit, so are all
 pub too_large : (bs : List ℕ) (i high before : ℕ) → i < length bs → fold step before (drop i bs) ≡ fold step high bs → 2147483647 < step before (get_or bs i 0) → None ≡ within_limit (fold step high bs)
 too_large bs i high before h e large =
     let split : fold step before (drop i bs) ≡ fold step (step before (get_or bs i 0)) (drop (suc i) bs) = ap (fold step before) (drop-cons bs i 0 h) in

@@ -1,4 +1,4 @@
--- What the scanning functions find is the item or the fault that the text begins with.
+-- The scanning functions return the item or the fault that the text begins with.
 use Rattle.std.proofs.Common.{◌≡◌, ◌∙◌, sym, ap, refl, arith, ℕ, zero, suc, ◌+◌, ◌≤◌, Bool, true, false, List, [], ◌∷◌, length, take, length-take}
 use Rattle.std.specs.Prelude.{Option, Some, None, ◌==◌, ◌&&◌, nat_lt, if◌then◌else◌}
 use Rattle.std.specs.List.{list_all, prefix_len, take_while}
@@ -37,21 +37,21 @@ angle_longest [] (suc (suc m)) other l h = absurd (omega arith)
 angle_longest (b ∷ []) (suc (suc m)) other l h = absurd (omega arith)
 angle_longest (b ∷ c ∷ bs) (suc (suc m)) other l h = absurd (cc)
 
--- `<` alone is the longest where no `=` and no `-` follows
+-- `<` by itself is the longest if no `=` and no `-` follows
 less_longest : (b : ℕ) (bs : List ℕ) (m : ℕ) (other : Form) → (b == 61) ≡ false → (b == 45) ≡ false → m ≤ length (b ∷ bs) → angle (take m (b ∷ bs)) ≡ Some other → m ≤ 0
 less_longest b bs zero other no_equal no_dash l h = omega arith
 less_longest b bs (suc zero) other no_equal no_dash l h = absurd (let none : angle (b ∷ []) ≡ None = rw (no_equal, no_dash) refl in cc)
 less_longest b [] (suc (suc m)) other no_equal no_dash l h = absurd (omega arith)
 less_longest b (c ∷ bs) (suc (suc m)) other no_equal no_dash l h = absurd (cc)
 
--- what `<` begins, by the byte after it
+-- the item that `<` begins, by the byte after it
 angle_by : (a : ℕ) (b : ℕ) (bs : List ℕ) (e d : Bool) → (b == 61) ≡ e → (b == 45) ≡ d
     → IsFront Angle a (b ∷ bs) (if e then single_front sign.LessEqual 1 else (if d then single_front sign.Arrow 1 else single_front sign.Less 0))
 angle_by a b bs true d is_equal is_dash = record { good = refl; within = omega arith; is_form = rw is_equal refl; longest = λ m other l h. angle_longest (b ∷ bs) m other l h }
 angle_by a b bs false true is_equal is_dash = record { good = refl; within = omega arith; is_form = rw (is_equal, is_dash) refl; longest = λ m other l h. angle_longest (b ∷ bs) m other l h }
 angle_by a b bs false false is_equal is_dash = record { good = refl; within = omega arith; is_form = refl; longest = λ m other l h. less_longest b bs m other is_equal is_dash l h }
 
--- what `<` begins
+-- the item that `<` begins
 angle_is : (a : ℕ) (bs : List ℕ) → IsFront Angle a bs (angle_front bs)
 angle_is a [] = record { good = refl; within = omega arith; is_form = refl; longest = λ m other l h. omega arith }
 angle_is a (b ∷ bs) = angle_by a b bs (b == 61) (b == 45) refl refl
@@ -64,29 +64,29 @@ equals_longest [] (suc (suc m)) other l h = absurd (omega arith)
 equals_longest (b ∷ []) (suc (suc m)) other l h = absurd (omega arith)
 equals_longest (b ∷ c ∷ bs) (suc (suc m)) other l h = absurd (cc)
 
--- `=` alone is the longest where no `>` follows
+-- `=` by itself is the longest if no `>` follows
 equal_longest : (b : ℕ) (bs : List ℕ) (m : ℕ) (other : Form) → (b == 62) ≡ false → m ≤ length (b ∷ bs) → equals (take m (b ∷ bs)) ≡ Some other → m ≤ 0
 equal_longest b bs zero other no_angle l h = omega arith
 equal_longest b bs (suc zero) other no_angle l h = absurd (let none : equals (b ∷ []) ≡ None = rw no_angle refl in cc)
 equal_longest b [] (suc (suc m)) other no_angle l h = absurd (omega arith)
 equal_longest b (c ∷ bs) (suc (suc m)) other no_angle l h = absurd (cc)
 
--- what `=` begins, by the byte after it
+-- the item that `=` begins, by the byte after it
 equals_by : (a : ℕ) (b : ℕ) (bs : List ℕ) (e : Bool) → (b == 62) ≡ e → IsFront Equals a (b ∷ bs) (if e then single_front sign.FatArrow 1 else single_front sign.Equal 0)
 equals_by a b bs true is_angle = record { good = refl; within = omega arith; is_form = rw is_angle refl; longest = λ m other l h. equals_longest (b ∷ bs) m other l h }
 equals_by a b bs false is_angle = record { good = refl; within = omega arith; is_form = refl; longest = λ m other l h. equal_longest b bs m other is_angle l h }
 
--- what `=` begins
+-- the item that `=` begins
 equals_is : (a : ℕ) (bs : List ℕ) → IsFront Equals a bs (equals_front bs)
 equals_is a [] = record { good = refl; within = omega arith; is_form = refl; longest = λ m other l h. omega arith }
 equals_is a (b ∷ bs) = equals_by a b bs (b == 62) refl
 
--- what `*` begins, by the byte after it
+-- the item that `*` begins, by the byte after it
 star_by : (a : ℕ) (b : ℕ) (bs : List ℕ) (e : Bool) → (b == 41) ≡ e → IsFront Star a (b ∷ bs) (if e then Fault L6 0 else single_front sign.Star 0)
 star_by a b bs true closes = (rw closes refl, omega arith)
 star_by a b bs false closes = record { good = rw closes refl; within = omega arith; is_form = refl; longest = λ m other l h. alone_longest _ (b ∷ bs) m other l h }
 
--- what `*` begins
+-- the item that `*` begins
 star_is : (a : ℕ) (bs : List ℕ) → IsFront Star a bs (star_front bs)
 star_is a [] = record { good = refl; within = omega arith; is_form = refl; longest = λ m other l h. omega arith }
 star_is a (b ∷ bs) = star_by a b bs (b == 41) refl
@@ -103,7 +103,7 @@ comment_holds : (holds : Bool) (f : Form) → comment_if holds ≡ Some f → ho
 comment_holds true f h = refl
 comment_holds false f h = absurd (cc)
 
--- what a capital letter begins
+-- the item that a capital letter begins
 capital_is : (b : ℕ) (bs : List ℕ) → IsFront Capital b bs (front_of Capital b bs)
 capital_is b bs = record {
   good = refl;
@@ -112,7 +112,7 @@ capital_is b bs = record {
   longest = λ m other l h. no_longer is_in_word bs m l (lexeme_holds _ _ _ h);
 }
 
--- what a small letter begins
+-- the item that a small letter begins
 small_is : (b : ℕ) (bs : List ℕ) → IsFront Small b bs (front_of Small b bs)
 small_is b bs = record {
   good = refl;
@@ -125,7 +125,7 @@ small_is b bs = record {
 digits : (b : ℕ) (bs : List ℕ) → is_digit b ≡ true → take_while is_digit (b ∷ bs) ≡ b ∷ take (prefix_len is_digit bs) bs
 digits b bs h = take_while-cons is_digit b bs ∙ ap (λ e. if e then b ∷ take_while is_digit bs else []) h
 
--- what a digit begins, by whether its number is above the limit
+-- the item that a digit begins, by whether its number is above the limit
 number_by : (b : ℕ) (bs : List ℕ) (e : Bool) → is_digit b ≡ true → nat_lt 2147483647 (value (b ∷ take (prefix_len is_digit bs) bs)) ≡ e
     → IsFront Digit b bs (integer_front (if e then None else Some (value (b ∷ take (prefix_len is_digit bs) bs))) (prefix_len is_digit bs))
 number_by b bs true h over = (ap (λ ds. fault_if (nat_lt 2147483647 (value ds)) L7) (digits b bs h) ∙ ap (λ e. fault_if e L7) over, omega arith)
@@ -138,7 +138,7 @@ number_by b bs false h over = record {
 
 -- Strings
 
--- what a quote begins
+-- the item that a quote begins
 string_is : (b : ℕ) (bs : List ℕ) (r : Front) → Stands false 1 [] bs r → IsFront Quote b bs r
 string_is b bs (Fault k o) s = (s.0, omega (arith, s.1))
 string_is b bs (Item f n) s =
@@ -152,7 +152,7 @@ string_is b bs (Item f n) s =
 
 -- Comments
 
--- `-` alone is the longest where no `-` follows
+-- `-` by itself is the longest if no `-` follows
 dash_longest : (b : ℕ) (bs : List ℕ) (m : ℕ) (other : Form) → (b == 45) ≡ false → m ≤ length (b ∷ bs) → dash (take m (b ∷ bs)) ≡ Some other → m ≤ 0
 dash_longest b bs zero other no_dash l h = omega arith
 dash_longest b bs (suc m) other no_dash l h =
@@ -170,7 +170,7 @@ line_longest b bs (suc m) other l h =
 line_form : (b : ℕ) (bs : List ℕ) (n : ℕ) → (b == 45) ≡ true → list_all (takes span.Line) (take n bs) ≡ true → dash (take (suc n) (b ∷ bs)) ≡ Some Comment
 line_form b bs n is_dash all = ap (λ e. comment_if (e && list_all (takes span.Line) (take n bs))) is_dash ∙ ap comment_if all
 
--- what `-` begins, by the byte after it
+-- the item that `-` begins, by the byte after it
 dash_by : (a : ℕ) (b : ℕ) (bs : List ℕ) (e : Bool) → (b == 45) ≡ e → IsFront Dash a (b ∷ bs) (if e then Item scan.Comment (1 + prefix_len (takes span.Line) bs) else single_front sign.Minus 0)
 dash_by a b bs true is_dash =
     let next : 1 + prefix_len (takes span.Line) bs ≡ suc (prefix_len (takes span.Line) bs) = omega arith in
@@ -182,12 +182,12 @@ dash_by a b bs true is_dash =
     }
 dash_by a b bs false is_dash = record { good = refl; within = omega arith; is_form = refl; longest = λ m other l h. dash_longest b bs m other is_dash l h }
 
--- what `-` begins
+-- the item that `-` begins
 dash_is : (a : ℕ) (bs : List ℕ) → IsFront Dash a bs (dash_front bs)
 dash_is a [] = record { good = refl; within = omega arith; is_form = refl; longest = λ m other l h. omega arith }
 dash_is a (b ∷ bs) = dash_by a b bs (b == 45) refl
 
--- `(` alone is the longest where no `*` follows
+-- `(` by itself is the longest if no `*` follows
 paren_longest : (b : ℕ) (bs : List ℕ) (m : ℕ) (other : Form) → (b == 42) ≡ false → m ≤ length (b ∷ bs) → open_sign (take m (b ∷ bs)) ≡ Some other → m ≤ 0
 paren_longest b bs zero other no_star l h = omega arith
 paren_longest b bs (suc m) other no_star l h =
@@ -215,7 +215,7 @@ block_form b bs n is_star within is =
     let whole : (n == length (take n bs)) ≡ true = grind (arith, nat_tests, length-take n bs) in
     ap (λ e. comment_if (e && is_whole (comment_size 1 0 (take n bs)) (take n bs))) is_star ∙ ap (λ o. comment_if (is_whole o (take n bs))) is ∙ ap comment_if whole
 
--- what `(*` begins, by whether it is closed
+-- the item that `(*` begins, by whether it is closed
 block_by : (a : ℕ) (b : ℕ) (bs : List ℕ) (o : Option ℕ) → (b == 42) ≡ true → comment_size 1 0 bs ≡ o → IsFront Open a (b ∷ bs) (block_front o)
 block_by a b bs None is_star is = (rw (is_star, is) refl, omega arith)
 block_by a b bs (Some n) is_star is =
@@ -228,12 +228,12 @@ block_by a b bs (Some n) is_star is =
       longest = λ m other l h. block_longest b bs m n other is l h;
     }
 
--- what `(` begins, by the byte after it
+-- the item that `(` begins, by the byte after it
 open_by : (a : ℕ) (b : ℕ) (bs : List ℕ) (e : Bool) → (b == 42) ≡ e → IsFront Open a (b ∷ bs) (if e then block_front (comment_size 1 0 bs) else single_front sign.LParen 0)
 open_by a b bs true is_star = block_by a b bs (comment_size 1 0 bs) is_star refl
 open_by a b bs false is_star = record { good = rw is_star refl; within = omega arith; is_form = refl; longest = λ m other l h. paren_longest b bs m other is_star l h }
 
--- what `(` begins
+-- the item that `(` begins
 open_is : (a : ℕ) (bs : List ℕ) → IsFront Open a bs (open_front bs)
 open_is a [] = record { good = refl; within = omega arith; is_form = refl; longest = λ m other l h. omega arith }
 open_is a (b ∷ bs) = open_by a b bs (b == 42) refl
@@ -260,7 +260,7 @@ neither : (test : Bool) (c d : Class) → (c ≡ Digit → ⊥) → (d ≡ Digit
 neither true c d h k = h
 neither false c d h k = k
 
--- after the tests of letters Digit comes by its test alone
+-- after the tests of letters, `Digit` depends only on its own test
 digit_by : (capital small digit : Bool) (c : Class) → (c ≡ Digit → ⊥) → (if capital then Capital else (if small then Small else (if digit then Digit else c))) ≡ Digit → digit ≡ true
 digit_by true small digit c h is = absurd (cc)
 digit_by false true digit c h is = absurd (cc)

@@ -1,4 +1,4 @@
--- Items: what is found at a front is one, there is one at most, and each has a byte.
+-- Items: the text found at a front is one, there is at most one, and each has a byte.
 use Rattle.std.proofs.Common.{◌≡◌, ◌∙◌, sym, ap, subst, arith, ℕ, zero, suc, ◌+◌, ◌-◌, ◌<◌, ◌≤◌, List, [], ◌∷◌, length, take, drop, get_or}
 use Rattle.std.specs.Prelude.{Some}
 use Rattle.cool_syntax.specs.Lexemes.{Form, class_of, form}

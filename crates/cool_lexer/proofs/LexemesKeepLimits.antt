@@ -115,32 +115,32 @@ either : (test : Bool) (x y : Front) → Keeps x → Keeps y → Keeps (if test 
 either true x y h k = h
 either false x y h k = k
 
--- what `<` begins
+-- the item that `<` begins
 angle_keeps : (bs : List ℕ) → Keeps (angle_front bs)
 angle_keeps [] = tt
 angle_keeps (b ∷ bs) = either (b == 61) _ _ tt (either (b == 45) _ _ tt tt)
 
--- what `=` begins
+-- the item that `=` begins
 equals_keeps : (bs : List ℕ) → Keeps (equals_front bs)
 equals_keeps [] = tt
 equals_keeps (b ∷ bs) = either (b == 62) _ _ tt tt
 
--- what `*` begins
+-- the item that `*` begins
 star_keeps : (bs : List ℕ) → Keeps (star_front bs)
 star_keeps [] = tt
 star_keeps (b ∷ bs) = either (b == 41) _ _ tt tt
 
--- what `-` begins
+-- the item that `-` begins
 dash_keeps : (bs : List ℕ) → Keeps (dash_front bs)
 dash_keeps [] = tt
 dash_keeps (b ∷ bs) = either (b == 45) _ _ tt tt
 
--- what `(*` begins
+-- the item that `(*` begins
 block_keeps : (o : Option ℕ) → Keeps (block_front o)
 block_keeps None = tt
 block_keeps (Some n) = tt
 
--- what `(` begins
+-- the item that `(` begins
 open_keeps : (bs : List ℕ) → Keeps (open_front bs)
 open_keeps [] = tt
 open_keeps (b ∷ bs) = either (b == 42) _ _ (block_keeps (comment_size 1 0 bs)) tt

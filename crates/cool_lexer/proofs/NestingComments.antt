@@ -44,17 +44,17 @@ shift_one : (o : Option ℕ) (at : ℕ) → option_map (λ n. n + at) (option_ma
 shift_one None at = refl
 shift_one (Some n) at = ap Some (omega arith)
 
--- where a comment opens, closes or goes on, d comments open
+-- a comment opens, and d comments are open
 pub over_opening : (bs : List ℕ) (d at : ℕ) → mark (drop at bs) ≡ Opens → option_map (λ n. n + at) (comment_size d 0 (drop at bs)) ≡ option_map (λ n. n + (at + 2)) (comment_size (d + 1) 0 (drop (at + 2) bs))
 over_opening bs d at h =
     ap (option_map (λ n. n + at)) (opens_step (drop at bs) d h) ∙ shift_two _ at ∙ ap (λ l. option_map (λ n. n + (at + 2)) (comment_size (d + 1) 0 l)) (drop-drop 2 at bs)
 
--- where a comment closes that is not the outermost
+-- a comment closes that is not the outermost
 pub over_closing : (bs : List ℕ) (d at : ℕ) → 2 ≤ d → mark (drop at bs) ≡ Closes → option_map (λ n. n + at) (comment_size d 0 (drop at bs)) ≡ option_map (λ n. n + (at + 2)) (comment_size (d - 1) 0 (drop (at + 2) bs))
 over_closing bs d at l h =
     ap (option_map (λ n. n + at)) (closes_step (drop at bs) d l h) ∙ shift_two _ at ∙ ap (λ x. option_map (λ n. n + (at + 2)) (comment_size (d - 1) 0 x)) (drop-drop 2 at bs)
 
--- where none opens or closes
+-- no comment opens or closes
 pub over_plain : (bs : List ℕ) (d at : ℕ) → at < length bs → mark (drop at bs) ≡ Plain → option_map (λ n. n + at) (comment_size d 0 (drop at bs)) ≡ option_map (λ n. n + (at + 1)) (comment_size d 0 (drop (at + 1) bs))
 over_plain bs d at l h =
     ap (option_map (λ n. n + at)) (plain_step (drop at bs) d (omega (arith, length-drop at bs)) h) ∙ shift_one _ at ∙ ap (λ x. option_map (λ n. n + (at + 1)) (comment_size d 0 x)) (drop-drop 1 at bs)

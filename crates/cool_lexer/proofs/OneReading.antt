@@ -40,13 +40,13 @@ cut_same file bytes at rest (i ∷ is) (j ∷ js) to h k =
 pub one_cutting : (file : ℕ) (bytes : List ℕ) (ts us : List Token) → Lexes file bytes ts → Lexes file bytes us → ts ≡ us
 one_cutting file bytes ts us a b = a.lexemes ∙ cut_same file bytes 0 bytes a.items b.items (length bytes) a.leads b.leads ∙ sym b.lexemes
 
--- where something shows a fault, no item goes on
+-- if something shows a fault, no item goes on
 full_run : (f : Form) (p : Place) (r : Run) (g : Form) → g ≡ f → (t : Token) → token_of g p ≡ t ∷ [] → FitsRuns r (token_of f p) → r.length < MOST_TOKENS
 full_run f p r g same t is fits =
     let there : FitsRuns r (t ∷ []) = subst (FitsRuns r) (sym (ap (λ x. token_of x p) same) ∙ is) fits in
     there.0
 
--- where a fault shows, no good item stands that fits its run
+-- if a fault shows, no good item stands that fits its run
 shown_stops : (file : ℕ) (bytes : List ℕ) (at : ℕ) (rest : List ℕ) (r : Run) (k : LexKind) (p q : Place) (f : Form) (n : ℕ) → Shows file bytes at rest r k p → IsItem rest f n → FitsRuns r (token_of f q) → ⊥
 shown_stops file bytes at rest r k p q f n (inl h) item fits = absurd (let good = item.good in let bad = h.1 in cc)
 shown_stops file bytes at rest r k p q f n (inr h) item fits =
@@ -67,7 +67,7 @@ shown_same file bytes at rest r k l p q (inl h) (inr g) = absurd (let bad = h.1 
 shown_same file bytes at rest r k l p q (inr h) (inl g) = absurd (let bad = g.1 in let item = h.2 in let good = item.good in cc)
 shown_same file bytes at rest r k l p q (inr h) (inr g) = (h.4 ∙ sym g.4, h.5 ∙ sym g.5)
 
--- what shows at the end of no items shows where they began
+-- a fault that shows at the end of no items shows where they began
 shows_here : (file : ℕ) (bytes : List ℕ) (at to : ℕ) (rest left : List ℕ) (r : Run) (k : LexKind) (p : Place) → at ≡ to → rest ≡ left → Shows file bytes to left r k p → Shows file bytes at rest r k p
 shows_here file bytes at to rest left r k p e d h =
     subst (λ (n : ℕ). Shows file bytes n rest r k p) (sym e) (subst (λ (l : List ℕ). Shows file bytes to l r k p) (sym d) h)

@@ -1,4 +1,4 @@
--- What the lexer knows at a place of the text, and how it goes on, ends and stops.
+-- The state of the lexer at a place of the text (`IsRead`), and how it goes on, ends and stops.
 use Rattle.std.proofs.Common.{◌≡◌, ◌∙◌, sym, ap, refl, subst, arith, inl, inr, ℕ, zero, suc, ◌+◌, ◌≤◌, List, [], ◌∷◌, ◌++◌, length, take, drop, length-drop}
 use Rattle.std.specs.Prelude.{Some}
 use Rattle.std.specs.List.{count_by}

@@ -1,4 +1,4 @@
--- What is found at the front of a string is its constant or its fault, and no longer text has a constant.
+-- The text found at the front of a string is its constant or its fault, and no longer text has a constant.
 use Rattle.std.proofs.Common.{◌≡◌, ◌∙◌, ap, refl, arith, ℕ, zero, suc, ◌+◌, ◌≤◌, Bool, true, false, List, [], ◌∷◌, ◌++◌, length, take, append_assoc, length-append}
 use Rattle.std.specs.Prelude.{Option, Some, None, option_map, ◌==◌, if◌then◌else◌}
 use Rattle.cool_syntax.specs.declared.TheConstants.{MOST_BYTES}
@@ -32,7 +32,7 @@ pass e next o held more b bs meant same goes all (Item f n) s =
 faults : (p : Piece) (e : Bool) (o held b : ℕ) (bs : List ℕ) → piece e b ≡ p → string_fault e o held (b ∷ bs) ≡ shown p o held (string_fault (is_backslash p) (o + 1) (lexical.held_after p held) bs)
 faults p e o held b bs h = ap (λ q. shown q o held (string_fault (is_backslash q) (o + 1) (lexical.held_after q held) bs)) h
 
--- what a text with this piece in front denotes
+-- the constant of a text with this piece in front
 denotes : (p : Piece) (e : Bool) (b : ℕ) (bs : List ℕ) → piece e b ≡ p → constant e (b ∷ bs) ≡ denoted p bs (constant (is_backslash p) bs)
 denotes p e b bs h = ap (λ q. denoted q bs (constant (is_backslash q) bs)) h
 

@@ -46,7 +46,7 @@ abbrev HasAtMost : Option (List ℕ) → ℕ → Type 0
 HasAtMost None n = Unit {0}
 HasAtMost (Some cs) n = length cs ≤ n
 
--- what a text denotes has no more bytes than it
+-- the constant of a text has no more bytes than the text
 no_less : (o : Option (List ℕ)) (n : ℕ) → HasAtMost o n → HasAtMost o (suc n)
 no_less None n h = tt
 no_less (Some cs) n h = omega (arith, h)

@@ -1,4 +1,4 @@
--- What an error of the lexer says of the file.
+-- The meaning of a lexer's error: the first fault of the file.
 use Rattle.std.specs.Prelude.{ℕ, List}
 use Rattle.cool_syntax.specs.LexicalStructure as lexical
 use Rattle.cool_lexer.specs.declared.error.LexError.{LexError}

@@ -1,5 +1,5 @@
--- What the scanning functions find at the front of a text: for each class the item or the fault, as a function of the bytes after
--- the first. That it is the item or the fault of Cool's lexical structure is proved, not said here.
+-- The results of the scanning functions at the front of a text: for each class the item or the fault, as a function of the bytes after the first. A proof
+-- shows that it is the item or the fault of Cool's lexical structure; it is not assumed here.
 use Rattle.std.specs.Prelude.{◌≡◌, ℕ, ◌+◌, ◌≤◌, Bool, false, not, ◌==◌, nat_lt, if◌then◌else◌, List, [], ◌∷◌, ◌++◌, length, take, Option, Some, None}
 use Rattle.std.specs.List.{prefix_len}
 use Rattle.cool_syntax.specs.declared.TheConstants.{MOST_BYTES}
@@ -16,7 +16,7 @@ use Rattle.cool_lexer.specs.declared.span.Span.{Span}
 use Rattle.cool_lexer.specs.declared.span.Span.TheVariants as span
 use Rattle.cool_lexer.specs.Views.{form_seen}
 
--- which bytes a span takes
+-- the bytes that a span takes
 abbrev pub takes : Span → ℕ → Bool
 takes span.Word b = lexemes.is_in_word b
 takes span.Digits b = lexemes.is_digit b
@@ -56,7 +56,7 @@ number_front b bs = integer_front (within_limit (lexemes.value (b ∷ take (pref
 
 -- Strings
 
--- the front that this piece decides, with the constant so far; rest is that of what follows
+-- the front that this piece decides, with the constant so far; rest is that of the bytes that follow
 abbrev pub piece_front : lexemes.Piece → ℕ → List ℕ → Front → Front
 piece_front lexemes.Ends offset held rest = Item (scan.Lexeme (kind.Str held)) offset
 piece_front lexemes.Newline offset held rest = Fault L2 0

@@ -1,4 +1,4 @@
--- What the lexer's laws say of the definition.
+-- The statement of the lexer's laws about the definition: each file has a reading.
 use Rattle.std.specs.Prelude.{◌⊎◌, ℕ, List}
 use Rattle.cool_syntax.specs.declared.place.Place.{Place}
 use Rattle.cool_syntax.specs.declared.token.Token.{Token}

@@ -1,4 +1,4 @@
--- What one step of the lexer does: it reads one item, or stops at a fault.
+-- One step of the lexer: it reads one item, or stops at a fault.
 use Rattle.std.specs.Prelude.{◌≡◌, ◌⊎◌, ℕ, ◌+◌, ◌≤◌, Bool, ◌==◌, List, ◌++◌, length, take}
 use Rattle.std.specs.List.{count_by}
 use Rattle.cool_syntax.specs.declared.TheConstants.{MOST_TOKENS}
@@ -48,7 +48,7 @@ Stops rest old (error.Fault f) =
     ((offset : ℕ) × (offset ≤ length rest) × (fault rest ≡ fault_at f.kind offset) × (f.at ≡ place_after old.place (take offset rest)))
     ⊎ ((lexeme : TokenKind) × (size : ℕ) × IsItem rest (Lexeme lexeme) size × (old.run.length ≡ MOST_TOKENS) × (f.kind ≡ L8) × (f.at ≡ old.place))
 
--- A fault left the tokens as they were; want of memory says nothing of them.
+-- A fault left the tokens as they were; if memory ran out, nothing is said of them.
 abbrev pub Stays : Reading → Reading → LexError → Type 0
 Stays old new error.Memory = Unit {0}
 Stays old new (error.Fault f) = new.tokens ≡ old.tokens

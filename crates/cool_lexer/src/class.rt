@@ -1,4 +1,4 @@
-//! Classes of bytes: what a byte begins.
+//! Classes of bytes: the items that a byte can begin.
 
 ghost use Rattle.std.specs.Prelude.{◌≡◌};
 ghost use Rattle.cool_syntax.specs.Lexemes as lexemes;
@@ -6,7 +6,7 @@ ghost use Rattle.cool_lexer.specs.Views.{class_seen};
 
 use cool_syntax::Sign;
 
-/// What the first byte of an item is.
+/// The class of the first byte of an item.
 pub(crate) enum Class {
     Capital,
     Small,

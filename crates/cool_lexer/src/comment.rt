@@ -10,7 +10,7 @@ use crate::sign::sign;
 use crate::span::{Span, span_len};
 use cool_syntax::{LexKind, Sign};
 
-/// What `-` begins: a comment up to the end of the line, or the sign.
+/// The item that `-` begins: a comment up to the end of the line, or the sign.
 pub(crate) fn dash_at(tail: &[u8]) -> Front
     ensures { result ≡ dash_front tail.now }
 {
@@ -23,7 +23,7 @@ pub(crate) fn dash_at(tail: &[u8]) -> Front
     }
 }
 
-/// What `(` begins: a block comment, `L5` where it is never closed, or the sign.
+/// The item that `(` begins: a block comment, `L5` if it is never closed, or the sign.
 pub(crate) fn open_at(tail: &[u8]) -> Front
     ensures { result ≡ open_front tail.now }
 {
@@ -42,7 +42,7 @@ pub(crate) fn open_at(tail: &[u8]) -> Front
     }
 }
 
-/// How many bytes there are inside a block comment, its `*)` included; `None` where it is never closed. Comments nest.
+/// The number of bytes inside a block comment, its `*)` included; `None` if it is never closed. Comments nest.
 fn comment_len(inside: &[u8]) -> Option<usize>
     ensures len { result ≡ lexemes.comment_size 1 0 inside.now }
     ensures within { IfSome result (λ len. len ≤ length inside.now) }
@@ -66,7 +66,7 @@ fn comment_len(inside: &[u8]) -> Option<usize>
     None
 }
 
-/// What a text begins with.
+/// The mark that a text inside a block comment begins with.
 enum Mark {
     Opens,
     Closes,

@@ -1,4 +1,4 @@
-//! Why a file has no tokens.
+//! Errors of the lexer: the first fault of a file, or out of memory.
 
 ghost use Rattle.std.specs.Prelude.{◌≡◌};
 ghost use Rattle.cool_lexer.specs.declared.error.LexError.TheVariants.{Memory};
@@ -9,13 +9,13 @@ use std::alloc::{AllocError, AllocFailed};
 /// The first fault of a file, and where it stands.
 #[derive(Clone, Copy)]
 pub struct LexFault {
-    /// What it is, `L1` to `L8`; each kind says which place it has.
+    /// The kind, `L1` to `L8`; each kind says which place it has.
     pub kind: LexKind,
     /// The place.
     pub at: Place,
 }
 
-/// Why a file has no tokens.
+/// The reason why a file has no tokens.
 #[derive(Clone, Copy)]
 pub enum LexError {
     /// Memory ran out.

@@ -1,4 +1,4 @@
-//! What stands at the front of a text.
+//! The item or the fault at the front of a text.
 
 use cool_syntax::{LexKind, TokenKind};
 

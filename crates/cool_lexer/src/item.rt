@@ -1,4 +1,4 @@
-//! Items: what a text begins with, by the class of its first byte.
+//! Items: the lexeme, blank or comment that a text begins with, by the class of its first byte.
 
 ghost use Rattle.std.specs.Prelude.{◌≡◌, ◌<◌, ◌∷◌, IfOk, length};
 ghost use Rattle.cool_syntax.specs.Lexemes as lexemes;
@@ -14,7 +14,7 @@ use crate::word::word_at;
 use cool_syntax::LexKind;
 use std::alloc::{AllocError, Global};
 
-/// The item that a text begins with, or its fault; the text has a byte. `Err` comes only for want of memory.
+/// The item that a text begins with, or its fault; the text has a byte. Returns `Err` only if memory runs out.
 pub(crate) fn item_at(alloc: Global, text: &[u8]) -> Result<Front, AllocError>
     requires { 0 < length text.now }
     ensures { IfOk result (λ front. Begins text.now front) }
@@ -22,7 +22,7 @@ pub(crate) fn item_at(alloc: Global, text: &[u8]) -> Result<Front, AllocError>
     item_after(alloc, text, text[0], &text[1..])
 }
 
-/// The item that a text begins with, or its fault, by the first byte and those after it. `Err` comes only for want of memory.
+/// The item that a text begins with, or its fault, by the first byte and those after it. Returns `Err` only if memory runs out.
 fn item_after(alloc: Global, text: &[u8], first: u8, tail: &[u8]) -> Result<Front, AllocError>
     requires whole { first ∷ tail.now ≡ text.now }
     ensures { IfOk result (λ front. front ≡ front_of (lexemes.class_of first) first tail.now) }

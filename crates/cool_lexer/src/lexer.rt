@@ -35,8 +35,8 @@ pub struct Beginning {
 
 /// The tokens of a file (Cool manual, section 10). `file` is its position in the command, from 0; it has at most 1,048,576 bytes.
 ///
-/// `Err(Fault(..))` comes where the file has a fault: it is the first one, and `LexKind` says when each kind, `L1` to `L8`, comes and
-/// where it stands. `Err(Memory)` comes only for want of memory.
+/// `Err(Fault(..))` comes if the file has a fault: it is the first one, and `LexKind` says when each kind, `L1` to `L8`, comes and where it stands.
+/// `Err(Memory)` comes only if memory runs out.
 pub fn lex(alloc: Global, file: u32, bytes: &[u8]) -> Result<Lexed, LexError>
     requires { length bytes.now ≤ MOST_SOURCE_BYTES }
     // The bytes are good items one after the other, the tokens are its lexemes in order, and no run is too long.
@@ -47,7 +47,7 @@ pub fn lex(alloc: Global, file: u32, bytes: &[u8]) -> Result<Lexed, LexError>
     ensures rising { IfOk result (λ lexed. AreRising file 0 lexed.tokens.items) }
     ensures few { IfOk result (λ lexed. length lexed.tokens.items ≤ length bytes.now) }
     ensures weight { IfOk result (λ lexed. weights lexed.tokens.items ≤ length bytes.now) }
-    // What is refused has a fault, this is the first, and it stands there.
+    // A refused file has a fault, the error is the first, and it stands there.
     ensures fault { IfErr result (λ error. IsFirstFault file bytes.now error) }
 {
     let Beginning { tokens, end, fault } = lex_to_fault(alloc, file, bytes)?;
@@ -57,7 +57,7 @@ pub fn lex(alloc: Global, file: u32, bytes: &[u8]) -> Result<Lexed, LexError>
     }
 }
 
-/// The tokens of a file up to its first fault, as `lex` reads them. `Err` comes only for want of memory.
+/// The tokens of a file up to its first fault, as `lex` reads them. Returns `Err` only if memory runs out.
 pub fn lex_to_fault(alloc: Global, file: u32, bytes: &[u8]) -> Result<Beginning, AllocError>
     requires { length bytes.now ≤ MOST_SOURCE_BYTES }
     // Good items lead up to the first fault, where there is one, and else to the end, and the tokens are their lexemes.

@@ -1,7 +1,7 @@
 //! The lexer of Cool: from the bytes of a source file to its tokens.
 //!
-//! Comes in: a file's bytes, at most 1 MiB. Goes out: its tokens with their places, or its first fault. It meets
-//! `LexicalStructure.antt` of `cool_syntax`; `specs/Fronts.antt` has what its scanning functions find.
+//! Input: a file's bytes, at most 1 MiB. Output: its tokens with their places, or its first fault. It implements `LexicalStructure.antt` of `cool_syntax`;
+//! `specs/Fronts.antt` defines the results of its scanning functions.
 #![tactic(auto)]
 
 mod class;

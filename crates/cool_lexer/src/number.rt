@@ -28,7 +28,7 @@ pub(crate) fn number_at(first: u8, tail: &[u8]) -> Front
     }
 }
 
-/// What a digit stands for.
+/// The value of a digit.
 fn digit(byte: u8) -> u8
     ensures { result ≡ byte - 48 }
 {

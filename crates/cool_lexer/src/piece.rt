@@ -1,10 +1,10 @@
-//! Pieces of strings: what a byte of a string is (manual, section 10.2).
+//! Pieces of strings: the meaning of each byte of a string (manual, section 10.2).
 
 ghost use Rattle.std.specs.Prelude.{◌≡◌};
 ghost use Rattle.cool_syntax.specs.Lexemes as lexemes;
 ghost use Rattle.cool_lexer.specs.Views.{piece_seen};
 
-/// What a byte of a string is.
+/// The meaning of a byte of a string.
 pub(crate) enum Piece {
     /// The closing quote.
     Ends,
@@ -18,7 +18,7 @@ pub(crate) enum Piece {
     Means(u8),
 }
 
-/// What a byte of a string is, after a backslash or not.
+/// The meaning of a byte of a string, after a backslash or not.
 pub(crate) fn piece_of(escaped: bool, byte: u8) -> Piece
     ensures { piece_seen result ≡ lexemes.piece escaped byte }
 {

@@ -20,8 +20,8 @@ pub(crate) struct Reading {
     pub(crate) place: Place,
 }
 
-/// Reads the item that the rest of the text begins with, and gives its size. `Err` comes for want of memory, for a fault of the item,
-/// and for a token that is one too many for its run (`L8`).
+/// Reads the item that the rest of the text begins with, and gives its size. Returns `Err` if memory runs out, if the item has a fault, or if a token is
+/// one too many for its run (`L8`).
 pub(crate) fn read_item(
     alloc: Global,
     reading: &mut Reading,
@@ -55,8 +55,8 @@ pub(crate) fn read_item(
     }
 }
 
-/// Keeps a lexeme as a token at the place so far; white space and comments are dropped. `Err` comes for want of memory, and for a token
-/// that is one too many for its run (`L8`).
+/// Keeps a lexeme as a token at the place so far; white space and comments are dropped. Returns `Err` if memory runs out, or if the token is one too many
+/// for its run (`L8`).
 fn keep(reading: &mut Reading, form: Scan) -> Result<(), LexError>
     requires deep { reading.old.run.depth + 1 < 2 ^ 32 }
     requires long { reading.old.run.length ≤ MOST_TOKENS }
@@ -93,7 +93,7 @@ fn place_after(place: Place, passed: &[u8]) -> Place
     }
 }
 
-/// How many newlines there are.
+/// The number of newlines.
 fn newlines(bytes: &[u8]) -> u32
     requires { length bytes.now < 2 ^ 32 }
     ensures count { result ≡ count_by is_newline bytes.now }

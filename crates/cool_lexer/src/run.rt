@@ -1,4 +1,4 @@
-//! Runs of tokens: what stands between the braces and semicolons of a class's own level.
+//! Runs of tokens: the tokens between the braces and semicolons of a class's own level.
 
 ghost use Rattle.std.specs.Prelude.{◌≡◌, ◌+◌, ◌<◌, ◌^◌};
 ghost use Rattle.cool_syntax.specs.LexicalStructure.{depth_after, ends_run, run_after};
@@ -6,7 +6,7 @@ ghost use Rattle.cool_lexer.specs.Views.{run_seen};
 
 use cool_syntax::{Key, Sign, TokenKind};
 
-/// How deep the tokens so far stand in braces and cases, and how many of them are in the run that goes on.
+/// The depth of the tokens so far in braces and cases, and the number of those in the current run.
 #[derive(Clone, Copy)]
 pub(crate) struct Run {
     pub(crate) depth: u32,
@@ -32,7 +32,7 @@ impl Run {
     }
 }
 
-/// How deep tokens stand in braces and cases after one more token.
+/// The depth in braces and cases after one more token.
 pub fn depth_after(token: &TokenKind, depth: u32) -> u32
     requires { depth + 1 < 2 ^ 32 }
     ensures { result ≡ depth_after token.now depth }

@@ -16,7 +16,7 @@ pub(crate) fn sign(sign: Sign, after: usize) -> Front
     }
 }
 
-/// What `<` begins: `<=`, `<-` or `<`.
+/// The sign that `<` begins: `<=`, `<-` or `<`.
 pub(crate) fn angle_at(tail: &[u8]) -> Front
     ensures { result ≡ angle_front tail.now }
 {
@@ -27,7 +27,7 @@ pub(crate) fn angle_at(tail: &[u8]) -> Front
     }
 }
 
-/// What `=` begins: `=>` or `=`.
+/// The sign that `=` begins: `=>` or `=`.
 pub(crate) fn equals_at(tail: &[u8]) -> Front
     ensures { result ≡ equals_front tail.now }
 {
@@ -37,7 +37,7 @@ pub(crate) fn equals_at(tail: &[u8]) -> Front
     }
 }
 
-/// What `*` begins: the sign, or the end of a comment that is not open (`L6`).
+/// The item that `*` begins: the sign, or `L6` for the end of a comment that is not open.
 pub(crate) fn star_at(tail: &[u8]) -> Front
     ensures { result ≡ star_front tail.now }
 {

@@ -4,7 +4,7 @@ ghost use Rattle.std.specs.Prelude.{◌≡◌, ◌≤◌, length};
 ghost use Rattle.std.specs.List.{prefix_len};
 ghost use Rattle.cool_lexer.specs.Fronts.{takes};
 
-/// Which bytes a span takes.
+/// The bytes that a span takes.
 #[derive(Clone, Copy)]
 pub(crate) enum Span {
     /// Letters, digits and underscores.
@@ -28,7 +28,7 @@ impl Span {
     }
 }
 
-/// How many bytes the span takes from the front of the text on.
+/// The number of bytes that the span takes from the front of the text.
 pub(crate) fn span_len(span: Span, text: &[u8]) -> usize
     ensures len { result ≡ prefix_len (takes span) text.now }
     ensures within { result ≤ length text.now }

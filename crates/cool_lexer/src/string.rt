@@ -11,7 +11,7 @@ use crate::piece::{Piece, piece_of};
 use cool_syntax::{Bytes, LexKind, MOST_BYTES, TokenKind};
 use std::alloc::{AllocError, Global};
 
-/// The string after an opening quote, or `L2`, `L3` or `L4`. `Err` comes only for want of memory.
+/// The string after an opening quote, or `L2`, `L3` or `L4`. Returns `Err` only if memory runs out.
 pub(crate) fn string_at(alloc: Global, tail: &[u8]) -> Result<Front, AllocError>
     ensures { IfOk result (λ front. front ≡ string_front false 1 [] tail.now) }
 {

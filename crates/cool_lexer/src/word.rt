@@ -12,7 +12,7 @@ use std::alloc::{AllocError, Global};
 /// The most bytes of a keyword.
 const LONGEST: usize = 8;
 
-/// The word that a text begins with: this letter, and what goes on with it of the bytes after. `Err` comes only for want of memory.
+/// The word that a text begins with: this letter, and the bytes after it that continue it. Returns `Err` only if memory runs out.
 pub(crate) fn word_at(
     alloc: Global,
     text: &[u8],
@@ -30,8 +30,8 @@ pub(crate) fn word_at(
     })
 }
 
-/// The lexeme that a word is, which begins with a capital letter or not: `true` and `false` begin with a small letter, and all other
-/// keywords have letters of any case. `Err` comes only for want of memory.
+/// The lexeme that a word is, which begins with a capital letter or not: `true` and `false` begin with a small letter, and all other keywords have letters
+/// of any case. Returns `Err` only if memory runs out.
 fn word(alloc: Global, capital: bool, text: &[u8]) -> Result<TokenKind, AllocError>
     ensures { IfOk result (λ kind. kind ≡ named capital text.now (key_among keywords (map lower text.now))) }
 {

@@ -52,7 +52,7 @@ module _ (p : List Class) (typed : IsTypedTable p) where
   pub only_string : (c : ClassId) → c.0 < length p → Below p c (class_number 4) → c ≡ class_number 4
   only_string c within below = below_alone p typed c (class_number 4) string_shut within below
 
-  -- what may be inherited stays so above
+  -- the classes above one that may be inherited may be inherited
   pub inherits_above : (d e : ClassId) → d.0 < length p → MayInherit d → Below p d e → MayInherit e
   inherits_above d e within may below = record {
     no_int = λ is. may.no_int (ap (λ (c : ClassId). c.0) (only_int d within (subst (λ (c : ClassId). Below p d c) (by_number e 2 is) below)));
@@ -60,7 +60,7 @@ module _ (p : List Class) (typed : IsTypedTable p) where
     no_string = λ is. may.no_string (ap (λ (c : ClassId). c.0) (only_string d within (subst (λ (c : ClassId). Below p d c) (by_number e 4 is) below)));
   }
 
-  -- above Int, Bool and String stands Object alone
+  -- only Object is above Int, Bool and String
   top_chain : (c : ClassId) (ds : List ClassId) → parent_of p c ≡ None → IsChain p (Some c) ds → ds ≡ c ∷ []
   top_chain c [] e h = absurd h
   top_chain c (d ∷ ds) e h = by d ds h.0 (subst (λ (o : Option ClassId). IsChain p o ds) e h.1)

@@ -1,4 +1,4 @@
--- The invariant of typed runs: each location was made for a class, and its value fits that class. What was made stays.
+-- The invariant of typed runs: each location was made for a class, and its value fits that class. Locations once made stay.
 use Rattle.std.proofs.Common.{◌≡◌, ℕ, zero, suc, ◌<◌, List, [], ◌∷◌, ◌++◌, map, length, Some, Bool, true, false, cond, ap, sym, ◌∙◌, refl, subst, arith, append_assoc, append-nil}
 use Rattle.std.specs.Prelude.{bytes_eq, slice_get, slice_set}
 use Rattle.cool_classes.specs.declared.class_id.ClassId.{ClassId}
@@ -108,7 +108,7 @@ found_at w k (b ∷ scope) (x ∷ env) name t h e =
     by false e more = more e
 
 module _ (p : List Class) (typed : IsTypedTable p) where
-  -- what fits a class fits those above it
+  -- a value that fits a class fits those above it
   pub fits_above : (w : World) (v : Value) (d e : ClassId) → Fits p w v d → Below p d e → Fits p w v e
   fits_above w Void d e h below = (inherits_above p typed d e h.1 h.0 below, below_within p typed.whole d e h.1 below)
   fits_above w (Int n) d e h below = below_trans p (class_number 2) d e h below

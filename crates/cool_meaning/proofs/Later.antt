@@ -1,4 +1,4 @@
--- States that come later: what was printed stays, and what was taken of the input is gone.
+-- States that come later: the output so far stays, and the input taken is gone.
 use Rattle.std.proofs.Common.{◌≡◌, ℕ, List, [], ◌++◌, ap, sym, ◌∙◌, append_assoc, append-nil}
 use Rattle.cool_meaning.specs.Values.{State}
 use Rattle.cool_meaning.specs.Meters.{Outcome, Val, Stop, On, Stuck, Computation, seq_of}
@@ -34,7 +34,7 @@ after_on s t (Stop e u) h k = later_on s t u h k
 after_on s t (On u) h k = later_on s t u h k
 after_on s t Stuck h k = tt
 
--- what comes after a value comes later
+-- the state after a value comes later
 pub seq_after : {A B : Type 0} (s : State) (o : Outcome A) (work words peak : ℕ) (f : A → Computation B) → After s o
     → ((v : A) (t : State) (n : ℕ) → After t (f v t n).outcome) → After s (seq_of o work words peak f).outcome
 seq_after s (Val v t n) work words peak f h k = after_on s t (f v t n).outcome h (k v t n)

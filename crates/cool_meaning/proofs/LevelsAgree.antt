@@ -1,5 +1,5 @@
--- What calls do does not depend on how many steps they may have at most, where no more are left: so an evaluation with enough of them is
--- one with the calls of its own level.
+-- The result of a call does not depend on its limit of steps if at most that many are left: so an evaluation with enough steps is one with the calls of its
+-- own level.
 use Rattle.std.proofs.Common.{◌≡◌, ℕ, zero, suc, ◌+◌, ◌<◌, ◌≤◌, Bool, true, false, List, ap, sym, ◌∙◌, refl, subst, arith}
 use Rattle.std.specs.Prelude.{Option, Some, None, if◌then◌else◌, slice_get}
 use Rattle.cool_syntax.specs.Tree.{Tree}

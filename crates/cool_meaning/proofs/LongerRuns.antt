@@ -10,7 +10,7 @@ use Rattle.cool_meaning.proofs.Later.{Later, After}
 use Rattle.cool_meaning.proofs.MoreSteps.{Alike, Longer}
 use Rattle.cool_meaning.proofs.LongerEvaluation.{eval_alike}
 
--- what a later state wrote, with a text after it
+-- the output of a later state, with a text after it
 ended_later : (s t : State) (x y : End) (text : List ℕ) (w g q w' g' q' : ℕ) → Later s t → w ≤ w' → g ≤ g' → q ≤ q' → Extends (ended s x [] w g q) (ended t y text w' g' q')
 ended_later s t x y text w g q w' g' q' later a b c = record {
   printed = later.printed ++ text;
@@ -22,7 +22,7 @@ ended_later s t x y text w g q w' g' q' later a b c = record {
   peak = c;
 }
 
--- what goes on is extended
+-- a run that goes on is extended
 on_by : (p : List Class) (names : List (List ℕ)) (t : State) (w g q : ℕ) (o : Outcome Value) (w' g' q' : ℕ) → After t o → w ≤ w' → g ≤ g' → q ≤ q'
     → (run_of p names o w' g' q').end ≢ IsStuck → Extends (run_of p names (On t) w g q) (run_of p names o w' g' q')
 on_by p names t w g q (Val v u n) w' g' q' later a b c not_stuck = ended_later t u GoesOn Done done_text w g q w' g' q' later a b c
@@ -30,7 +30,7 @@ on_by p names t w g q (Stop e u) w' g' q' later a b c not_stuck = ended_later t 
 on_by p names t w g q (On u) w' g' q' later a b c not_stuck = ended_later t u GoesOn GoesOn [] w g q w' g' q' later a b c
 on_by p names t w g q Stuck w' g' q' later a b c not_stuck = absurd (not_stuck refl)
 
--- what ended is the same
+-- a run that ended is the same
 over_by : (p : List Class) (names : List (List ℕ)) (k : ℕ) (o : Outcome Value) (w g q : ℕ) (m : Metered Value) → Longer k o w g q m → IsOver (run_of p names o w g q).end
     → run_from p names m ≡ run_of p names o w g q
 over_by p names k (Val v t n) w g q m (n', e, is) h = ap (run_from p names) is
@@ -68,7 +68,7 @@ longer_further p names input n k e h =
 extends_same : (r : Run) → Extends r r
 extends_same r = record { printed = []; output = sym (append-nil r.output); taken = []; left = refl; work = omega arith; words = omega arith; peak = omega arith }
 
--- where no run is stuck, each longer run extends a shorter one
+-- if no run is stuck, each longer run extends a shorter one
 pub longer_extends : (p : List Class) (names : List (List ℕ)) (input : List ℕ) → ((n : ℕ) → (run p names input n).end ≢ IsStuck) → (n k : ℕ) → Extends (run p names input n) (run p names input (n + k))
 longer_extends p names input never n k = by (run p names input n).end refl
   where

@@ -1,4 +1,4 @@
--- Computations with more steps: they come to the same where the one with fewer ended, and else go on from where it stood.
+-- Computations with more steps: the result is the same if the one with fewer steps ended, and if not they go on from where it stood.
 use Rattle.std.proofs.Common.{◌≡◌, ℕ, zero, suc, ◌+◌, ◌≤◌, max, Bool, true, false, List, [], ◌∷◌, ◌++◌, length, ap, sym, refl, subst, arith, append-nil}
 use Rattle.std.specs.Prelude.{Option, Some, None, if◌then◌else◌, ◌==◌}
 use Rattle.cool_meaning.specs.Values.{Value, State}
@@ -13,7 +13,7 @@ pub record GoesOn {A : Type 0} (t : State) (w g p : ℕ) (m : Metered A) : Type 
   pub words : g ≤ m.words
   pub peak : p ≤ m.peak
 
--- what an outcome with these meters is with k more steps
+-- the outcome with these meters, with k more steps
 abbrev pub Longer : {A : Type 0} → ℕ → Outcome A → ℕ → ℕ → ℕ → Metered A → Type 0
 Longer k (Val v t n) work words peak m = (n' : ℕ) × (n' ≡ n + k) × (m ≡ record { outcome = Val v t n'; work = work; words = words; peak = peak })
 Longer k (Stop e t) work words peak m = m ≡ record { outcome = Stop e t; work = work; words = words; peak = peak }
@@ -28,7 +28,7 @@ pub record IsLonger {A : Type 0} (s : State) (k : ℕ) (o : Outcome A) (work wor
 pub record Alike {A : Type 0} (d d' : Computation A) : Type 0 where
   pub alike : (s : State) (n n' k : ℕ) → n' ≡ n + k → IsLonger s k (d s n).outcome (d s n).work (d s n).words (d s n).peak (d' s n')
 
--- what the second computation comes to stands later
+-- the state after the second computation is later
 pub after_of : {A : Type 0} {d d' : Computation A} → Alike d d' → (s : State) (n : ℕ) → After s (d' s n).outcome
 after_of h s n = (h.alike s n n 0 (omega arith)).after
 
@@ -48,7 +48,7 @@ seq_more (Stop e t) w g p f = (omega arith, omega arith, omega arith)
 seq_more (On t) w g p f = (omega arith, omega arith, omega arith)
 seq_more Stuck w g p f = (omega arith, omega arith, omega arith)
 
--- what follows a value comes later than its state
+-- the state after a computation that follows a value is later than the value's
 after_value : {A B : Type 0} (f f' : A → Computation B) → ((v : A) → Alike (f v) (f' v)) → (v : A) (t : State) (n : ℕ) → After t (f' v t n).outcome
 after_value f f' h v t n = ((h v).alike t n n 0 (omega arith)).after
 
@@ -202,7 +202,7 @@ store_alike l v = changing_alike _ tt (λ s. later_same s _ refl refl)
 pub print_alike : (bytes : List ℕ) → Alike (print bytes) (print bytes)
 print_alike bytes = changing_alike (λ s. record s { output = s.output ++ bytes }) tt (λ s. record { printed = bytes; output = refl; taken = []; input = refl })
 
--- what a line takes stands before what it leaves
+-- the rest that a line leaves is a suffix of the input
 line_by : (b : ℕ) (rest : List ℕ) (zero newline : Bool) → (taken : List ℕ) → rest ≡ taken ++ (line_of rest).rest
     → (more : List ℕ) × (b ∷ rest ≡ more ++ (if zero then line_of rest else (if newline then record { bytes = []; rest = rest } else record { bytes = b ∷ (line_of rest).bytes; rest = (line_of rest).rest })).rest)
 line_by b rest true newline taken e = (b ∷ taken, ap (λ (xs : List ℕ). b ∷ xs) e)

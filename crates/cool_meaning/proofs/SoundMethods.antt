@@ -1,4 +1,4 @@
--- The methods of the basic classes are never stuck, and give what their results say.
+-- The methods of the basic classes are never stuck, and their values fit their declared results.
 use Rattle.std.proofs.Common.{◌≡◌, ◌≢◌, ℕ, ◌+◌, ◌/◌, ℤ, Bool, List, [], ◌∷◌, ◌++◌, map, length, Option, Some, None, ap, sym, refl, subst, arith}
 use Rattle.std.specs.Prelude.{codes}
 use Rattle.std.specs.Fmt.{signed_decimal}
@@ -74,7 +74,7 @@ module _ (p : List Class) (typed : IsTypedTable p) where
   number_apart : {X : Type 0} (m n : ℕ) → m ≢ n → class_number m ≡ class_number n → X
   number_apart m n apart e = absurd (apart (ap (λ (c : ClassId). c.0) e))
 
-  -- what fits Int, Bool or String is a number, a truth or a string
+  -- a value that fits Int, Bool or String is a number, a truth or a string
   pub number_sound : {b : ℕ} {w : World} (v : Value) → Fits p w v (class_number 2) → Sound p b w Any (as_number v)
   number_sound (Int n) h = give_sound n tt
   number_sound Void h = absurd (h.0.no_int refl)

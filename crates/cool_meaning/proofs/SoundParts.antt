@@ -49,7 +49,7 @@ use Rattle.lists.proofs.EqualBytes.{bytes_same}
 use Rattle.lists.proofs.AllItems.{all_get}
 use Rattle.std.proofs.lemmas.Bool.{eqb-true}
 
--- what is less than said is so too
+-- a weaker claim holds, too
 wider_by : {A : Type 0} (p : List Class) (w : World) (n : ℕ) (Q R : World → A → Type 0) (o : _) → ((w' : World) (v : A) → Q w' v → R w' v) → NotStuck p w n Q o → NotStuck p w n R o
 wider_by p w n Q R (Meters.Val v s left) f h = record { world = h.world; grown = h.grown; store = h.store; value = f h.world v h.value; fewer = h.fewer }
 wider_by p w n Q R (Meters.Stop e s) f h = tt
@@ -70,8 +70,7 @@ class_or_sound e (Obj k i ls) = give_sound k refl
 pub is_other : (n m : ℕ) → (n == m) ≡ false → n ≢ m
 is_other n m e = grind arith
 
--- What calls do, with at most so many steps: the body of a method, on a receiver of a class below its owner; initial values, for a new
--- object.
+-- Soundness of calls, with at most so many steps: the body of a method, on a receiver of a class below its owner; initial values, for a new object.
 pub record CallsSound (p : List Class) (calls : Calls) (b : ℕ) : Type 0 where
   pub body : (w : World) (owner : ClassId) (i : ℕ) (self : Value) (k : ClassId) (vs : List Value) → HasMethod p (User owner i) → class_of self ≡ Some k → k.0 < length p → MayInherit k → Below p k owner
       → Fits p w self k → AllFit p w vs (map (meant p k) (formals_of p (User owner i))) → Sound p b w (λ w' r. Fits p w' r (meant p k (result_of p (User owner i)))) (calls (Body owner i self vs))
@@ -247,7 +246,7 @@ module _ (p : List Class) (typed : IsTypedTable p) where
 
     -- Cases
 
-    -- what a branch of a class does with a value that fits it
+    -- soundness of a branch of a class with a value that fits it
     abbrev pub IsSoundBranch : World → ClassId → ClassId → Option Branch → Type 0
     IsSoundBranch w d k None = Unit {0}
     IsSoundBranch w d k (Some f) = (v : Value) → Fits p w v d → Sound p b w (λ w' r. Fits p w' r k) (f v)

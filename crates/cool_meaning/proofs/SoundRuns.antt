@@ -82,7 +82,7 @@ module _ (p : List Class) (typed : IsTypedTable p) where
       (holds_attributes p w k (attributes_of p chain) more (locations_of self) (subst (λ (rs : List AttributeRef). AreMade w (locations_of self) (attribute_classes p k rs)) split made)))
 
   module _ (calls : Calls) (b : ℕ) (calls_sound : AllCallsSound p calls b) where
-    -- what a feature's expression gives fits what the feature declares
+    -- the value of a feature's expression fits the declaration of the feature
     pub declared_sound : (w : World) (c k : ClassId) (self : Value) (inner : List Binding) (env : Environment) (e : Tree) (declared : List ℕ) → c.0 < length p → k.0 < length p → MayInherit k → Below p k c
         → class_of self ≡ Some k → Fits p w self k → (f : FitsDeclared p c inner e declared) → Holds w k (inner ++ attributes_in_scope p (attributes_of p f.chain)) env
         → Sound p b w (λ w' v. Fits p w' v (meant p k declared)) (eval p calls self env e)

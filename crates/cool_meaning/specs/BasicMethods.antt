@@ -87,11 +87,11 @@ copy p (Obj c i ls) = working (length ls + length (chain p c)) (giving (4 + leng
   i' ← draw
   give (Obj c i' ls')))
 
--- what is printed
+-- printing a text
 abbrev pub print : List ℕ → Computation (Unit {0})
 print bytes = changing (λ s. record s { output = s.output ++ bytes }) tt
 
--- a line of the input without its newline and without bytes 0, and what is left
+-- a line of the input without its newline and without bytes 0, and the rest of the input
 pub record Line : Type 0 where
   pub bytes : List ℕ
   pub rest : List ℕ

@@ -1,6 +1,6 @@
--- Evaluation (the Cool manual, section 13): what each form of expression does, with the object in whose method it stands, in an
--- environment. Parts are evaluated in the order in which the rules name them. What a call does is an argument, so that evaluation goes
--- over the tree alone; `calls_within` ties the knot.
+-- Evaluation (the Cool manual, section 13): the result of each form of expression, with the object in whose method it stands, in an environment. Parts are
+-- evaluated in the order in which the rules name them. The meaning of calls is an argument, so that evaluation recurses only over the tree; `calls_within`
+-- ties the knot.
 use Rattle.std.specs.Prelude.{ℕ, zero, suc, ◌+◌, ◌*◌, ℤ, pos, negsuc, ◌+ℤ◌, ◌-ℤ◌, ◌*ℤ◌, neg_ℤ, int_div, int_lt, int_le, Bool as Truth, true, false, not, ◌==◌, nat_eq, if◌then◌else◌, List, [], ◌∷◌, ◌++◌, length, Option, Some, None, codes, bytes_eq}
 use Rattle.cool_syntax.specs.declared.place.Place.{Place}
 use Rattle.cool_syntax.specs.declared.operator.ArithOp.{ArithOp}
@@ -72,7 +72,7 @@ same_number (pos m) (pos n) = nat_eq m n
 same_number (negsuc m) (negsuc n) = nat_eq m n
 same_number _ _ = false
 
--- numbers, truths and strings are equal by value, objects by identity, and void to void alone
+-- numbers, truths and strings are equal by value, objects by identity, and void only to void
 abbrev pub same : Value → Value → Truth
 same Void Void = true
 same (Int m) (Int n) = same_number m n
@@ -250,7 +250,7 @@ abbrev mutual
   eval_init p calls self env type Without = give (default_of type)
   eval_init p calls self env type (With t) = eval p calls self env t
 
-  -- what the branch of a class's name does with the value, where there is one
+  -- the result of the branch of a class's name with the value, if there is one
   pub branch_of : List Class → Calls → Value → Environment → Cases → List ℕ → Option Branch
   branch_of p calls self env NoCase class = None
   branch_of p calls self env (CaseOf at name declared t cs) class =
@@ -285,7 +285,7 @@ abbrev pub run_call : List Class → Calls → Call → Computation Value
 run_call p calls (Body owner k self vs) = run_method p calls self vs (method_at p owner k)
 run_call p calls (Initials c self) = run_initials p calls self (attributes p c) (locations_of self)
 
--- What calls do with at most so many steps left. Each call took a step, so with none left there is no call.
+-- The results of calls with at most so many steps left. Each call took a step, so with none left there is no call.
 abbrev pub calls_within : List Class → ℕ → Calls
 calls_within p zero call = stuck
 calls_within p (suc n) call = run_call p (calls_within p n) call

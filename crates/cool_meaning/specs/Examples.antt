@@ -12,7 +12,7 @@ use Rattle.cool_meaning.specs.SourceRun.{run, Done, GoesOn, done_text}
 abbrev type : List ℕ → TypeRef
 type name = record { name = name; at = nowhere }
 
--- a class Main with a method main alone
+-- a class Main whose only feature is a method main
 abbrev main_alone : List ℕ → ℕ → Tree → List Class
 main_alone result parent body = basic_classes ++ record { name = codes "Main"; parent = Some (class_number parent); features = Method (record { name = codes "main"; at = nowhere; formals = []; result = type result; body = body }) ∷ [] } ∷ []
 

@@ -1,4 +1,4 @@
--- Values that fit classes, in a world of locations that were made for classes; and where an expression is evaluated.
+-- Values that fit classes, in a world of locations that were made for classes; and the setting in which an expression is evaluated.
 use Rattle.std.specs.Prelude.{◌≡◌, ℕ, ◌<◌, List, [], ◌∷◌, map, length, slice_get, Some}
 use Rattle.cool_classes.specs.declared.class_id.ClassId.{ClassId}
 use Rattle.cool_classes.specs.declared.method.AttributeRef.{AttributeRef}
@@ -55,7 +55,7 @@ Holds w k [] env = Unit {0}
 Holds w k (b ∷ scope) [] = ⊥
 Holds w k (b ∷ scope) (e ∷ env) = (b.name ≡ e.name) × (slice_get w e.location ≡ Some (class_meant k b.value)) × Holds w k scope env
 
--- Where an expression of class c is evaluated: by an object of a class k below it, with each name in scope at a location made for its type.
+-- The setting in which an expression of class c is evaluated: by an object of a class k below it, with each name in scope at a location made for its type.
 pub record Scene (p : List Class) (w : World) (c k : ClassId) (self : Value) (scope : List Binding) (env : Environment) : Type 0 where
   pub c_within : c.0 < length p
   pub k_within : k.0 < length p

@@ -1,4 +1,4 @@
--- What a run with more steps has of one with fewer.
+-- The relation between a run with more steps and one with fewer.
 use Rattle.std.specs.Prelude.{◌≡◌, ◌≤◌, ℕ, List, ◌++◌}
 use Rattle.cool_meaning.specs.SourceRun.{Run, End, Done, Failed, GoesOn, IsStuck}
 

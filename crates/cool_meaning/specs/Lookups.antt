@@ -1,4 +1,4 @@
--- What a running program asks of its class table: methods, attributes and their initial values.
+-- The look-ups of a running program in its class table: methods, attributes and their initial values.
 use Rattle.std.specs.Prelude.{ℕ, List, [], ◌∷◌, map, slice_get, Option, Some, None, bytes_eq, if◌then◌else◌}
 use Rattle.cool_syntax.specs.declared.file_tree.Feature.{Feature}
 use Rattle.cool_syntax.specs.declared.file_tree.Feature.TheVariants.{Method, Attribute}
@@ -31,7 +31,7 @@ method_at p owner k = method_in (slice_get (features_of p owner) k)
 abbrev pub attributes : List Class → ClassId → List AttributeRef
 attributes p c = attributes_of p (chain p c)
 
--- what an attribute begins with, before its initial value
+-- the default value of an attribute, before its initial value
 abbrev pub default_values : List Class → List AttributeRef → List Value
 default_values p rs = map (λ (a : AttributeRef). default_of (attribute_type p a)) rs
 

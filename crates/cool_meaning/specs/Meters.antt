@@ -1,5 +1,5 @@
--- What an evaluation comes to, and what it costs: steps, and the three meters. A computation takes a state and the steps that are left;
--- the words here put computations together.
+-- The result of an evaluation, and its costs: steps, and the three meters. A computation takes a state and the steps that are left; the combinators here
+-- compose computations.
 use Rattle.std.specs.Prelude.{ℕ, zero, suc, ◌+◌, max, ◌∷◌, [], ◌++◌, length, slice_get, slice_set, Option, Some, None}
 use Rattle.cool_syntax.specs.declared.place.Place.{Place}
 use Rattle.cool_classes.specs.declared.class_id.ClassId.{ClassId}
@@ -35,7 +35,7 @@ Computation A = State → ℕ → Metered A
 abbrev pub free : {A : Type 0} → Outcome A → Metered A
 free o = record { outcome = o; work = 0; words = 0; peak = 0 }
 
--- what comes after some work, words and peak
+-- the costs after some work, words and peak
 abbrev pub join : {A : Type 0} → ℕ → ℕ → ℕ → Metered A → Metered A
 join work words peak m = record { outcome = m.outcome; work = work + m.work; words = words + m.words; peak = max peak m.peak }
 
@@ -87,7 +87,7 @@ holding k d s n = let m = d s n in record { outcome = m.outcome; work = m.work; 
 abbrev pub rule : {A : Type 0} → Computation A → Computation A
 rule d = working 1 (holding 1 d)
 
--- what depends on the state, and what changes it
+-- a computation that depends on the state, and one that changes it
 abbrev pub reading : {A : Type 0} → (State → Computation A) → Computation A
 reading f s n = f s s n
 

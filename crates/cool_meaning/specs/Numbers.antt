@@ -2,7 +2,7 @@
 -- manual, section 8.3; that overflow is an error is this compiler's rule).
 use Rattle.std.specs.Prelude.{◌≡◌, refl, ℕ, ◌+◌, ◌-◌, ◌*◌, ◌%◌, ◌^◌, ℤ, pos, negsuc, Bool, false, ◌&&◌, ◌||◌, ◌==◌, nat_le, nat_lt, if◌then◌else◌, List, [], ◌∷◌}
 
--- from -2 ^ 31 to 2 ^ 31 - 1
+-- the integers from -2 ^ 31 to 2 ^ 31 - 1
 abbrev pub fits : ℤ → Bool
 fits (pos n) = nat_lt n (2 ^ 31)
 fits (negsuc n) = nat_lt n (2 ^ 31)
@@ -47,8 +47,8 @@ number_after_blanks (b ∷ rest) = if b == 45 then signed (negated (digits_from 
 abbrev pub number_of : List ℕ → ℤ
 number_of line = number_after_blanks (skip_blanks line)
 
--- Worked examples: the smallest number fits, and what is one below it does not; the words of the largest number and of -1; -7 from text,
--- and what wraps around.
+-- Worked examples: the smallest number fits, and the number one below it does not; the words of the largest number and of -1; -7 from text, and a number
+-- that wraps around.
 smallest : fits (negsuc 2147483647) ≡ Bool.true
 smallest = refl
 

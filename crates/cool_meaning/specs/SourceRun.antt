@@ -17,7 +17,7 @@ pub data End : Type 0 where
   GoesOn : End
   IsStuck : End
 
--- How a run ended, what it wrote, the input that it left, and its meters.
+-- The end of a run, its output, the input that it left, and its meters.
 pub record Run : Type 0 where
   pub end : End
   pub output : List ℕ

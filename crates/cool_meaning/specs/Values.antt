@@ -1,4 +1,4 @@
--- Values, and the state of a running program: its store, its console, and how many identities were drawn (the Cool manual, section 13).
+-- Values, and the state of a running program: its store, its console, and the number of identities drawn (the Cool manual, section 13).
 use Rattle.std.specs.Prelude.{◌≡◌, refl, ℕ, ℤ, pos, Bool as Truth, false, List, [], ◌∷◌, Option, Some, None, codes, bytes_eq, if◌then◌else◌}
 use Rattle.cool_classes.specs.declared.class_id.ClassId.{ClassId}
 use Rattle.cool_classes.specs.Chains.{class_number}

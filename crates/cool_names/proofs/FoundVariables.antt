@@ -5,7 +5,7 @@ use Rattle.cool_rules.specs.Scopes.{Bound, found}
 use Rattle.cool_names.specs.declared.declaration.Declaration.{Declaration}
 use Rattle.cool_names.specs.Scopes.{variable_of, variables}
 
--- what is found of a name is its variable
+-- the value found for a name is its variable
 pub found_variable : (scope : List (Bound Declaration)) (name : List ℕ) → option_map variable_of (found scope name) ≡ found (variables scope) name
 found_variable [] name = refl
 found_variable (b ∷ scope) name = by (bytes_eq b.name name) (found_variable scope name)

@@ -110,7 +110,7 @@ names_both : (ts us : List Token) → names_in (ts ++ us) ≡ names_in ts ++ nam
 names_both [] us = refl
 names_both (t ∷ ts) us = ap (λ (ns : List Spot). names_of t.kind t.at ++ ns) (names_both ts us) ∙ sym (append_assoc (names_of t.kind t.at) (names_in ts) (names_in us))
 
--- Where the tokens stand in rising places, the marks stand at their names.
+-- If the tokens stand in rising places, the marks stand at their names.
 record Covers (ms : List marks.Mark) (ts : List Token) : Type 0 where
   same : (file low : ℕ) → AreRising file low ts → map spot_of ms ≡ names_in ts
 

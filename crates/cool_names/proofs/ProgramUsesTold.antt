@@ -18,7 +18,7 @@ use Rattle.cool_names.specs.ProgramUses.{AreProgramUsesTold, AreTypedClasses, Ar
 use Rattle.cool_names.specs.Uses.{AreTold, Use, uses_among, uses_of}
 use Rattle.cool_names.proofs.UsesTold.{feature_told, join}
 
--- what stands at a number of a table, and after it
+-- the class at a number of a table, and those after it
 record StandsAt (p : List Class) (k : ℕ) (c : Class) (cs : List Class) : Type 0 where
   less : k < length p
   is : get_or p k nothing ≡ c

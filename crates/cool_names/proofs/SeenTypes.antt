@@ -99,7 +99,7 @@ module _ (p : List Class) (whole : IsWholeTable p) (ds : List ClassDef) (c : Cla
       ap (type_of_result p r) (method_is p whole (class_of c w) name call.method there call.found)
       ∙ ap (λ (u : Ty). Some (result_on r u)) (meant_is p whole.table (result_of p call.method) call.result call.declared) ∙ ap Some (sym call.is)
 
-  -- what is seen is what the rules say
+  -- the type seen is the one that the rules give
   seen_is : (locals : List (Bound Variable)) (scope : List Binding) (e : Tree) (t : Ty) → AreAgreed p locals attributes scope → HasType p c scope e t
       → (seen_type (within p ds c attributes) locals e ≡ None) ⊎ (seen_type (within p ds c attributes) locals e ≡ Some t)
   seen_is locals scope (trees.Id at name) t agreed h = inr (ap (λ (o : Option Ty). if bytes_eq name (codes "self") then Some SelfType else o) (agreed name) ∙ h)

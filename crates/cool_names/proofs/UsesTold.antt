@@ -1,5 +1,5 @@
--- The marks of typed features tell the types of variables and the methods of calls by the rules: the variables with which `marks_of` comes to a place agree with the
--- names in scope there.
+-- The marks of typed features tell the types of variables and the methods of calls by the rules: the variables with which `marks_of` comes to a place agree
+-- with the names in scope there.
 use Rattle.std.proofs.Common.{◌≡◌, ◌⊎◌, inl, inr, ℕ, ◌<◌, List, [], ◌∷◌, ◌++◌, length, map, Option, Some, None, Bool, true, false, ap, sym, ◌∙◌, refl, subst}
 use Rattle.std.specs.Prelude.{bytes_eq, if◌then◌else◌, option_map, slice_get}
 use Rattle.std.specs.List.{AllByRecursion}
@@ -97,7 +97,7 @@ matched_entered p [] os (b ∷ bs) scope h k = absurd h
 matched_entered p (v ∷ vs) os [] scope h k = absurd h
 matched_entered p (v ∷ vs) os (b ∷ bs) scope h k = matched_entered p vs (v ∷ os) bs (b ∷ scope) h.1 (h.0, k)
 
--- those of a feature before those of its class
+-- the names of a feature before those of its class
 matched_agreed : (p : List Class) (locals attributes : List (Bound Variable)) (inner outer : List Binding) → AreMatched p locals inner → AreMatched p attributes outer → AreAgreed p locals attributes (inner ++ outer)
 matched_agreed p [] [] [] [] h k name = refl
 matched_agreed p [] [] [] (b ∷ outer) h k name = absurd k
@@ -160,7 +160,7 @@ module _ (p : List Class) (whole : IsWholeTable p) where
         (matched_entered p (map (attribute_variable p) (attributes_of p (chain p c))) [] (own_scope p c) [] own_matched tt) name
         ∙ entered_beside (formals_in_scope p fs) (own_scope p c) (formals_differ p fs different) (own_differ p whole.table lawful c less) name
 
-    -- the attributes of a class alone
+    -- only the attributes of a class
     own_agreed : AreAgreed p [] (programs.attributes_in_scope p c) (own_scope p c)
     own_agreed name =
         matched_agreed p [] (programs.attributes_in_scope p c) [] (entered (own_scope p c) []) tt

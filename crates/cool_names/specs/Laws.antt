@@ -1,4 +1,4 @@
--- Laws on marks: what they say of types is what the rules say (`Typing.antt` of `cool_rules`).
+-- Laws on marks: the types that they tell are those of the rules (`Typing.antt` of `cool_rules`).
 use Rattle.std.specs.Prelude.{◌≡◌, ◌<◌, ◌⊎◌, List, length, Some, None}
 use Rattle.std.specs.Option.{option_or}
 use Rattle.std.specs.Prelude.{ℕ}
@@ -23,12 +23,12 @@ AreAgreed p locals attributes scope = (name : List ℕ) → type_declared p (opt
 abbrev pub within : List Class → List ClassDef → ClassId → List (Bound Variable) → Context
 within p ds c attributes = record { table = p; definitions = ds; class = c; attributes = attributes }
 
--- where the rules give an expression a type, the one at first sight is the same, or none is seen
+-- if the rules give an expression a type, the one at first sight is the same, or none is seen
 abbrev pub IsSeenRightly : List Class → Type 0
 IsSeenRightly p = (ds : List ClassDef) (c : ClassId) (locals attributes : List (Bound Variable)) (scope : List Binding) (e : Tree) (t : Ty) → c.0 < length p → AreAgreed p locals attributes scope → HasType p c scope e t
     → (seen_type (within p ds c attributes) locals e ≡ None) ⊎ (seen_type (within p ds c attributes) locals e ≡ Some t)
 
--- where the rules give a variable a type, its mark declares a name of that type
+-- if the rules give a variable a type, its mark declares a name of that type
 abbrev pub IsDeclaredRightly : List Class → Type 0
 IsDeclaredRightly p = (c : ClassId) (locals attributes : List (Bound Variable)) (scope : List Binding) (at : Place) (name : List ℕ) (t : Ty) → AreAgreed p locals attributes scope → HasType p c scope (trees.Id at name) t
     → type_of_name p (name_meaning locals attributes name).declared ≡ Some t

@@ -1,5 +1,5 @@
--- The marks of an expression: each place where a name of the program stands, with its role and what it means there, in the order of the
--- text (the Cool manual, sections 7 and 12).
+-- The marks of an expression: each place where a name of the program stands, with its role and its meaning there, in the order of the text (the Cool
+-- manual, sections 7 and 12).
 use Rattle.std.specs.Prelude.{◌≡◌, refl, ℕ, List, [], ◌∷◌, ◌++◌, Bool, not, Option, Some, None, option_map, codes, bytes_eq, nat_eq, if◌then◌else◌}
 use Rattle.std.specs.Option.{option_or}
 use Rattle.cool_syntax.specs.declared.place.Place.{Place}
@@ -25,8 +25,7 @@ use Rattle.cool_names.specs.declared.mark.Target.TheVariants.{At}
 use Rattle.cool_names.specs.Scopes.{Variable}
 use Rattle.cool_names.specs.Meanings.{call_meaning, name_meaning, type_meaning}
 
--- where an expression stands: the class table and the definitions of its classes, the class whose feature it is, and the attributes of
--- that class
+-- the context of an expression: the class table and the definitions of its classes, the class whose feature it is, and the attributes of that class
 pub record Context : Type 0 where
   pub table : List Class
   pub definitions : List ClassDef
@@ -47,11 +46,11 @@ declared_marks p ds kind at name declared = mark at kind name (record { declared
 abbrev pub with_variable : List ℕ → TypeRef → Place → List (Bound Variable) → List (Bound Variable)
 with_variable name declared at scope = record { name = name; value = record { declared = declared.name; at = at } } ∷ scope
 
--- The rules type a whole feature or nothing of it, and what is being edited is often not typed yet. So a call's method is found by the type
--- that its receiver has at first sight; where the rules give the receiver a type, it is that one (`law_seen_type`).
+-- The rules type a whole feature or nothing of it, and a text that is being edited is often not typed yet. So a call's method is found by the type that its
+-- receiver has at first sight; if the rules give the receiver a type, it is that one (`law_seen_type`).
 --
--- The type that an expression has at first sight: of a name, a constant, a new object, an operator and a call. Of a conditional, a block, a
--- `let` and a `case` none is given, nor where a name or a method is unknown.
+-- The type that an expression has at first sight: a name, a constant, a new object, an operator and a call have one. A conditional, a block, a `let` and a
+-- `case` have none, nor has an expression whose name or method is unknown.
 
 abbrev pub type_declared : List Class → Option Variable → Option Ty
 type_declared p None = None
@@ -65,7 +64,7 @@ abbrev pub type_of_result : List Class → Ty → Option MethodRef → Option Ty
 type_of_result p receiver None = None
 type_of_result p receiver (Some m) = Some (result_on receiver (type_meant p (result_of p m)))
 
--- of a call on a receiver of this type, of a method that is looked for in the class of another
+-- the type of a call on a receiver of this type, of a method that is looked for in the class of another
 abbrev pub type_of_call : Context → Option Ty → Option Ty → List ℕ → Option Ty
 type_of_call s None owner name = None
 type_of_call s (Some receiver) None name = None
@@ -124,17 +123,17 @@ abbrev mutual
   marks_of s scope (trees.Str at bytes) = []
   marks_of s scope (trees.Bool at value) = []
 
-  -- of expressions in order
+  -- the marks of expressions in order
   pub marks_of_all : Context → List (Bound Variable) → Trees → List Mark
   marks_of_all s scope Last = []
   marks_of_all s scope (More t ts) = marks_of s scope t ++ marks_of_all s scope ts
 
-  -- of an initial value, where there is one
+  -- the marks of an initial value, if there is one
   pub marks_of_maybe : Context → List (Bound Variable) → MaybeTree → List Mark
   marks_of_maybe s scope Without = []
   marks_of_maybe s scope (With t) = marks_of s scope t
 
-  -- of the branches of a case, each with its variable in scope
+  -- the marks of the branches of a case, each with its variable in scope
   pub marks_of_cases : Context → List (Bound Variable) → Cases → List Mark
   marks_of_cases s scope NoCase = []
   marks_of_cases s scope (CaseOf at name declared t cs) =

@@ -1,5 +1,4 @@
--- What a name means where it stands: the type that its definition declares, and where that definition is (the Cool manual, sections 3 to 8
--- and 12).
+-- The meaning of a name where it stands: the type that its definition declares, and the place of that definition (the Cool manual, sections 3 to 8 and 12).
 use Rattle.std.specs.Prelude.{◌≡◌, refl, ℕ, ◌-◌, List, [], ◌∷◌, ◌++◌, map, get_or, slice_get, Option, Some, None, codes, bytes_eq, nat_lt, if◌then◌else◌}
 use Rattle.std.specs.Option.{option_or}
 use Rattle.cool_syntax.specs.declared.file_tree.ClassDef.{ClassDef}
@@ -43,7 +42,7 @@ name_meaning locals attributes name =
 
 -- Classes
 
--- where a class is defined: the five basic ones come first and are given
+-- the place of a class's definition: the five basic ones come first and are given
 abbrev pub class_target : List ClassDef → ClassId → Target
 class_target ds c = if nat_lt c.0 5 then Given else At (get_or (map (λ (d : ClassDef). d.at) ds) (c.0 - 5) nowhere)
 
@@ -67,7 +66,7 @@ separated sign (name ∷ names) = sign ++ (name ++ separated (codes ",") names)
 abbrev pub signature : List (List ℕ) → List ℕ → List ℕ
 signature formals result = codes "(" ++ (separated [] formals ++ (codes "):" ++ result))
 
--- what a feature declares
+-- the meaning of a feature: its declaration
 abbrev pub feature_meaning : Feature → Meaning
 feature_meaning (Method m) = record { declared = signature (map (λ f. f.declared.name) m.formals) m.result.name; target = At m.at }
 feature_meaning (Attribute a) = record { declared = a.declared.name; target = At a.at }

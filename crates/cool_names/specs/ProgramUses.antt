@@ -15,12 +15,12 @@ use Rattle.cool_names.specs.Uses.{AreTold, Use, uses_among, uses_of}
 abbrev pub AreTypedFeatures : List Class → ClassId → List Feature → Type 0
 AreTypedFeatures p c = AllByRecursion (IsTypedFeature p c)
 
--- those of classes whose numbers begin at this one
+-- the typed classes whose numbers begin at this one
 abbrev pub AreTypedClasses : List Class → ℕ → List Class → Type 0
 AreTypedClasses p k [] = Unit {0}
 AreTypedClasses p k (c ∷ cs) = AreTypedFeatures p (class_number k) c.features × AreTypedClasses p (k + 1) cs
 
--- those of a program, whose classes come after the five basic ones
+-- a typed program, whose classes come after the five basic ones
 abbrev pub IsTypedProgram : List Class → Type 0
 IsTypedProgram p = AreTypedClasses p 5 (drop 5 p)
 

@@ -67,21 +67,21 @@ abbrev pub parent_marks : List Class → List ClassDef → Option TypeRef → Li
 parent_marks p ds None = []
 parent_marks p ds (Some r) = type_mark p ds r ∷ []
 
--- where the features of a class stand
+-- the context of the features of a class
 abbrev pub class_context : List Class → List ClassDef → ClassId → Context
 class_context p ds c = record { table = p; definitions = ds; class = c; attributes = attributes_in_scope p c }
 
--- of the definition of the class of a number: its name, its parent's and its features
+-- the marks of the definition of the class of a number: its name, its parent's and its features
 abbrev pub class_marks : List Class → List ClassDef → ℕ → ClassDef → List Mark
 class_marks p ds k d =
     mark d.at role.Class d.name (record { declared = d.name; target = At d.at }) ∷ (parent_marks p ds d.parent
     ++ features_marks (class_context p ds (class_number k)) d.features)
 
--- of definitions whose classes begin at a number
+-- the marks of definitions whose classes begin at a number
 abbrev pub marks_from : List Class → List ClassDef → ℕ → List ClassDef → List Mark
 marks_from p all k [] = []
 marks_from p all k (d ∷ ds) = class_marks p all k d ++ marks_from p all (k + 1) ds
 
--- of a program: its classes have the numbers after the five basic ones
+-- the marks of a program: its classes have the numbers after the five basic ones
 abbrev pub program_marks : List Class → List ClassDef → List Mark
 program_marks p ds = marks_from p ds 5 ds

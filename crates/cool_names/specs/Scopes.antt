@@ -1,4 +1,4 @@
--- The variables in scope: what each name is bound to, the latest first (the Cool manual, sections 5, 6, 7.8, 7.9 and 12).
+-- The variables in scope: the binding of each name, the latest first (the Cool manual, sections 5, 6, 7.8, 7.9 and 12).
 use Rattle.std.specs.Prelude.{◌≡◌, refl, ℕ, List, [], ◌∷◌, map, Some, codes}
 use Rattle.cool_syntax.specs.declared.place.Place.{Place}
 use Rattle.cool_rules.specs.Scopes.{Bound, found}
@@ -9,7 +9,7 @@ pub record Variable : Type 0 where
   pub declared : List ℕ
   pub at : Place
 
--- what the code holds of a variable, and of those in scope
+-- the variable in the code's view of it, and the variables in scope
 abbrev pub variable_of : Declaration → Variable
 variable_of d = record { declared = d.declared.now; at = d.at }
 

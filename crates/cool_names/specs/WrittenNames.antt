@@ -39,7 +39,7 @@ abbrev pub names_in : List Token → List Spot
 names_in [] = []
 names_in (t ∷ ts) = names_of t.kind t.at ++ names_in ts
 
--- what a mark stands at
+-- the spot of a mark
 abbrev pub spot_of : Mark → Spot
 spot_of m = spot m.at m.name
 

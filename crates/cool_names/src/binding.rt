@@ -16,7 +16,7 @@ use cool_rules::Scope;
 use cool_syntax::{Name, Node, NodeBranch, NodeId};
 use std::alloc::AllocError;
 
-/// Adds the marks of a `let` or a `case`, whose parts have numbers below this one. `Err` comes only for want of memory.
+/// Adds the marks of a `let` or a `case`, whose parts have numbers below this one. Returns `Err` only if memory runs out.
 #[cycle(walk)]
 pub(crate) fn add_binding<'a>(
     setting: &NamingSetting<'a, '_>,
@@ -61,7 +61,7 @@ pub(crate) fn add_binding<'a>(
     }
 }
 
-/// Adds the marks of an initial value, where there is one. `Err` comes only for want of memory.
+/// Adds the marks of an initial value, where there is one. Returns `Err` only if memory runs out.
 #[cycle(walk)]
 fn add_option<'a>(
     setting: &NamingSetting<'a, '_>,
@@ -81,7 +81,7 @@ fn add_option<'a>(
     }
 }
 
-/// Adds the marks of an expression in the scope with one more variable. `Err` comes only for want of memory.
+/// Adds the marks of an expression in the scope with one more variable. Returns `Err` only if memory runs out.
 #[cycle(walk)]
 fn add_within<'a>(
     setting: &NamingSetting<'a, '_>,
@@ -101,7 +101,7 @@ fn add_within<'a>(
     Ok(())
 }
 
-/// Adds the marks of branches, in order. `Err` comes only for want of memory.
+/// Adds the marks of branches, in order. Returns `Err` only if memory runs out.
 #[cycle(walk)]
 fn add_branches<'a>(
     setting: &NamingSetting<'a, '_>,

@@ -17,7 +17,7 @@ use cool_rules::Scope;
 use cool_syntax::{Node, NodeId, Place};
 use std::alloc::AllocError;
 
-/// Adds the marks of a call, whose parts have numbers below this one. `Err` comes only for want of memory.
+/// Adds the marks of a call, whose parts have numbers below this one. Returns `Err` only if memory runs out.
 #[cycle(walk)]
 pub(crate) fn add_call<'a>(
     setting: &NamingSetting<'a, '_>,
@@ -59,7 +59,7 @@ pub(crate) fn add_call<'a>(
     }
 }
 
-/// Adds the marks of a receiver, where it stands in the text. `Err` comes only for want of memory.
+/// Adds the marks of a receiver, where it stands in the text. Returns `Err` only if memory runs out.
 #[cycle(walk)]
 fn add_receiver<'a>(
     setting: &NamingSetting<'a, '_>,

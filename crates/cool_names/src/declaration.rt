@@ -1,4 +1,4 @@
-//! What is known of a variable in scope.
+//! The declaration of a variable in scope.
 
 use cool_syntax::{Name, Place};
 

@@ -17,7 +17,7 @@ use cool_rules::Scope;
 use cool_syntax::{Node, NodeId};
 use std::alloc::AllocError;
 
-/// Adds the marks of the expression at this number. `Err` comes only for want of memory.
+/// Adds the marks of the expression at this number. Returns `Err` only if memory runs out.
 #[cycle(walk)]
 pub(crate) fn add_marks<'a>(
     setting: &NamingSetting<'a, '_>,
@@ -53,7 +53,7 @@ pub(crate) fn add_marks<'a>(
     }
 }
 
-/// Adds the mark of a name or a new object; a constant has none. `Err` comes only for want of memory.
+/// Adds the mark of a name or a new object; a constant has none. Returns `Err` only if memory runs out.
 fn add_leaf<'a>(
     setting: &NamingSetting<'a, '_>,
     locals: &Scope<'a, Declaration<'a>>,
@@ -74,8 +74,7 @@ fn add_leaf<'a>(
     Ok(())
 }
 
-/// Adds the marks of an assignment or of an operator with one operand, which has a number below this one. `Err` comes only for want of
-/// memory.
+/// Adds the marks of an assignment or of an operator with one operand, which has a number below this one. Returns `Err` only if memory runs out.
 #[cycle(walk)]
 fn add_unary<'a>(
     setting: &NamingSetting<'a, '_>,
@@ -102,7 +101,7 @@ fn add_unary<'a>(
     }
 }
 
-/// Adds the marks of a conditional, a loop or a block, whose parts have numbers below this one. `Err` comes only for want of memory.
+/// Adds the marks of a conditional, a loop or a block, whose parts have numbers below this one. Returns `Err` only if memory runs out.
 #[cycle(walk)]
 fn add_control<'a>(
     setting: &NamingSetting<'a, '_>,
@@ -132,7 +131,7 @@ fn add_control<'a>(
     }
 }
 
-/// Adds the marks of some expressions, in order. `Err` comes only for want of memory.
+/// Adds the marks of some expressions, in order. Returns `Err` only if memory runs out.
 #[cycle(walk)]
 pub(crate) fn add_all<'a>(
     setting: &NamingSetting<'a, '_>,

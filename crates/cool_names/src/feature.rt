@@ -21,7 +21,7 @@ use cool_rules::Scope;
 use cool_syntax::{AttributeDef, Body, Feature, Formal, MethodDef};
 use std::alloc::{AllocError, Global};
 
-/// Adds the marks of the features of a class, in order. `Err` comes only for want of memory.
+/// Adds the marks of the features of a class, in order. Returns `Err` only if memory runs out.
 pub(crate) fn add_features<'a>(
     program: &Program<'a>,
     marks: &mut Vec<Mark>,
@@ -44,7 +44,7 @@ pub(crate) fn add_features<'a>(
     Ok(())
 }
 
-/// Adds the marks of a method. `Err` comes only for want of memory.
+/// Adds the marks of a method. Returns `Err` only if memory runs out.
 fn add_method<'a>(
     program: &Program<'a>,
     marks: &mut Vec<Mark>,
@@ -74,7 +74,7 @@ fn add_method<'a>(
     add_marks(&setting, &mut locals, marks, method.body.root())
 }
 
-/// Adds the marks of formals, in order, and gives them as a scope. `Err` comes only for want of memory.
+/// Adds the marks of formals, in order, and gives them as a scope. Returns `Err` only if memory runs out.
 fn add_formals<'a>(
     program: &Program<'a>,
     marks: &mut Vec<Mark>,
@@ -102,7 +102,7 @@ fn add_formals<'a>(
     Ok(locals)
 }
 
-/// Adds the marks of an attribute. `Err` comes only for want of memory.
+/// Adds the marks of an attribute. Returns `Err` only if memory runs out.
 fn add_attribute<'a>(
     program: &Program<'a>,
     marks: &mut Vec<Mark>,
@@ -134,7 +134,7 @@ fn add_attribute<'a>(
     add_marks(&setting, &mut Scope::new(program.alloc), marks, body.root())
 }
 
-/// The attributes of a class with those that it inherits, as a scope. `Err` comes only for want of memory.
+/// The attributes of a class with those that it inherits, as a scope. Returns `Err` only if memory runs out.
 fn attribute_scope(
     alloc: Global,
     table: &ClassTable,

@@ -16,12 +16,12 @@ pub fn law_marks_are_names()
     ensures program { AreProgramNames }
 {}
 
-/// Where the rules give an expression a type, the one at first sight is the same, or none is seen.
+/// If the rules give an expression a type, the one at first sight is the same, or none is seen.
 pub fn law_seen_type()
     ensures { (p : List Class) → IsWholeTable p → IsSeenRightly p }
 {}
 
-/// Where the rules give a variable a type, its mark declares a name of that type.
+/// If the rules give a variable a type, its mark declares a name of that type.
 pub fn law_declared_type()
     ensures { (p : List Class) → IsDeclaredRightly p }
 {}

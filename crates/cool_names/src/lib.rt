@@ -1,7 +1,7 @@
-//! The names of a program: where each stands, what it is there, and which definition it means.
+//! The names of a program: the place of each, its role there, and the definition that it means.
 //!
-//! Comes in: the class table of a program and the definitions of its classes. Goes out: a mark for each name, in the order of the text.
-//! `specs/Marks.antt` and `specs/Programs.antt` define which marks there are, and `specs/Meanings.antt` what a name means.
+//! Input: the class table of a program and the definitions of its classes. Output: a mark for each name, in the order of the text. `specs/Marks.antt` and
+//! `specs/Programs.antt` define which marks there are, and `specs/Meanings.antt` the meaning of a name.
 #![tactic(auto)]
 
 mod binding;

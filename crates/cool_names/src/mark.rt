@@ -2,7 +2,7 @@
 
 use cool_syntax::{Bytes, Name, Place};
 
-/// What a name is where it stands.
+/// The role of a name where it stands.
 #[derive(Clone, Copy)]
 pub enum Role {
     /// The name of a class in its definition.
@@ -27,7 +27,7 @@ pub enum Role {
     Call,
 }
 
-/// Where a name is defined.
+/// The place of a name's definition.
 #[derive(Clone, Copy)]
 pub enum Target {
     /// It is not known where, or nowhere.
@@ -38,7 +38,7 @@ pub enum Target {
     At(Place),
 }
 
-/// What a name means: the type that its definition declares, as a text, and where the definition is.
+/// The meaning of a name: the type that its definition declares, as a text, and the place of the definition.
 #[derive(Drop)]
 pub struct Meaning {
     pub declared: Bytes,

@@ -1,4 +1,4 @@
-//! What names mean.
+//! The meanings of names.
 
 ghost use Rattle.std.specs.Prelude.{◌≡◌, ◌<◌, map, IfOk, Some, option_map, unwrap_or, slice_get};
 ghost use Rattle.cool_syntax.specs.declared.file_tree.Feature.TheVariants as feature;
@@ -13,7 +13,7 @@ use cool_classes::{BasicMethod, ClassTable, MethodRef};
 use cool_syntax::{Bytes, Feature, MethodDef, Place};
 use std::alloc::{AllocError, Global};
 
-/// The meaning that declares this type and is defined here. `Err` comes only for want of memory.
+/// The meaning that declares this type and is defined here. Returns `Err` only if memory runs out.
 pub(crate) fn meaning(alloc: Global, declared: &[u8], target: Target) -> Result<Meaning, AllocError>
     ensures { IfOk result (λ meaning. meaning ≡ record { declared = declared.now; target = target }) }
 {
@@ -23,21 +23,21 @@ pub(crate) fn meaning(alloc: Global, declared: &[u8], target: Target) -> Result<
     })
 }
 
-/// The meaning of a name that is bound to nothing. `Err` comes only for want of memory.
+/// The meaning of a name that is bound to nothing. Returns `Err` only if memory runs out.
 pub(crate) fn unknown(alloc: Global) -> Result<Meaning, AllocError>
     ensures { IfOk result (λ meaning. meaning ≡ unknown) }
 {
     meaning(alloc, b"?", Target::Unknown)
 }
 
-/// The meaning of `self`. `Err` comes only for want of memory.
+/// The meaning of `self`. Returns `Err` only if memory runs out.
 pub(crate) fn self_meaning(alloc: Global) -> Result<Meaning, AllocError>
     ensures { IfOk result (λ meaning. meaning ≡ self_meaning) }
 {
     meaning(alloc, b"SELF_TYPE", Target::Given)
 }
 
-/// The meaning of a variable, if there is one. `Err` comes only for want of memory.
+/// The meaning of a variable, if there is one. Returns `Err` only if memory runs out.
 pub(crate) fn variable_meaning(
     alloc: Global,
     found: Option<Declaration<'_>>,
@@ -50,7 +50,7 @@ pub(crate) fn variable_meaning(
     }
 }
 
-/// The meaning of a method. `Err` comes only for want of memory.
+/// The meaning of a method. Returns `Err` only if memory runs out.
 pub fn method_meaning(
     alloc: Global,
     table: &ClassTable,
@@ -68,7 +68,7 @@ pub fn method_meaning(
     }
 }
 
-/// The meaning of the method that this defines. `Err` comes only for want of memory.
+/// The meaning of the method that this defines. Returns `Err` only if memory runs out.
 pub(crate) fn defined_method(alloc: Global, method: &MethodDef) -> Result<Meaning, AllocError>
     ensures { IfOk result (λ meaning. meaning ≡ feature_meaning (feature.Method method.now)) }
 {
@@ -78,7 +78,7 @@ pub(crate) fn defined_method(alloc: Global, method: &MethodDef) -> Result<Meanin
     })
 }
 
-/// The signature of a method. `Err` comes only for want of memory.
+/// The signature of a method. Returns `Err` only if memory runs out.
 fn signature(alloc: Global, method: &MethodDef) -> Result<Vec<u8>, AllocError>
     ensures { IfOk result (λ text. text.items ≡ signature (map (λ f. f.declared.name) method.now.formals) method.now.result.name) }
 {

@@ -1,4 +1,4 @@
-//! In what an expression is walked through, and what its names mean there.
+//! The context in which an expression is walked through, and the meanings of its names there.
 
 ghost use Rattle.std.specs.Prelude.{◌≡◌, ◌<◌, [], ◌∷◌, ◌++◌, length, IfOk, IfSome, OnOk, option_map, bytes_eq, codes};
 ghost use Rattle.std.specs.Option.{option_or};
@@ -31,7 +31,7 @@ pub(crate) struct NamingSetting<'a, 's> {
 }
 
 impl<'a, 's> NamingSetting<'a, 's> {
-    /// The mark of a variable that is read or assigned to, or of `self`. `Err` comes only for want of memory.
+    /// The mark of a variable that is read or assigned to, or of `self`. Returns `Err` only if memory runs out.
     pub(crate) fn variable_mark(
         &self,
         locals: &Scope<'a, Declaration<'a>>,
@@ -132,7 +132,7 @@ impl<'a, 's> NamingSetting<'a, 's> {
         }
     }
 
-    /// The mark of a method that is called, by the type whose class has it, where that is known. `Err` comes only for want of memory.
+    /// The mark of a method that is called, by the type whose class has it, if that is known. Returns `Err` only if memory runs out.
     pub(crate) fn call_mark(
         &self,
         at: Place,
@@ -152,7 +152,7 @@ impl<'a, 's> NamingSetting<'a, 's> {
         })
     }
 
-    /// Adds the marks of the class after `@` and of the method that is called. `Err` comes only for want of memory.
+    /// Adds the marks of the class after `@` and of the method that is called. Returns `Err` only if memory runs out.
     pub(crate) fn add_static(
         &self,
         marks: &mut Vec<Mark>,
@@ -169,7 +169,7 @@ impl<'a, 's> NamingSetting<'a, 's> {
         Ok(())
     }
 
-    /// What the name of a method means on an object of a type, where that is known. `Err` comes only for want of memory.
+    /// The meaning of a method's name on an object of a type, if that is known. Returns `Err` only if memory runs out.
     fn call_meaning(&self, owner: Option<Ty>, name: &Name) -> Result<Meaning, AllocError>
         requires sound { IsSound self.now }
         requires owner { IfSome owner (IsType self.now.program.table.now) }

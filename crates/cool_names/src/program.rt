@@ -31,7 +31,7 @@ pub(crate) struct Program<'a> {
     pub(crate) definitions: &'a [ClassDef],
 }
 
-/// The marks of a program, in the order of files and text. `Err` comes only for want of memory.
+/// The marks of a program, in the order of files and text. Returns `Err` only if memory runs out.
 pub fn program_marks(
     alloc: Global,
     table: &ClassTable,
@@ -58,7 +58,7 @@ pub fn program_marks(
 }
 
 impl<'a> Program<'a> {
-    /// Adds the marks of the definition of a class. `Err` comes only for want of memory.
+    /// Adds the marks of the definition of a class. Returns `Err` only if memory runs out.
     fn add_class(
         &self,
         marks: &mut Vec<Mark>,
@@ -76,7 +76,7 @@ impl<'a> Program<'a> {
         add_features(self, marks, class, definition.features.as_slice())
     }
 
-    /// The mark of the name of a class where it is defined. `Err` comes only for want of memory.
+    /// The mark of the name of a class where it is defined. Returns `Err` only if memory runs out.
     fn class_mark(&self, definition: &ClassDef) -> Result<Mark, AllocError>
         ensures { IfOk result (λ m. m ≡ mark definition.now.at role.Class definition.now.name (record { declared = definition.now.name; target = At definition.now.at })) }
     {
@@ -101,7 +101,7 @@ impl<'a> Program<'a> {
         type_named(self.table, name)
     }
 
-    /// Where a class is defined.
+    /// The place of a class's definition.
     fn class_target(&self, class: ClassId) -> Target
         requires classes { AreClasses self.now.table.now self.now.definitions.now }
         requires class { class.0 < length self.now.table.now }
@@ -113,7 +113,7 @@ impl<'a> Program<'a> {
         Target::At(self.definitions[(class.0 - FIRST_CLASS) as usize].at)
     }
 
-    /// What the name of a type means. `Err` comes only for want of memory.
+    /// The meaning of the name of a type. Returns `Err` only if memory runs out.
     fn type_meaning(&self, name: &Name) -> Result<Meaning, AllocError>
         requires classes { AreClasses self.now.table.now self.now.definitions.now }
         ensures { IfOk result (λ m. m ≡ type_meaning self.now.table.now self.now.definitions.now name.now) }
@@ -126,7 +126,7 @@ impl<'a> Program<'a> {
         meaning(self.alloc, name.as_slice(), target)
     }
 
-    /// The mark of the name of a type. `Err` comes only for want of memory.
+    /// The mark of the name of a type. Returns `Err` only if memory runs out.
     pub(crate) fn type_mark(&self, used: &TypeRef) -> Result<Mark, AllocError>
         requires classes { AreClasses self.now.table.now self.now.definitions.now }
         ensures { IfOk result (λ m. m ≡ type_mark self.now.table.now self.now.definitions.now used.now) }
@@ -139,7 +139,7 @@ impl<'a> Program<'a> {
         })
     }
 
-    /// Adds the marks of a variable where it is declared, and of its type. `Err` comes only for want of memory.
+    /// Adds the marks of a variable where it is declared, and of its type. Returns `Err` only if memory runs out.
     pub(crate) fn add_declared(
         &self,
         marks: &mut Vec<Mark>,

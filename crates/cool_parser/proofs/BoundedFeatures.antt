@@ -1,4 +1,4 @@
--- Where the tokens fit their runs, each feature is bounded: where it ends, all that it has was counted in the run that goes on.
+-- If the tokens fit their runs, each feature is bounded: when it ends, all of it was counted in the current run.
 use Rattle.std.proofs.Common.{◌≡◌, ℕ, ◌+◌, ◌≤◌, ◌<◌, Bool, true, false, if◌then◌else◌, List, [], ◌∷◌, ◌++◌, length, Option, Some, None, IfSome, refl, sym, subst, ◌∙◌, ap, arith}
 use Rattle.std.specs.List.{AllByRecursion}
 use Rattle.std.specs.Option.{is_some}
@@ -296,7 +296,7 @@ step_bounded c _ _ at h w g l = tt
 
 -- Runs
 
--- what holds after the tokens of this run
+-- the invariant after the tokens of this run
 record Follows (r : Run) (s : State) : Type 0 where
   depth : r.depth ≡ depth s.context s.mode
   total : total s.context s.mode ≤ r.length

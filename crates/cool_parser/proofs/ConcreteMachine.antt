@@ -39,7 +39,7 @@ pub record ClosedMethod : Type 0 where
   pub formals : Formals
   pub rparen : Place
 
--- what stands before the body of a feature
+-- the tokens before the body of a feature
 pub data Around : Type 0 where
   InMethod : (class : Opened) (signature : Signature) → Around
   InAttribute : (class : Opened) (variable : Variable) (arrow : Place) → Around
@@ -70,13 +70,13 @@ pub data Form : Type 0 where
   CaseValue : (at : Place) → Form
   BranchBody : (case : OpenCase) (variable : Variable) (arrow : Place) → Form
 
--- what waits for an expression: an operator, a prefix form, or a form that ends by itself
+-- the forms that wait for an expression: an operator, a prefix form, or a form that ends by itself
 pub data Item : Type 0 where
   Left : (left : Concrete) (op : Operator) (at : Place) → Item
   Front : (prefix : Prefix) → Item
   Open : (form : Form) → Item
 
--- what has just been read of a body
+-- the tokens of a body that have just been read
 pub data Mode : Type 0 where
   Need : Mode
   Identifier : (name : List ℕ) (at : Place) → Mode

@@ -448,7 +448,7 @@ finish_within : (files : ℕ) (c : Context) (m : Mode) (end : Place) → IsWithi
 finish_within files c mode.File end w = w.classes
 finish_within files c _ end w = tt
 
--- what the rest of the tokens come to
+-- the outcome of the rest of the tokens
 outcome_within : (files : ℕ) (ts : List Token) (at end : Place) (o : Option State) → AreWithinLimits files ts → IfSome o (IsStateWithin files) → IsOutcomeWithin files (outcome at o ts end)
 outcome_within files [] at end None l h = tt
 outcome_within files (t ∷ ts) at end None l h = tt

@@ -1,4 +1,4 @@
--- What the code needs of what holds between two tokens: that the parts of a node stand before it, and that a body is one tree.
+-- Consequences of the invariant between two tokens, as the code needs them: the parts of a node come before it, and a body is one tree.
 use Rattle.std.proofs.Common.{◌≡◌, ℕ, ◌+◌, ◌≤◌, if◌then◌else◌, List, [], ◌∷◌, ◌++◌, length, Some, IfSome, refl, sym, subst, ◌∙◌, ap, length-append, arith}
 use Rattle.std.specs.Option.{is_some}
 use Rattle.cool_syntax.specs.declared.place.Place.{Place}
@@ -91,7 +91,7 @@ pub reduced_ended : (k : ℕ) (ns : List Node) (i : Item) (st : List Item) (t : 
 reduced_ended k ns i st t n e =
     ap (λ o. if is_some o then reduced k (ns ++ nodes_of o) st (record { 0 = length ns }) else record { nodes = ns; stack = i ∷ st; operand = t }) (sym e)
 
--- what a turn of the loop that ends operators keeps
+-- the facts that a turn of the loop that ends operators keeps
 pub record Turns (k : ℕ) (before after : Context) (t u : NodeId) : Type 0 where
   pub same : reduced k after.nodes after.stack u ≡ reduced k before.nodes before.stack t
   pub good : Good after (mode.Have u)

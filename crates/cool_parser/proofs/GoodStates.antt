@@ -1,4 +1,4 @@
--- A token keeps what holds between two tokens.
+-- Each token keeps the invariant between two tokens.
 use Rattle.std.proofs.Common.{◌≡◌, ℕ, nat_le, Bool, true, false, if◌then◌else◌, List, [], ◌∷◌, ◌++◌, length, codes, Option, Some, None, IfSome, refl, sym, subst, ◌∙◌, ap, append_assoc, append-nil}
 use Rattle.std.proofs.lemmas.List.{map-append}
 use Rattle.std.specs.Option.{is_some}
@@ -123,7 +123,7 @@ ended_parts k (item.Bound v None) t = if_parts (nat_le k 0) (node.Let v.at v.nam
 ended_parts k (item.Bound v (Some i)) t = if_parts (nat_le k 0) (node.Let v.at v.name v.declared (Some i) t) (i ∷ t ∷ []) refl
 ended_parts k _ t = tt
 
--- what an operand on a stack keeps
+-- the facts that an operand on a stack keeps
 abbrev pub Keeps : List Node → List Item → NodeId → Type 0
 Keeps ns st t = Holds ns (stack_parts st ++ t ∷ []) × IsBottomed st
 

@@ -1,4 +1,4 @@
--- The parser does with nodes and numbers what its machine over concrete trees does with the trees.
+-- The parser acts on nodes and numbers as its machine over concrete trees acts on the trees.
 use Rattle.std.proofs.Common.{◌≡◌, ℕ, ◌+◌, ◌-◌, nat_le, Bool, true, false, if◌then◌else◌, cond, List, [], ◌∷◌, ◌++◌, length, codes, Some, None, refl, ap, sym, ◌∙◌, append_assoc, append-nil, length-append, arith}
 use Rattle.std.specs.Option.{is_some}
 use Rattle.cool_syntax.specs.declared.place.Place.{Place}
@@ -267,33 +267,33 @@ IsCounted l = length l.list ≡ l.count
 lay_counted : (t : Concrete) (l : Laid) → IsCounted l → IsCounted (lay t l)
 lay_counted t l h = omega (arith, h, length-append l.list (nodes l.count (plain t)), length-nodes (plain t) l.count)
 
--- those of parts
+-- the nodes of parts
 parts_counted : (ps : Parts) (l : Laid) → IsCounted l → IsCounted (parts_laid ps l)
 parts_counted NoPart l h = h
 parts_counted (Then before e separator) l h = lay_counted e (parts_laid before l) (parts_counted before l h)
 
--- those of branches
+-- the nodes of branches
 branches_counted : (bs : Branches) (l : Laid) → IsCounted l → IsCounted (branches_laid bs l)
 branches_counted NoBranch l h = h
 branches_counted (Also before (On v arrow body semi)) l h = lay_counted body (branches_laid before l) (branches_counted before l h)
 
--- those of a binding
+-- the nodes of a binding
 binding_counted : (b : Binding) (l : Laid) → IsCounted l → IsCounted (binding_laid b l)
 binding_counted (Default v) l h = h
 binding_counted (Init v arrow e) l h = lay_counted e l h
 
--- those of bindings
+-- the nodes of bindings
 bindings_counted : (bs : Bindings) (l : Laid) → IsCounted l → IsCounted (bindings_laid bs l)
 bindings_counted NoBinding l h = h
 bindings_counted (Next before b comma) l h = binding_counted b (bindings_laid before l) (bindings_counted before l h)
 
--- those of a receiver
+-- the nodes of a receiver
 callee_counted : (callee : Callee) (l : Laid) → IsCounted l → IsCounted (callee_laid callee l)
 callee_counted (OfSelf name at) l h = lay_counted (self_at at) l h
 callee_counted (Of t dot name at) l h = lay_counted t l h
 callee_counted (OfClass t mark class dot name at) l h = lay_counted t l h
 
--- those of a form
+-- the nodes of a form
 form_counted : (f : Form) (l : Laid) → IsCounted l → IsCounted (form_laid f l)
 form_counted (Arguments callee lparen firsts) l h = parts_counted firsts (callee_laid callee l) (callee_counted callee l h)
 form_counted (IfYes at test then_at) l h = lay_counted test l h
@@ -304,7 +304,7 @@ form_counted (Value at firsts v arrow) l h = bindings_counted firsts l h
 form_counted (BranchBody c v arrow) l h = branches_counted c.firsts (lay c.value l) (lay_counted c.value l h)
 form_counted _ l h = h
 
--- those of a prefix form
+-- the nodes of a prefix form
 prefix_counted : (p : Prefix) (l : Laid) → IsCounted l → IsCounted (prefix_laid p l)
 prefix_counted (Let at firsts last within) l h = binding_counted last (bindings_laid firsts l) (bindings_counted firsts l h)
 prefix_counted _ l h = h

@@ -48,7 +48,7 @@ taken : (k : ℕ) (t : NodeId) (st rest : List Item) (i : Item) (o : Option Node
 taken k t st rest i None top e some = let wrong : false ≡ true = ap is_some e ∙ some in absurd (cc)
 taken k t st rest i (Some n) top e some = record { item = i; top = top; node = sym e }
 
--- the same of the top that was looked at first
+-- the same for the top that was looked at first
 pub taken_top : (k : ℕ) (t : NodeId) (st rest below : List Item) (i j : Item) (o : Option Node) → st ≡ j ∷ below → is_some (ended k j t) ≡ true
     → st ≡ i ∷ rest → o ≡ ended 0 i t → MatchOption o ((rest ≡ st) × NoneEnds k t st) (Ends k t st rest)
 taken_top k t st rest below i j o seen ends top made =

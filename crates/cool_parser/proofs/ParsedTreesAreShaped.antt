@@ -1,4 +1,4 @@
--- What the machine makes is shaped, and reads as the tokens.
+-- The trees that the machine makes are shaped, and read as the tokens.
 use Rattle.std.proofs.Common.{◌≡◌, ℕ, ◌<◌, ◌≤◌, nat_le, List, [], ◌∷◌, ◌++◌, refl, ap, sym, subst, ◌∙◌, arith, append_assoc, append-nil, Option, Some, None, IfSome, cond, true, false}
 use Rattle.std.proofs.lemmas.Bool.{leb-true, leb-false}
 use Rattle.cool_syntax.specs.declared.place.Place.{Place}
@@ -156,7 +156,7 @@ reduce_words k a (Front p ∷ st) t =
     [ true ↦ reduce_words k a st (Before p t) ∙ sym (append_assoc (stack_words a st) (prefix_reading p) (reading t)) | false ↦ refl ]
 reduce_words k a (Open f ∷ st) t = refl
 
--- What holds of a state
+-- The invariant of a state
 
 abbrev pub IsGoodOpened : Opened → Type 0
 IsGoodOpened o = IsShapedFile o.classes × AreShapedFeatures o.features
@@ -241,7 +241,7 @@ IsGoodState (AttributeType o name at colon) = IsGoodOpened o
 IsGoodState (AttributeEnd o v) = IsGoodOpened o
 IsGoodState (Inside a st m) = IsGoodMode m × IsGood a st
 
--- what holds where the operators of at least a level have ended
+-- the state after the operators of at least a level have ended
 pub record IsGoodTop (k : ℕ) (a : Around) (top : Top) : Type 0 where
   pub good : IsGood a top.stack
   pub shaped : IsShaped top.operand
@@ -304,13 +304,13 @@ receiver_fits t (Left m p here ∷ st) r s = receiver_begins (level p) t r s
 receiver_fits t (Front p ∷ st) r s = receiver_begins (prefix_level p) t r s
 receiver_fits t (Open form ∷ st) r s = tt
 
--- what holds where the operators after a receiver have ended
+-- the state after the operators after a receiver have ended
 have_top : (k : ℕ) (a : Around) (st : List Item) (t : Concrete) → IsReceiver t → IsShaped t → IsGood a st → IsGoodTop k a (reduce k st t)
 have_top k a st t r s g = reduce_good k a st t g s (receiver_fits t st r s) (receiver_ends k t r)
 
 -- One token
 
--- where there is a state, it is good, and its tokens are these and one more
+-- if there is a state, it is good, and its tokens are these and one more
 abbrev pub Goes : List Token → Token → Option State → Type 0
 Goes ws t o = IfSome o (λ s. IsGoodState s × (said s ≡ ws ++ t ∷ []))
 
@@ -597,6 +597,6 @@ pub run_goes : (ts : List Token) (s : State) → IsGoodState s → IfSome (run s
 run_goes [] s g = (g, sym (append-nil (said s)))
 run_goes (t ∷ ts) s g = run_bind (said s) ts t (step s t.kind t.at) (step_goes s t.kind t.at g) (run_goes ts)
 
--- what the machine makes of tokens is shaped and reads as they do
+-- the file that the machine makes of tokens is shaped and reads as they do
 pub sound : (ts : List Token) (cs : Classes) → run start ts ≡ Some (File cs) → IsShapedFile cs × (file_reading cs ≡ ts)
 sound ts cs e = subst (λ o. IfSome o (λ n. IsGoodState n × (said n ≡ ts))) e (run_goes ts start tt)

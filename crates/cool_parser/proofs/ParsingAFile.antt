@@ -1,4 +1,4 @@
--- What is left of a file's tokens comes to the same outcome, and no tokens are the file without classes.
+-- The rest of a file's tokens leads to the same outcome, and no tokens are the file without classes.
 use Rattle.std.proofs.Common.{◌≡◌, ℕ, ◌+◌, ◌<◌, List, [], ◌∷◌, length, drop, get_or, Option, Some, refl, ◌∙◌, ap}
 use Rattle.std.proofs.lemmas.List.{drop_more}
 use Rattle.cool_syntax.specs.declared.place.Place.{Place}
@@ -7,7 +7,7 @@ use Rattle.cool_syntax.specs.declared.file_tree.ClassDef.{ClassDef}
 use Rattle.cool_parser.specs.declared.mode.Mode.{Mode}
 use Rattle.cool_parser.specs.ParsingMachine.{Context, State, step, outcome, parsed, Whole, Unexpected}
 
--- where the last token stood plays no part as long as a state is there
+-- the place of the last token does not matter as long as a state is there
 pub any_place : (at other : Place) (s : State) (ts : List Token) (end : Place) → outcome at (Some s) ts end ≡ outcome other (Some s) ts end
 any_place at other s [] end = refl
 any_place at other s (t ∷ ts) end = refl

@@ -1,4 +1,4 @@
--- The parser's outcome is what the grammar says of the tokens.
+-- The parser's outcome agrees with the grammar.
 use Rattle.std.proofs.Common.{◌≡◌, List, [], ◌∷◌, ◌++◌, refl, ap, sym, subst, ◌∙◌, append_assoc, append-nil, Option, Some, None, IfSome, inl, inr}
 use Rattle.std.specs.Option.{option_map}
 use Rattle.cool_syntax.specs.declared.place.Place.{Place}
@@ -30,7 +30,7 @@ abbrev ended : Option Classes → Place → Outcome
 ended (Some cs) end = Whole (plain_file cs)
 ended None end = Unexpected end
 
--- both machines end between classes alone
+-- both machines end only between classes
 finish_shown : (s : State) (end : Place) → machine.finish (shown s).context (shown s).mode end ≡ ended (finish s) end
 finish_shown (Inside a st (MethodName (Dot t dot))) end = refl
 finish_shown _ end = refl
@@ -69,14 +69,14 @@ run_one ws t n e = run_append ws (t ∷ []) start ∙ ap (λ o. bind o (λ m. ru
     only None = refl
     only (Some m) = refl
 
--- What the outcome tells
+-- The meaning of the outcome
 
--- of all tokens of a file
+-- the outcome of all tokens of a file
 abbrev Tells : List Token → Place → Outcome → Type 0
 Tells tokens end (Whole classes) = Parses tokens classes
 Tells tokens end (Unexpected at) = IsUnexpected tokens end at
 
--- what the end of the tokens tells
+-- the outcome at the end of the tokens
 end_tells : (ws : List Token) (s : State) (end : Place) (o : Option Classes) → finish s ≡ o → run start ws ≡ Some s → Tells ws end (ended o end)
 end_tells ws s end (Some cs) f e =
     let r = reached ws (File cs) (e ∙ ap Some (finished s cs f)) in
@@ -89,7 +89,7 @@ end_tells ws s end None f e = inr (refl, begins ws s e, λ classes p. no_file (p
         some_of : {m n : State} → Some m ≡ Some n → m ≡ n
         some_of h = cc
 
--- what the rest of the tokens tells
+-- the outcome of the rest of the tokens
 tells_from : (ts ws : List Token) (s : State) (at end : Place) → run start ws ≡ Some s → Tells (ws ++ ts) end (outcome at (Some (shown s)) ts end)
 tells_from [] ws s at end e =
     subst (λ us. Tells us end (machine.finish (shown s).context (shown s).mode end)) (sym (append-nil ws))
@@ -103,11 +103,11 @@ tells_from (t ∷ ts) ws s at end e =
     after None h more = inl (ws, t, ts, refl, refl, begins ws s e, refused (ws ++ t ∷ []) h)
     after (Some n) h more = subst (λ us. Tells us end (outcome t.at (Some (shown n)) ts end)) (append_assoc ws (t ∷ []) ts) (more n h)
 
--- what all tokens tell
+-- the outcome of all tokens
 tells : (tokens : List Token) (end : Place) → Tells tokens end (parsed tokens end)
 tells tokens end = tells_from tokens [] start end end refl
 
--- what is parsed are the classes of the file that the tokens are
+-- the parsed classes are those of the file that the tokens are
 pub sound : (tokens : List Token) (end : Place) (classes : List ClassDef) → parsed tokens end ≡ Whole classes → Parses tokens classes
 sound tokens end classes e = subst (Tells tokens end) e (tells tokens end)
 
@@ -136,7 +136,7 @@ led ws b = after (run start ws) refl
     after None e = absurd (refused ws e b)
     after (Some n) e = (n, e)
 
--- where the tokens with this one begin no file, the machine refuses it
+-- if the tokens with this one begin no file, the machine refuses it
 stopped : (ws : List Token) (t : Token) (n : State) → run start ws ≡ Some n → (BeginsFile (ws ++ t ∷ []) → ⊥) → step n t.kind t.at ≡ None
 stopped ws t n e h = after (step n t.kind t.at) (run_one ws t n e)
   where
@@ -144,7 +144,7 @@ stopped ws t n e h = after (step n t.kind t.at) (run_one ws t n e)
     after None f = refl
     after (Some m) f = absurd (h (begins (ws ++ t ∷ []) m f))
 
--- where the tokens are no file, the machine is not between classes
+-- if the tokens are no file, the machine is not between classes
 unended : (ws : List Token) (n : State) (o : Option Classes) → run start ws ≡ Some n → finish n ≡ o → ((classes : List ClassDef) → Parses ws classes → ⊥) → o ≡ None
 unended ws n None e f h = refl
 unended ws n (Some cs) e f h = let r = reached ws (File cs) (e ∙ ap Some (finished n cs f)) in absurd (h (plain_file cs) (cs, r.0, r.1, refl))
@@ -188,12 +188,12 @@ pub error_tells : (tokens : List Token) (end : Place) (error : ParseError) → I
 error_tells tokens end (Fault f) o = stops tokens end f.at o
 error_tells tokens end Memory o = tt
 
--- tokens that are a file want memory alone
+-- for tokens that are a file, the only error is out of memory
 pub error_or_whole : (tokens : List Token) (end : Place) (error : ParseError) (classes : List ClassDef) → IsOutcome (parsed tokens end) error → Parses tokens classes → error ≡ Memory
 error_or_whole tokens end (Fault f) classes o p = fault_or_whole tokens end f.at classes o p
 error_or_whole tokens end Memory classes o p = refl
 
--- an error is at the first fault, or want of memory
+-- an error is at the first fault, or out of memory
 pub error_only : (tokens : List Token) (end at : Place) (error : ParseError) → IsOutcome (parsed tokens end) error → IsUnexpected tokens end at → IsFaultAt at error
 error_only tokens end at (Fault f) o u = fault_only tokens end f.at at o u
 error_only tokens end at Memory o u = tt

@@ -1,4 +1,4 @@
--- A node whose parts are the last roots that wait makes one tree of theirs: this keeps what holds between two tokens.
+-- A node whose parts are the last roots that wait makes one tree of theirs: this keeps the invariant between two tokens.
 use Rattle.std.proofs.Common.{◌≡◌, ℕ, ◌+◌, ◌-◌, ◌<◌, ◌≤◌, List, [], ◌∷◌, ◌++◌, length, map, Some, None, refl, sym, subst, ◌∙◌, ap, append_assoc, append-nil, length-append, arith}
 use Rattle.std.specs.List.{AllByRecursion}
 use Rattle.cool_syntax.specs.declared.node.NodeId.{NodeId}
@@ -244,7 +244,7 @@ parts_below ns ids n (ts, list, whole) =
     (after ids (node_parts n) (length ns)
     (subst (AreBelow (length ns)) (sym whole) (roots_below ts 0 (length ns) (omega (arith, ap length list ∙ length-nodes_of_all ts 0)))))
 
--- where one root waits alone, the nodes are the list of its tree
+-- if one root waits and no other, the nodes are the list of its tree
 pub postorder : (ns : List Node) (t : NodeId) → Holds ns (t ∷ []) → IsPostorder ns
 postorder ns t (Last, list, whole) = absurd (cc)
 postorder ns t (More u Last, list, whole) = (u, list ∙ append-nil (nodes 0 u))

@@ -1,4 +1,4 @@
--- What the machine has read begins some file; what it refuses begins none.
+-- The tokens that the machine has read begin some file; the tokens that it refuses begin none.
 use Rattle.std.proofs.Common.{◌≡◌, ℕ, List, [], ◌∷◌, ◌++◌, codes, refl, ap, sym, subst, ◌∙◌, arith, Option, Some, None, IfSome}
 use Rattle.cool_syntax.specs.declared.place.Place.{Place}
 use Rattle.cool_syntax.specs.declared.token.Token.{Token}
@@ -46,7 +46,7 @@ method_end = a_sign sign.LBrace ∷ a_name ∷ a_sign sign.RBrace ∷ a_sign sig
 abbrev result_end : List Token
 result_end = a_sign sign.Colon ∷ a_type ∷ method_end
 
--- what is missing of a form after its expression
+-- the tokens missing of a form after its expression
 abbrev form_closers : Form → List Token
 form_closers (Parenthesis lparen) = a_sign sign.RParen ∷ []
 form_closers (Arguments callee lparen firsts) = a_sign sign.RParen ∷ []
@@ -100,7 +100,7 @@ left_closes s a l op here st t c = record { by = λ k at h. c.by k at h ∙ ap (
 front_closes : (s : State) (a : Around) (p : Prefix) (st : List Item) (t : Concrete) → Closes s a (Front p ∷ st) t → Closes s a st (Before p t)
 front_closes s a p st t c = record { by = λ k at h. c.by k at h ∙ ap (close k at a) (reduce_front 0 st p t (omega arith)) }
 
--- what the stack below can end
+-- after an operand, the stack below ends by its closing tokens
 abbrev Below : Around → List Item → Type 0
 Below a st = (t : Concrete) (s : State) → Closes s a st t → Ends s (closers a st)
 

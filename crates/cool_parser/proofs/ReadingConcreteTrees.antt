@@ -1,4 +1,4 @@
--- Each shaped concrete file is what the machine makes of its reading.
+-- The machine makes each shaped concrete file from its reading.
 use Rattle.std.proofs.Common.{◌≡◌, ℕ, ◌≤◌, List, [], ◌∷◌, ◌++◌, refl, ap, sym, ◌∙◌, arith, append_assoc, append-nil, Some, le-leb, cond, true, false}
 use Rattle.cool_syntax.specs.declared.place.Place.{Place}
 use Rattle.cool_syntax.specs.declared.token.Token.{Token}
@@ -131,14 +131,14 @@ at_step t at a st h = refl
 pub run_step : (s next : State) (t : Token) (ts : List Token) → step s t.kind t.at ≡ Some next → run s (t ∷ ts) ≡ run next ts
 run_step s next t ts e = ap (λ o. bind o (λ n. run n ts)) e
 
--- what an operator begins with fits where the operator does
+-- the left operand of an operator fits where the operator does
 fits_left : (l r : Concrete) (op : Operator) (at : Place) (st : List Item) → Fits st (Binary l op at r) → Fits st l
 fits_left l r op at [] h = tt
 fits_left l r op at (Left m p here ∷ st) h = h.1
 fits_left l r op at (Front p ∷ st) h = h.1
 fits_left l r op at (Open f ∷ st) h = tt
 
--- what a dispatch begins with fits where the dispatch does
+-- the receiver of a dispatch fits where the dispatch does
 abbrev CalleeFits : List Item → Callee → Type 0
 CalleeFits st (OfSelf name at) = Unit {0}
 CalleeFits st (Of t dot name at) = Fits st t
@@ -256,7 +256,7 @@ begins_parts s (Then before e separator) last =
     let b = begins_more (parts_reading s before ++ reading e) (symbol s separator ∷ reading last) (begins_parts s before e) in
     record { first = b.first; rest = b.rest; same = sym grouped ∙ b.same; parenthesis = b.parenthesis; brace = b.brace }
 
--- where a closing parenthesis may stand too, an operand begins the first argument
+-- if a closing parenthesis may stand too, an operand begins the first argument
 first_need : (a : Around) (st : List Item) (callee : Callee) (lparen : Place) (ts : List Token) → BeginsOperand ts
     → run (Inside a st (FirstArgument callee lparen)) ts ≡ run (Inside a (Open (Arguments callee lparen NoPart) ∷ st) Need) ts
 first_need a st callee lparen ts b =
@@ -264,7 +264,7 @@ first_need a st callee lparen ts b =
     ∙ ap (λ h. bind (cond h (Some (Inside a st (Have (Dispatch callee lparen NoArgs b.first.at)))) (need a (Open (Arguments callee lparen NoPart) ∷ st) b.first.kind b.first.at)) (λ n. run n b.rest)) b.parenthesis
     ∙ ap (run (Inside a (Open (Arguments callee lparen NoPart) ∷ st) Need)) (sym b.same)
 
--- where a closing brace may stand too, it begins the next item
+-- if a closing brace may stand too, it begins the next item
 next_need : (a : Around) (st : List Item) (lbrace : Place) (firsts : Parts) (last : Concrete) (semi : Place) (ts : List Token) → BeginsOperand ts
     → run (Inside a st (NextItem lbrace firsts last semi)) ts ≡ run (Inside a (Open (Items lbrace (Then firsts last semi)) ∷ st) Need) ts
 next_need a st lbrace firsts last semi ts b =
@@ -290,7 +290,7 @@ case_with c bs = record c { firsts = bs }
 four : (a b c d e : List Token) → (a ++ b ++ c ++ d) ++ e ≡ a ++ (b ++ (c ++ (d ++ e)))
 four a b c d e = simp append_assoc
 
--- where an operand is due, the machine reads a shaped tree that fits
+-- if an operand is due, the machine reads a shaped tree that fits
 mutual
   pub reads : (t : Concrete) (a : Around) (st : List Item) (ws : List Token) → IsShaped t → Fits st t → run (Inside a st Need) (reading t ++ ws) ≡ run (state_after a st t) ws
   reads (Name name at) a st ws s f = refl

@@ -1,5 +1,5 @@
--- What a feature has so far is no more than the tokens of the run that goes on: a token adds at most one to it, and a token that ends
--- a run leaves a state between features.
+-- The size of a feature so far is at most the number of tokens of the current run: a token adds at most one to it, and a token that ends a run leaves a
+-- state between features.
 use Rattle.std.proofs.Common.{◌≡◌, ℕ, ◌+◌, ◌≤◌, ◌==◌, nat_le, Bool, true, false, if◌then◌else◌, List, [], ◌∷◌, ◌++◌, length, codes, Option, Some, None, IfSome, refl, sym, ◌∙◌, ap, length-append, arith}
 use Rattle.std.specs.Option.{is_some}
 use Rattle.std.proofs.lemmas.Bool.{eqb-true}
@@ -33,7 +33,7 @@ use Rattle.cool_parser.specs.Levels.{infix_of, infix_level, left_level, prefix_l
 use Rattle.cool_parser.specs.ParsingMachine.{Context, State, Reduced, push, place, next_id, operand, wait, ended, nodes_of, node_if, binary, before, reduced, reduce, after, shift, dispatch, dispatch_to, close_on, close, operator_or_end, have, need, identifier, first_argument, next_item, next_branch, compares, is_comparison, variable_name, declared, variable_type, let_end, class_head, parent_name, features, feature_name, first_formal, formal_end, result_type, attribute_end, static_class, method_name, new_type, step}
 use Rattle.cool_parser.proofs.WeightsOfNodes.{node_weight, weight, weight-placed}
 
--- What is owed
+-- Debts of a state
 
 -- the case that is open is a node, and has these branches
 abbrev pub case_owes : OpenCase → ℕ
@@ -91,11 +91,11 @@ mode_owes (mode.CallParenthesis call) = 1
 mode_owes (mode.NewType at) = 1
 mode_owes _ = 0
 
--- what the feature has so far, and what is owed
+-- the size of the feature so far, with its debts
 abbrev pub total : Context → Mode → ℕ
 total c m = weight c.nodes + stack_owes c.stack + mode_owes m
 
--- How deep a state stands
+-- The depth of a state
 
 abbrev pub item_depth : Item → ℕ
 item_depth (item.Block at items) = 1
@@ -137,7 +137,7 @@ is_between mode.File = true
 is_between (mode.Features class) = true
 is_between _ = false
 
--- what this token leaves, after this depth and this total
+-- the state after this token, with this depth and this total
 pub record Fits (k : TokenKind) (d n : ℕ) (s : State) : Type 0 where
   pub depth : depth s.context s.mode ≡ depth_after k d
   pub total : total s.context s.mode ≤ n + 1

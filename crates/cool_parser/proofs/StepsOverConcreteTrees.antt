@@ -1,4 +1,4 @@
--- Token by token, the parser does what the machine over concrete trees does.
+-- Token by token, the parser acts like the machine over concrete trees.
 use Rattle.std.proofs.Common.{◌≡◌, ℕ, ◌+◌, ◌-◌, Bool, true, false, if◌then◌else◌, List, [], ◌∷◌, ◌++◌, length, Option, Some, None, refl, ap, ◌∙◌, arith}
 use Rattle.std.specs.Option.{option_map}
 use Rattle.cool_syntax.specs.declared.place.Place.{Place}

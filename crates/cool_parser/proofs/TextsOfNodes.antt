@@ -1,4 +1,4 @@
--- A tree's list has the bytes of strings that the tree has; with what it weighs, it bears what the tree has of nodes, branches and bytes.
+-- A tree's list has the string bytes of the tree; with its weight, it accounts for the nodes, branches and bytes of the tree.
 use Rattle.std.proofs.Common.{◌≡◌, ℕ, ◌+◌, List, [], ◌∷◌, ◌++◌, length, refl, sym, ◌∙◌, ap, arith}
 use Rattle.cool_syntax.specs.declared.node.Node.{Node}
 use Rattle.cool_syntax.specs.declared.node.Node.TheVariants as node
@@ -96,7 +96,7 @@ mutual
   texts-nodes_of_cases (CaseOf at name declared t cs) base =
       omega (arith, texts-append (nodes base t) (nodes_of_cases (base + tree_size t) cs), texts-nodes t base, texts-nodes_of_cases cs (base + tree_size t))
 
--- what a node bears, with the bytes of its string
+-- the weight of a node, with the bytes of its string
 abbrev pub node_burden : Node → ℕ
 node_burden n = node_weight n + node_text n
 
@@ -107,7 +107,7 @@ burden ns = weight ns + texts ns
 pub burden-placed : (ns : List Node) (n : Node) → burden (ns ++ n ∷ []) ≡ burden ns + node_burden n
 burden-placed ns n = omega (arith, weight-placed ns n, texts-placed ns n)
 
--- what a body has of nodes, branches and bytes is what its nodes bear
+-- the nodes, branches and bytes of a body are together the weight of its nodes
 pub body_burden : (ns : List Node) → IsPostorder ns → tree_size (tree_of ns) + branches_in (tree_of ns) + text_in (tree_of ns) ≡ burden ns
 body_burden ns (t, e) =
     let text : text_in (tree_of ns) ≡ texts ns = ap text_in (ap tree_of e ∙ tree_of-nodes t) ∙ sym (texts-nodes t 0) ∙ ap texts (sym e) in

@@ -1,4 +1,4 @@
--- Where all nodes of a list keep the lexer's limits, so does the tree of the list.
+-- If all nodes of a list keep the lexer's limits, so does the tree of the list.
 use Rattle.std.proofs.Common.{ℕ, ◌-◌, ◌<◌, zero, suc, List, [], ◌∷◌, ◌++◌, map, length, get_or, Option, Some, None, arith}
 use Rattle.std.specs.List.{AllByRecursion}
 use Rattle.std.specs.Option.{option_map}
@@ -18,7 +18,7 @@ use Rattle.cool_syntax.specs.TreesWithinLimits.{IsObjectName, IsTypeWithin, IsTr
 abbrev pub IsBranchWithin : ℕ → NodeBranch → Type 0
 IsBranchWithin files b = IsPlaced files b.at × IsObjectName b.name × IsTypeWithin files b.declared
 
--- the place, the names and the constant of a node alone, without those of its parts
+-- the place, the names and the constant only of the node itself, without those of its parts
 abbrev pub IsNodeWithin : ℕ → Node → Type 0
 IsNodeWithin files (node.Assign at name a) = IsPlaced files at × IsObjectName name
 IsNodeWithin files (node.Dispatch at a name ids) = IsPlaced files at × IsObjectName name

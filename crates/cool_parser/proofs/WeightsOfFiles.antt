@@ -39,7 +39,7 @@ use Rattle.cool_parser.proofs.GoodStates.{on, operates, bodied, reduce_good, ste
 use Rattle.cool_parser.proofs.TextsOfNodes.{node_burden, burden, burden-placed, body_burden}
 use Rattle.cool_parser.proofs.RunsOfFeatures.{case_owes}
 
--- What is held
+-- Sizes that a state holds
 
 -- an open class: itself, its name and its features so far
 abbrev open_holds : OpenClass → ℕ
@@ -444,7 +444,7 @@ outcome_raise : (o : Outcome) (n m : ℕ) → n ≤ m → IsOutcomeHeld n o → 
 outcome_raise (Whole classes) n m l h = omega (arith, l, h)
 outcome_raise (Unexpected at) n m l h = tt
 
--- what the rest of the tokens come to
+-- the outcome of the rest of the tokens
 outcome_held : (ts : List Token) (n : ℕ) (at end : Place) (o : Option State) → IfSome o (IsHeld n) → IfSome o IsGoodState → IsOutcomeHeld (n + weights ts) (outcome at o ts end)
 outcome_held [] n at end None h g = tt
 outcome_held (t ∷ ts) n at end None h g = tt

@@ -1,4 +1,4 @@
--- A node weighs one, and one more for each branch of its own: a tree's list weighs what the tree has of nodes and branches.
+-- A node weighs one, and one more for each branch of its own: the weight of a tree's list is the number of the tree's nodes and branches.
 use Rattle.std.proofs.Common.{◌≡◌, ℕ, ◌+◌, List, [], ◌∷◌, ◌++◌, length, refl, sym, ◌∙◌, ap, arith}
 use Rattle.cool_syntax.specs.declared.node.Node.{Node}
 use Rattle.cool_syntax.specs.declared.node.Node.TheVariants as node
@@ -94,7 +94,7 @@ mutual
   weight-nodes_of_cases (CaseOf at name declared t cs) base =
       omega (arith, weight-append (nodes base t) (nodes_of_cases (base + tree_size t) cs), weight-nodes t base, weight-nodes_of_cases cs (base + tree_size t))
 
--- what a body has of nodes and branches is what its nodes weigh
+-- the nodes and branches of a body are together the weight of its nodes
 pub body_weight : (ns : List Node) → IsPostorder ns → tree_size (tree_of ns) + branches_in (tree_of ns) ≡ weight ns
 body_weight ns (t, e) =
     ap (λ u. tree_size u + branches_in u) (ap tree_of e ∙ tree_of-nodes t) ∙ sym (weight-nodes t 0) ∙ ap weight (sym e)

@@ -1,4 +1,4 @@
--- When an operator on the top of the stack ends, by its level: the functions of ParsingMachine.antt that the code asks one item at a time.
+-- The condition, by its level, for an operator on the top of the stack to end: the functions of ParsingMachine.antt that the code asks one item at a time.
 use Rattle.std.specs.Prelude.{◌≡◌, ℕ, List, [], ◌∷◌, Some, None}
 use Rattle.cool_syntax.specs.declared.node.NodeId.{NodeId}
 use Rattle.cool_syntax.specs.declared.node.Node.{Node}

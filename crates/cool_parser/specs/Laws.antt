@@ -1,4 +1,4 @@
--- What the parser's laws say of the grammar.
+-- The statement of the parser's laws about the grammar: tokens have a tree or a first fault.
 use Rattle.std.specs.Prelude.{◌⊎◌, List}
 use Rattle.cool_syntax.specs.declared.place.Place.{Place}
 use Rattle.cool_syntax.specs.declared.token.Token.{Token}

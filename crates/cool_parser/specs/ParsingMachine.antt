@@ -1,6 +1,6 @@
--- The parser as a function on lists: a machine that takes a token at a time. It keeps the nodes of the feature that it is in, a stack of
--- what waits for an expression, the classes so far, and a mode: what it has just read. An operator on the stack ends where an operator
--- of a lower level, or a token that ends an operand, comes after its operand (Cool manual, section 11).
+-- The parser as a function on lists: a machine that takes a token at a time. It keeps the nodes of the feature that it is in, a stack of forms that wait
+-- for an expression, the classes so far, and a mode: the tokens just read. An operator on the stack ends where an operator of a lower level, or a token
+-- that ends an operand, comes after its operand (Cool manual, section 11).
 use Rattle.std.specs.Prelude.{ℕ, Bool, true, false, nat_le, if◌then◌else◌, List, [], ◌∷◌, ◌++◌, length, codes, Option, Some, None}
 use Rattle.std.specs.Option.{is_some}
 use Rattle.cool_syntax.specs.declared.place.Place.{Place}
@@ -36,7 +36,7 @@ use Rattle.cool_parser.specs.Levels.{infix_of, infix_level, left_level, prefix_l
 
 -- States
 
--- what has been read: the nodes of the feature so far, the stack with its top first, and the classes that are whole
+-- the state of the machine except its mode: the nodes of the feature so far, the stack with its top first, and the classes that are whole
 pub record Context : Type 0 where
   pub nodes : List Node
   pub stack : List Item
@@ -49,7 +49,7 @@ pub record State : Type 0 where
 abbrev pub go : Context → Mode → Option State
 go c m = Some (record { context = c; mode = m })
 
--- where a mode comes, the state of both
+-- the state of both, if there is a mode
 abbrev pub moved : Context → Option Mode → Option State
 moved c (Some m) = go c m
 moved c None = None
@@ -376,7 +376,7 @@ step c _ _ at = None
 abbrev pub start : State
 start = record { context = record { nodes = []; stack = []; classes = [] }; mode = mode.File }
 
--- what a file's tokens come to: its classes, or the place at which no token, or no end, may stand
+-- the outcome for a file's tokens: its classes, or the place at which no token, or no end, may stand
 pub data Outcome : Type 0 where
   Whole : (classes : List ClassDef) → Outcome
   Unexpected : (at : Place) → Outcome

@@ -1,5 +1,5 @@
--- What holds of the parser between two tokens: its nodes are the lists of trees, one after the other, and the roots of those trees are
--- the parts that wait for the rest of their forms.
+-- The parser's invariant between two tokens: its nodes are the lists of trees, one after the other, and the roots of those trees are the parts that wait
+-- for the rest of their forms.
 use Rattle.std.specs.Prelude.{◌≡◌, Bool, true, false, List, [], ◌∷◌, ◌++◌, map, Option, Some, None}
 use Rattle.cool_syntax.specs.declared.node.NodeId.{NodeId}
 use Rattle.cool_syntax.specs.declared.node.Node.{Node}
@@ -69,7 +69,7 @@ is_body (item.MethodBody m class) = true
 is_body (item.AttributeInit class v) = true
 is_body _ = false
 
--- nothing stands below what waits for the body of a feature
+-- nothing stands below the item that waits for the body of a feature
 abbrev pub IsBottomed : List Item → Type 0
 IsBottomed [] = Unit {0}
 IsBottomed (i ∷ st) = (is_body i ≡ true → st ≡ []) × IsBottomed st
@@ -99,7 +99,7 @@ is_outside (mode.VariableType (purpose.Attribute class) name at) = true
 is_outside (mode.VariableType (purpose.Formal m) name at) = true
 is_outside _ = false
 
--- what holds between two tokens
+-- the invariant between two tokens
 pub record IsGood (c : Context) (m : Mode) : Type 0 where
   pub trees : Holds c.nodes (stack_parts c.stack ++ mode_parts m)
   pub bottomed : IsBottomed c.stack

@@ -5,7 +5,7 @@ ghost use Rattle.std.specs.Prelude.{◌≡◌, IfOk};
 use std::alloc::{AllocError, Global};
 use std::marker::Model;
 
-/// A value in a box: what has one is moved at each token, and so moves an address alone. A contract sees the value.
+/// A value in a box: its owner is moved at each token, and so moves only an address. A contract sees the value.
 #[derive(Drop)]
 pub(crate) struct Boxed<T> {
     pub(crate) inner: Box<T>,
@@ -18,7 +18,7 @@ impl<T> Model for Boxed<T> {
 }
 
 impl<T: Drop> Boxed<T> {
-    /// The value in a box of its own. `Err` comes only for want of memory, and lets the value go.
+    /// The value in a box of its own. Returns `Err` only if memory runs out; then the value is dropped.
     pub(crate) fn new(alloc: Global, value: T) -> Result<Boxed<T>, AllocError>
         ensures { IfOk result (λ boxed. boxed ≡ value) }
     {

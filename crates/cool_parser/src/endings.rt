@@ -1,4 +1,4 @@
-//! What follows an operand: operators end, and the innermost open form goes on.
+//! The tokens after an operand: operators end, and the innermost open form goes on.
 
 ghost use Rattle.std.specs.Prelude.{◌≡◌, ◌-◌, ◌<◌, ◌≤◌, ◌^◌, ◌+◌, length, IfOk, OnOk};
 ghost use Rattle.cool_parser.specs.declared.mode.Mode.TheVariants as mode;

@@ -1,4 +1,4 @@
-//! Why tokens are no file.
+//! The errors of the parser: a syntax fault, or out of memory.
 
 ghost use Rattle.std.specs.Prelude.{◌≡◌};
 ghost use Rattle.cool_parser.specs.declared.fault.ParseError.TheVariants as error;
@@ -12,10 +12,10 @@ pub struct ParseFault {
     pub at: Place,
 }
 
-/// Why there is no tree.
+/// The reason why there is no tree.
 #[derive(Clone, Copy)]
 pub enum ParseError {
-    /// Memory was wanted.
+    /// Out of memory.
     Memory,
     Fault(ParseFault),
 }

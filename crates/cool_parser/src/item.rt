@@ -1,4 +1,4 @@
-//! What waits on the stack: forms whose first part has been read.
+//! The items on the stack: forms whose first part has been read.
 
 ghost use Rattle.std.specs.Prelude.{◌≡◌, IfOk};
 ghost use Rattle.std.specs.Option.{is_some};
@@ -186,7 +186,7 @@ impl Call {
 }
 
 impl Boxed<OpenClass> {
-    /// With one more feature. `Err` comes only for want of memory, and lets the class and the feature go.
+    /// With one more feature. Returns `Err` only if memory runs out; then the class and the feature are dropped.
     pub(crate) fn with_feature(mut self, feature: Feature) -> Result<Boxed<OpenClass>, AllocError>
         ensures { IfOk result (λ boxed. boxed ≡ machine.with_feature feature self) }
     {
@@ -196,7 +196,7 @@ impl Boxed<OpenClass> {
 }
 
 impl OpenCase {
-    /// With one more branch. `Err` comes only for want of memory.
+    /// With one more branch. Returns `Err` only if memory runs out.
     pub(crate) fn with_branch(
         mut self,
         variable: Variable,

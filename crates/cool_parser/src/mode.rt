@@ -1,10 +1,10 @@
-//! What the parser has just read, and so what may come next.
+//! The mode of the parser: the tokens that it has just read, and so those that may come next.
 
 use crate::boxed::Boxed;
 use crate::item::{Call, OpenCase, OpenClass, OpenMethod, Variable};
 use cool_syntax::{Listed, Name, NodeId, Place, TypeRef};
 
-/// What a name and its declared type are for.
+/// The use of a name and its declared type.
 #[derive(Drop)]
 pub(crate) enum Purpose {
     Attribute(Boxed<OpenClass>),
@@ -13,7 +13,7 @@ pub(crate) enum Purpose {
     Branch(OpenCase),
 }
 
-/// What the parser has just read. `..` in the forms below is what may come next.
+/// The tokens that the parser has just read. `..` in the forms below stands for those that may come next.
 #[derive(Drop)]
 pub(crate) enum Mode {
     /// Between classes: `class ..`, or the end of the file.
@@ -125,7 +125,7 @@ pub(crate) enum Mode {
         name: Name,
         at: Place,
     },
-    /// An operand: an atom or a dispatch. What is open on its left is still on the stack.
+    /// An operand: an atom or a dispatch. Forms open on its left are still on the stack.
     Have {
         operand: NodeId,
     },

@@ -1,4 +1,4 @@
-//! Operands: what may begin an expression, and what follows an identifier.
+//! Operands: the tokens that may begin an expression, and those that may follow an identifier.
 
 ghost use Rattle.std.specs.Prelude.{◌≡◌, ◌-◌, ◌<◌, ◌^◌, ◌+◌, length, IfOk};
 ghost use Rattle.cool_syntax.specs.declared.token.TokenKind.TheVariants as kind;

@@ -1,4 +1,4 @@
-//! Operators and how tightly they bind.
+//! Operators and their binding levels.
 
 ghost use Rattle.std.specs.Prelude.{◌≡◌};
 ghost use Rattle.cool_parser.specs.Levels.{infix_of, infix_level, left_level, prefix_level};
@@ -49,7 +49,7 @@ impl Infix {
         }
     }
 
-    /// The least level of what is in its left operand: arithmetic associates to the left, comparisons do not associate.
+    /// The least level of its left operand: arithmetic associates to the left, comparisons do not associate.
     pub(crate) fn left_level(self) -> u8
         ensures { result ≡ left_level self }
     {

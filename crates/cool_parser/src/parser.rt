@@ -13,10 +13,10 @@ use cool_syntax::{Body, ClassDef, Listed, Name, Node, NodeId, Place, TypeRef};
 use std::alloc::{AllocError, Global};
 use std::marker::Model;
 
-/// What a token leads to: a mode, or nothing where it may not stand.
+/// The result of a token: a mode, or nothing if it may not stand there.
 pub(crate) type Next = Result<Option<Mode>, AllocError>;
 
-/// What has been read of a file, but for the mode.
+/// The state of the parser, except its mode.
 #[derive(Drop)]
 pub(crate) struct Parser {
     pub(crate) alloc: Global,

@@ -21,11 +21,11 @@ use crate::reading::Reading;
 use cool_syntax::{ClassDef, FileTree, Listed, Place, Token};
 use std::alloc::Global;
 
-/// The tree of a file, by its tokens (Cool manual, section 11). `file` is its position in the command, from 0, and `end` the place of
-/// its end; there are at most 1,048,576 tokens.
+/// The tree of a file, by its tokens (Cool manual, section 11). `file` is its position in the command, from 0, and `end` the place of its end; there are at
+/// most 1,048,576 tokens.
 ///
-/// `Err(Fault(..))` comes where the tokens are no file: its place is that of the first token that may not stand where it does, or
-/// `end`, where the file may not end there. `Err(Memory)` comes only for want of memory.
+/// `Err(Fault(..))` comes if the tokens are no file: its place is that of the first token that may not stand where it does, or `end` if the file may not
+/// end there. `Err(Memory)` comes only if memory runs out.
 pub fn parse(alloc: Global, file: u32, tokens: &[Token], end: Place) -> Result<FileTree, ParseError>
     requires { length tokens.now ≤ MOST_SOURCE_BYTES }
     ensures file { IfOk result (λ tree. tree.file ≡ file) }
@@ -35,7 +35,7 @@ pub fn parse(alloc: Global, file: u32, tokens: &[Token], end: Place) -> Result<F
     // a fault comes exactly where it is the first one
     ensures fault { IfErr result (λ error. IsFault tokens.now end error) }
     ensures first { (at : Place) → IsUnexpected tokens.now end at → MatchResult result (λ tree. ⊥) (IsFaultAt at) }
-    // what the tree keeps of the tokens
+    // the limits of the tokens that the tree keeps
     ensures limits { (files : ℕ) → AreWithinLimits files tokens.now → IfOk result (λ tree. AreClassesWithin files tree.classes) }
     ensures bounded { FitsRuns first_run tokens.now → IfOk result (λ tree. AllByRecursion IsBoundedClass tree.classes) }
     ensures weight { IfOk result (λ tree. classes_weight tree.classes ≤ weights tokens.now) }
@@ -48,7 +48,7 @@ pub fn parse(alloc: Global, file: u32, tokens: &[Token], end: Place) -> Result<F
     }
 }
 
-/// The classes of a file, by its tokens: what the machine makes of them.
+/// The classes of a file, by its tokens: the result of the machine.
 fn classes_of(alloc: Global, tokens: &[Token], end: Place) -> Result<Listed<ClassDef>, ParseError>
     requires { length tokens.now ≤ MOST_SOURCE_BYTES }
     ensures { MatchResult result (λ classes. parsed tokens.now end ≡ Whole classes) (IsOutcome (parsed tokens.now end)) }

@@ -46,7 +46,7 @@ impl Reading {
         }
     }
 
-    /// Takes one more token, and answers whether it may stand here. `Err` comes only for want of memory.
+    /// Takes one more token, and answers whether it may stand here. Returns `Err` only if memory runs out.
     pub(crate) fn advance(&mut self, token: &Token) -> Result<bool, AllocError>
         requires good { Good self.old.context self.old.mode }
         requires few { length self.old.context.nodes + length self.old.context.stack < 2 ^ 32 - 3 }
@@ -110,7 +110,7 @@ impl Reading {
     }
 }
 
-/// How many tokens there are up to the end of a feature: its semicolon, or a brace that closes the class.
+/// The number of tokens up to the end of a feature: its semicolon, or a brace that closes the class.
 fn feature_length(tokens: &[Token]) -> u32
     requires { length tokens.now ≤ MOST_SOURCE_BYTES }
     ensures { result ≤ length tokens.now }

@@ -1,4 +1,4 @@
-//! The stack of what waits for an expression.
+//! The stack of forms that wait for an expression.
 
 ghost use Rattle.std.specs.Prelude.{◌≡◌, [], ◌∷◌, Some, None, MatchOption, if◌then◌else◌};
 ghost use Rattle.std.specs.Result.{is_ok};
@@ -38,7 +38,7 @@ impl Stack {
         }
     }
 
-    /// Puts an item on top. `Err` comes only for want of memory, and leaves the stack as it is.
+    /// Puts an item on top. Returns `Err` only if memory runs out; then the stack stays as it is.
     pub(crate) fn push(&mut self, item: Item) -> Result<(), AllocError>
         ensures { self.new ≡ (if is_ok result then item ∷ self.old else self.old) }
     {

@@ -1,4 +1,4 @@
-//! One more token.
+//! The parser's step for one token.
 
 ghost use Rattle.std.specs.Prelude.{◌≡◌, ◌-◌, ◌<◌, ◌^◌, ◌+◌, length, IfOk};
 ghost use Rattle.cool_parser.specs.ParsingMachine as machine;
@@ -10,8 +10,7 @@ use crate::parser::{Next, Parser};
 use cool_syntax::Token;
 
 impl Parser {
-    /// Takes one more token, as `step` does. Most tokens come in one of three modes, and a match of these alone does not load the
-    /// parts of the others.
+    /// Takes one more token, as `step` does. Most tokens come in one of three modes, and a match of only these does not load the parts of the others.
     pub(crate) fn take(&mut self, mode: Mode, token: &Token) -> Next
         requires good { Good self.old mode }
         requires few { length self.old.nodes + length self.old.stack < 2 ^ 32 - 3 }
@@ -25,7 +24,7 @@ impl Parser {
         }
     }
 
-    /// Takes one more token. `None` comes where it may not stand here, and `Err` only for want of memory.
+    /// Takes one more token. Returns `None` if it may not stand here, and `Err` only if memory runs out.
     #[inline(never)]
     fn step(&mut self, mode: Mode, token: &Token) -> Next
         requires good { Good self.old mode }

@@ -1,13 +1,13 @@
--- What a contract sees of a pool and of a column.
+-- The view that contracts have of a pool and of a column.
 use Rattle.std.specs.Prelude.{ℕ, List}
 use Rattle.cool_syntax.specs.declared.node.Node.{Node}
 
--- the nodes, in the order of their numbers, and how many more can be placed without taking memory
+-- the nodes, in the order of their numbers, and the number of nodes that can still be placed without taking memory
 pub record Region : Type 0 where
   pub nodes : List Node
   pub spare : ℕ
 
--- the values of the first nodes, in the order of their numbers, and how many there is room for in all
+-- the values of the first nodes, in the order of their numbers, and the number of values that there is room for in all
 pub record Filled (T : Type 0) : Type 0 where
   pub held : List T
   pub room : ℕ

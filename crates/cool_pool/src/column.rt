@@ -24,7 +24,7 @@ impl<T> Model for Column<T> {
 }
 
 impl<T: Drop> Column<T> {
-    /// An empty column with room for this many values. `Err` comes only for want of memory, and no other call takes any.
+    /// An empty column with room for this many values. Returns `Err` only if memory runs out; no other call takes any memory.
     pub fn new(alloc: Global, room: u32) -> Result<Column<T>, AllocError>
         ensures held { IfOk result (λ c. c.held ≡ []) }
         ensures room { IfOk result (λ c. c.room ≡ room) }

@@ -1,7 +1,7 @@
-//! The region in which the nodes of one feature are placed, and given up or handed on as one.
+//! The arena of the nodes of one feature, dropped or handed on as a whole.
 //!
-//! Comes in: nodes, each after its parts. Goes out: a body that is their tree, the tree at a number, or one value a node
-//! in a column. Memory is asked for ahead, so that what follows cannot run out of it.
+//! Input: nodes, each after its parts. Output: a body that is their tree, the tree at a number, or one value a node in a column. Memory is reserved ahead,
+//! so that later calls cannot run out of it.
 #![tactic(auto)]
 
 mod column;

@@ -10,8 +10,8 @@ use std::alloc::{AllocError, Global};
 use std::marker::Model;
 use std::mem::replace;
 
-/// The nodes of one feature, each after its parts, and room for more. A contract sees the list of the nodes and how many
-/// more can be placed without taking memory.
+/// The nodes of one feature, each after its parts, and room for more. A contract sees the list of the nodes and the number of nodes that can still be
+/// placed without taking memory.
 ///
 /// There are fewer than 2^32 - 1 nodes.
 #[derive(Drop)]
@@ -44,8 +44,7 @@ impl Pool {
         }
     }
 
-    /// Takes memory so that there is room for this many more nodes. `Err` comes only for want of memory. The nodes stay,
-    /// and the room never shrinks.
+    /// Takes memory so that there is room for this many more nodes. Returns `Err` only if memory runs out. The nodes stay, and the room never shrinks.
     pub fn reserve(&mut self, nodes: u32) -> Result<(), AllocError>
         requires { length self.old.nodes + nodes < 4294967295 }
         ensures room { OnOk result (nodes ≤ self.new.spare) }
@@ -55,8 +54,8 @@ impl Pool {
         self.nodes.reserve(nodes as usize)
     }
 
-    /// Places a node, whose parts are here, and answers its number. Where there is room it takes no memory, and `Err`
-    /// does not come. `Err` comes only for want of memory, leaves the pool as it is, and hands the node back.
+    /// Places a node, whose parts are here, and returns its number. If there is room it takes no memory, and succeeds. Returns `Err` only if memory runs
+    /// out; then the pool stays as it is, and the node is handed back.
     pub fn place(&mut self, node: Node) -> Result<NodeId, (AllocError, Node)>
         requires parts { HasPartsBelow (length self.old.nodes) node }
         requires few { length self.old.nodes < 4294967294 }
@@ -80,7 +79,7 @@ impl Pool {
         }
     }
 
-    /// How many nodes there are.
+    /// The number of nodes.
     pub fn len(&self) -> u32
         ensures { result ≡ length self.now.nodes }
     {

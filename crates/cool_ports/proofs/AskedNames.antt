@@ -1,4 +1,4 @@
--- What a shelf was asked for, of some names.
+-- The names that a shelf was asked for, as a prefix of a list of names.
 use Rattle.std.proofs.Common.{◌≡◌, ℕ, List, [], ◌∷◌, ◌++◌, refl, sym, ◌∙◌, ap, append_assoc, append-nil}
 use Rattle.cool_ports.specs.ShelfFiles.{AskedFront}
 

@@ -1,4 +1,4 @@
--- What a sink holds, over several puts.
+-- The bytes that a sink holds after several puts.
 use Rattle.std.proofs.Common.{◌≡◌, ℕ, List, [], ◌∷◌, ◌++◌, refl, sym, ◌∙◌, ap, append_assoc, append-nil}
 use Rattle.std.specs.Prelude.{Option, Some, None}
 use Rattle.std.specs.List.{concat}
@@ -45,6 +45,6 @@ got_prefix before mid after bytes rest piece later h s (more, p) = (
   },
 )
 
--- what came so far is a prefix
+-- the bytes that came so far are a prefix
 pub got_so_far : (before after : Option (List ℕ)) (bytes rest : List ℕ) → GotUpTo before bytes rest after → GotPrefix before bytes after
 got_so_far before after bytes rest h = (rest, h)

@@ -1,4 +1,4 @@
--- What a source gave in parts, one after the other.
+-- The bytes that a source gave in parts, one after the other.
 use Rattle.std.proofs.Common.{◌≡◌, ℕ, ◌+◌, ◌<◌, ◌≤◌, Bool, true, false, List, [], ◌∷◌, ◌++◌, refl, sym, ◌∙◌, ap, append_assoc, append-nil, arith}
 use Rattle.std.specs.Prelude.{Option, Some, None}
 use Rattle.std.proofs.lemmas.List.{append_cancel_left}
@@ -40,7 +40,7 @@ ends_grow true is front m n left (i, none, same) = omega (arith, same)
 ends_grow false true front m n left (more, end) = omega (arith, more)
 ends_grow false false front m n left same = omega (arith, same)
 
--- where the end was answered in the first part, the second one took nothing
+-- if the end was answered in the first part, the second one took nothing
 nothing_later : (was mid is : Bool) (a b : List ℕ) (m n k : ℕ) (left left' : Option (List ℕ)) → EndsOnce was mid a m n left → EndsOnce mid is b n k left' → m < n → b ≡ []
 nothing_later true mid is a b m n k left left' (i, none, same) e more = absurd (omega (arith, same, more))
 nothing_later false true is a b m n k left left' first (i', none', same') more = none'
@@ -66,15 +66,15 @@ in_two was mid is p q r left middle left' input rest s t l =
       later = record { cut = sym part; all = λ more. l.all (omega (arith, more, grows)) };
     }
 
--- what was given is such an input, of which nothing is left
+-- the bytes given are such an input, of which nothing is left
 pub leaves_none : (was is : Bool) (p q : Past) (left left' : Option (List ℕ)) → (t : Took was is p q left left') → Leaves p q t.front []
 leaves_none was is p q left left' t = record { cut = sym t.given ∙ sym (append-nil q.given); all = λ more. refl }
 
--- where the source was not asked, the input is left
+-- if the source was not asked, the input is left
 pub leaves_same : (p : Past) (input rest : List ℕ) → Leaves p p input rest → rest ≡ input
 leaves_same p input rest l = sym (append_cancel_left p.given input rest l.cut)
 
--- what a source tells is such an input
+-- the input that a source tells is such an input
 told_front : (front : List ℕ) (left : Option (List ℕ)) (input : List ℕ) → Some input ≡ with_front front left → (rest : List ℕ) × (left ≡ Some rest) × (input ≡ front ++ rest)
 told_front front None input is = cc
 told_front front (Some rest) input is = (rest, refl, cc)

@@ -1,4 +1,4 @@
--- What a sink was given to put, over several puts.
+-- The pieces that a sink was given to put, over several puts.
 use Rattle.std.proofs.Common.{◌≡◌, ℕ, zero, suc, ◌+◌, ◌-◌, ◌*◌, ◌<◌, ◌≤◌, inl, inr, min, List, [], ◌∷◌, ◌++◌, length, take, drop, map, refl, sym, ◌∙◌, ap, append_assoc, append-nil, take-append-drop, arith}
 use Rattle.std.proofs.Math.Nat.{add-div_right, add-mod_right, div-eq_of_lt, mod-eq_of_lt}
 use Rattle.std.proofs.lemmas.Bool.{cases_lt}
@@ -7,7 +7,7 @@ use Rattle.std.specs.List.{range_with_len, concat}
 use Rattle.std.specs.Int.{div_ceil}
 use Rattle.cool_ports.specs.SinkPuts.{piece_of, pieces_of, PutUpTo, PutFront}
 
--- where a function at the next number is another, their values at numbers that begin one later are the same
+-- if a function at the next number is another, their values at numbers that begin one later are the same
 range_later : (f g : ℕ → List ℕ) (start count : ℕ) → ((n : ℕ) → f (n + 1) ≡ g n) → map f (range_with_len (start + 1) count) ≡ map g (range_with_len start count)
 range_later f g start zero same = refl
 range_later f g start (suc count) same = let rest = range_later f g (start + 1) count same in let first = same start in cc
@@ -20,7 +20,7 @@ count_more size left some = omega (arith, add-div_right left some, add-mod_right
 count_one : (size length : ℕ) → 0 < length → length < size → div_ceil length size ≡ suc (div_ceil 0 size)
 count_one size length some below = omega (arith, div-eq_of_lt below, mod-eq_of_lt below)
 
--- where bytes are left, there is one piece, and then those of what is behind it
+-- if bytes are left, there is one piece, and then those of the bytes behind it
 count_next : (size length : ℕ) → 0 < size → 0 < length → div_ceil length size ≡ suc (div_ceil (length - size) size)
 count_next size length some any =
     elim (cases_lt length size) [
@@ -114,16 +114,16 @@ put_piece size cut before middle after texts bytes piece later some any cut_is p
     pieces_split size bytes some any ∙ ap (λ xs. xs ∷ pieces_of size (drop (min (length bytes) size) bytes)) (sym first) ∙ ap (λ xs. piece ∷ pieces_of size xs) (sym others) in
     put_more before middle after texts (pieces_of size later) piece (rw next at h) is
 
--- where no text is still to come, all came
+-- if no text is still to come, all came
 pub put_all : (before after texts : List (List ℕ)) → PutUpTo before texts [] after → after ≡ before ++ texts
 put_all before after texts h = h.put ∙ ap (λ front. before ++ front) (sym (append-nil h.front) ∙ sym h.cut)
 
--- where no byte is left, all pieces came
+-- if no byte is left, all pieces came
 pub put_pieces_all : (size : ℕ) (before after texts : List (List ℕ)) (bytes : List ℕ) → 0 < size → length bytes ≡ 0 → PutUpTo before texts (pieces_of size bytes) after → after ≡ before ++ texts
 put_pieces_all size before after texts bytes some none h =
     let no_more : pieces_of size bytes ≡ [] = ap (pieces_of size) (nil_from_length bytes none) ∙ no_pieces size some in
     put_all before after texts (rw no_more at h)
 
--- what came so far is a front
+-- the texts that came so far are a front
 pub put_so_far : (before after texts rest : List (List ℕ)) → PutUpTo before texts rest after → PutFront before texts after
 put_so_far before after texts rest h = (rest, h)

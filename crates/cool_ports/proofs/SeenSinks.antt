@@ -1,4 +1,4 @@
--- What is known of a sink, over several puts.
+-- The known state of a sink (`SinkSeen`), over several puts.
 use Rattle.std.proofs.Common.{◌≡◌, ℕ, List, [], ◌∷◌, ◌++◌, refl, sym, ◌∙◌, ap, append_assoc, append-nil}
 use Rattle.std.specs.Prelude.{Option}
 use Rattle.std.specs.List.{concat}
@@ -43,7 +43,7 @@ seen_more before middle after texts rest text h is = record {
   is = is ∙ ap (λ sink. after_puts sink (text ∷ [])) h.is ∙ after-append before h.front (text ∷ []);
 }
 
--- where none is left, all were put
+-- if none is left, all were put
 pub seen_all : (before after : SinkSeen) (texts : List (List ℕ)) → SeenUpTo before texts [] after → after ≡ after_puts before texts
 seen_all before after texts h = h.is ∙ ap (after_puts before) (sym (append-nil h.front) ∙ sym h.cut)
 
@@ -91,7 +91,7 @@ some_before before after texts more h =
       );
     }
 
--- what came so far is some of all
+-- the texts that came so far are some of all
 pub some_so_far : (before after : SinkSeen) (texts rest : List (List ℕ)) → SeenUpTo before texts rest after → PutSome before texts after
 some_so_far before after texts rest h = record {
   bytes = (

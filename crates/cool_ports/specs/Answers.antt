@@ -1,4 +1,4 @@
--- What a source has answered so far: the bytes that it gave, and how often it answered that nothing is left.
+-- The answers of a source so far: the bytes that it gave, and how often it answered that nothing is left.
 use Rattle.std.specs.Prelude.{◌≡◌, ℕ, ◌+◌, ◌<◌, List, [], ◌∷◌, ◌++◌, Option, Some, None}
 
 pub record Past : Type 0 where

@@ -1,4 +1,4 @@
--- How often an object of the outside has failed: a number that never falls, and that stands still at its last value.
+-- Counts of the failures of an outside object: a number that never falls, and that stays at its greatest value.
 use Rattle.std.specs.Prelude.{ℕ, ◌<◌, ◌≤◌}
 
 -- the last value of a count

@@ -1,9 +1,9 @@
--- What a contract sees of the objects in memory.
+-- The view that contracts have of the objects in memory.
 use Rattle.std.specs.Prelude.{ℕ, ◌+◌, min, List, ◌++◌, [], ◌∷◌, Contains}
 use Rattle.cool_ports.specs.Answers.{Past}
 use Rattle.cool_ports.specs.Counts.{last_count}
 
--- Which calls are to fail, by their numbers from 1, how many were made, and how many of them failed.
+-- The numbers of the calls that are to fail, from 1, with the numbers of calls made and of calls that failed.
 pub record Schedule : Type 0 where
   pub failing : List ℕ
   pub calls : ℕ
@@ -32,14 +32,14 @@ faulted s = record { failing = s.failing; calls = s.calls; faults = min (s.fault
 abbrev pub failing_at : Schedule → ℕ → Schedule
 failing_at s number = record { failing = s.failing ++ number ∷ []; calls = s.calls; faults = s.faults }
 
--- A sink in memory: the bytes that it holds, the most that it can hold, and what it was given to put.
+-- A sink in memory: the bytes that it holds, the most that it can hold, and the bytes that it was given to put.
 pub record SinkState : Type 0 where
   pub held : List ℕ
   pub room : ℕ
   pub puts : List (List ℕ)
   pub schedule : Schedule
 
--- A source in memory: the bytes that are left, and what it has answered.
+-- A source in memory: the bytes that are left, and its answers so far.
 pub record SourceState : Type 0 where
   pub left : List ℕ
   pub past : Past

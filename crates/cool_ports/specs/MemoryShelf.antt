@@ -1,4 +1,4 @@
--- What a contract sees of a shelf in memory.
+-- The view that contracts have of a shelf in memory.
 use Rattle.std.specs.Prelude.{List, ℕ, Option, option_map}
 use Rattle.std.specs.BTreeMap.{get_by_text}
 use Rattle.cool_ports.specs.declared.mem_shelf.MemShelf.{MemShelf}
@@ -16,6 +16,6 @@ asked_of shelf = shelf.asked.entries
 abbrev pub gave_of : MemShelf → List (List ℕ)
 gave_of shelf = shelf.gave.entries
 
--- which calls are to fail, and what came so far
+-- the calls that are to fail, and the texts that came so far
 abbrev pub schedule_of : MemShelf → Schedule
 schedule_of shelf = shelf.schedule

@@ -1,5 +1,5 @@
--- The files of a shelf, and what it was asked for. `Some` is the map from names to bytes of a shelf that tells it, and `None` is a shelf
--- that does not tell.
+-- The files of a shelf, and the names that it was asked for. `Some` is the map from names to bytes of a shelf that tells it, and `None` is a shelf that
+-- does not tell.
 use Rattle.std.specs.Prelude.{◌≡◌, List, [], ◌∷◌, ◌++◌, ℕ, ◌<◌, length, Option, Some, None}
 use Rattle.cool_ports.specs.Counts.{Rose}
 
@@ -34,7 +34,7 @@ abbrev pub IsWanting : Option FileMap → ℕ → ℕ → Type 0
 IsWanting None before after = Rose before after
 IsWanting (Some files) before after = after ≡ before
 
--- Where a shelf had been asked for `before`, it was then asked for some of the names, from the first on, each once, in order.
+-- A shelf that had been asked for `before` was then asked for some of the names, from the first on, each once, in order.
 pub record AskedFront (names before after : List (List ℕ)) : Type 0 where
   pub front : List (List ℕ)
   pub rest : List (List ℕ)

@@ -1,7 +1,7 @@
--- What a sink holds. `Some` are the bytes of a sink that tells them, and `None` is a sink that does not tell.
+-- The bytes that a sink holds. `Some` are the bytes of a sink that tells them, and `None` is a sink that does not tell.
 use Rattle.std.specs.Prelude.{◌≡◌, List, ℕ, ◌++◌, Option, Some, None}
 
--- what a sink holds after these bytes
+-- the bytes that a sink holds after these bytes
 unfoldable pub appended : Option (List ℕ) → List ℕ → Option (List ℕ)
 appended None bytes = None
 appended (Some held) bytes = Some (held ++ bytes)

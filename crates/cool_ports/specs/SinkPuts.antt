@@ -1,4 +1,4 @@
--- What a sink was given to put: the bytes of each put, in order, those of a put that failed among them.
+-- The puts of a sink: the bytes of each put, in order, including those of puts that failed.
 use Rattle.std.specs.Prelude.{◌≡◌, ℕ, ◌*◌, List, [], ◌∷◌, ◌++◌, length, take, drop, map, Option, refl}
 use Rattle.std.specs.Int.{div_ceil}
 use Rattle.std.specs.List.{range_with_len, concat}
@@ -31,7 +31,7 @@ pub record PutUpTo (before texts rest after : List (List ℕ)) : Type 0 where
 abbrev pub PutFront : List (List ℕ) → List (List ℕ) → List (List ℕ) → Type 0
 PutFront before texts after = (rest : List (List ℕ)) × PutUpTo before texts rest after
 
--- What is known of a sink: the bytes that it holds, where it tells them, and what it was given to put.
+-- The known state of a sink: the bytes that it holds, if it tells them, and the bytes that it was given to put.
 pub record SinkSeen : Type 0 where
   pub held : Option (List ℕ)
   pub puts : List (List ℕ)

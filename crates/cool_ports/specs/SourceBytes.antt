@@ -1,10 +1,10 @@
--- What a source has left. `Some` are the bytes of a source that tells them, and `None` is a source that does not tell.
+-- The bytes that a source has left. `Some` are the bytes of a source that tells them, and `None` is a source that does not tell.
 use Rattle.std.specs.Prelude.{◌≡◌, ◌<◌, ◌≤◌, ◌^◌, List, ℕ, [], ◌∷◌, length, Option, Some, None, Result, Ok, Err}
 use Rattle.std.specs.Io.KnownBytes.{Consumes}
 use Rattle.std.specs.Io.KnownBytes as std_bytes
 use Rattle.cool_ports.specs.declared.Failed.{Failed}
 
--- what was left before this byte was taken
+-- the bytes that were left before this byte was taken
 unfoldable pub put_back : ℕ → Option (List ℕ) → Option (List ℕ)
 put_back byte None = None
 put_back byte (Some rest) = Some (byte ∷ rest)
@@ -19,7 +19,7 @@ abbrev pub HasRoomFor : Option (List ℕ) → ℕ → Type 0
 HasRoomFor None room = Unit {0}
 HasRoomFor (Some left) room = room ≡ length left
 
--- What `take` answered: the first byte left, or that none is left.
+-- The answer of `take`: the first byte left, or that none is left.
 abbrev pub Takes : Option (List ℕ) → Option ℕ → Option (List ℕ) → Type 0
 Takes before (Some byte) after = before ≡ put_back byte after
 Takes before None after = IsAtEnd before × (after ≡ before)

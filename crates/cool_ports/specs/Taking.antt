@@ -1,23 +1,23 @@
--- What is taken of a source between two points: bytes one after another, and perhaps its end.
+-- The bytes taken from a source between two points, one after another, and perhaps its end.
 use Rattle.std.specs.Prelude.{◌≡◌, ℕ, ◌+◌, ◌<◌, Bool, true, false, List, [], ◌∷◌, ◌++◌, replicate, Option, Some, None, Result, Ok, Err}
 use Rattle.cool_ports.specs.declared.Failed.{Failed}
 use Rattle.cool_ports.specs.Answers.{Past, Leaves}
 use Rattle.cool_ports.specs.SourceBytes.{IsAtEnd}
 
--- what a source had left before it gave these bytes
+-- the bytes that a source had left before it gave these
 abbrev pub with_front : List ℕ → Option (List ℕ) → Option (List ℕ)
 with_front front None = None
 with_front front (Some rest) = Some (front ++ rest)
 
--- how often the end was answered, where it had been before or not, and is now
+-- the number of times that the end was answered, from whether it had been before, and is now
 abbrev pub EndsOnce : Bool → Bool → List ℕ → ℕ → ℕ → Option (List ℕ) → Type 0
 EndsOnce true is front before after left = (is ≡ true) × (front ≡ []) × (after ≡ before)
 EndsOnce false true front before after left = (after ≡ before + 1) × IsAtEnd left
 EndsOnce false false front before after left = after ≡ before
 
--- What was taken of a source between two points: bytes, and then perhaps its end, which is asked for once. `was` and `is` say
--- whether the end was answered at the first point and at the second; where it was, the source is not asked. A source that tells
--- what it has left told these bytes in front, and nothing where it answered its end.
+-- The bytes taken from a source between two points, and then perhaps its end, which is asked for once. `was` and `is` say whether the end was answered at
+-- the first point and at the second; if it was at the first, the source is not asked. If a source tells what it has left, these bytes were the first of it,
+-- and nothing is left after it answered its end.
 pub record Took (was is : Bool) (before after : Past) (left left' : Option (List ℕ)) : Type 0 where
   pub front : List ℕ
   pub given : after.given ≡ before.given ++ front

@@ -7,7 +7,7 @@ ghost use Rattle.cool_ports.specs.MemoryObjects.{no_faults, IsToFail, called, fa
 use std::alloc::{AllocError, Global};
 use std::marker::Model;
 
-/// Which calls are to fail, and how many did.
+/// The numbers of the calls that are to fail, and the number of those that failed.
 #[derive(Drop)]
 pub struct FaultSchedule {
     failing: Vec<u64>,
@@ -39,8 +39,7 @@ impl FaultSchedule {
         }
     }
 
-    /// Makes the call of this number fail, the first being 1. An `Err` comes only for want of memory, and changes
-    /// nothing.
+    /// Makes the call of this number fail, the first being 1. Returns `Err` only if memory runs out; then nothing changes.
     pub fn fail_call(&mut self, number: u64) -> Result<(), AllocError>
         ensures ok { OnOk result (self.new ≡ failing_at self.old number) }
         ensures err { OnErr result (self.new ≡ self.old) }

@@ -9,7 +9,7 @@ use std::io;
 use std::io::{ErrorKind, Read};
 use std::rt::Files;
 
-/// A shelf over the files of the system. It tells nothing of what they hold but what it gave, and counts each `Err` as a fault.
+/// A shelf over the files of the system. It tells nothing of their contents except the bytes that it gave, and counts each `Err` as a fault.
 #[derive(Drop)]
 pub struct FileShelf<R> {
     files: R,

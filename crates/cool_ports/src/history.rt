@@ -1,4 +1,4 @@
-//! What a source has answered, kept for clauses alone.
+//! The answers of a source so far, kept only for clauses.
 
 ghost use Rattle.std.specs.Prelude.{◌≡◌};
 ghost use Rattle.std.specs.Borrow.{ftrue};
@@ -33,7 +33,7 @@ impl History {
     }
 }
 
-/// What a source answered: a byte, or that nothing is left.
+/// An answer of a source: a byte, or that nothing is left.
 #[derive(Clone, Copy)]
 pub(crate) struct Answer {
     pub first: Option<u8>,

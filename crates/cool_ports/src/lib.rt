@@ -1,7 +1,7 @@
 //! The outside of the program: files, input and output.
 //!
-//! Comes in: what std's files and streams give, or bytes in memory. Goes out: three traits, `Shelf`, `Source` and
-//! `Sink`, whose contracts say what is read and written, and count every failure. `specs/` defines the words.
+//! Input: the data of std's files and streams, or bytes in memory. Output: three traits, `Shelf`, `Source` and `Sink`, whose contracts say what is read and
+//! written, and count every failure. `specs/` defines the terms.
 #![tactic(auto)]
 
 mod fault_schedule;

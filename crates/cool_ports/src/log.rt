@@ -1,4 +1,4 @@
-//! What an object was called with, kept for clauses alone.
+//! The calls of an object so far, kept only for clauses.
 
 ghost use Rattle.std.specs.Prelude.{◌≡◌, ℕ, List, [], ◌∷◌, ◌++◌};
 ghost use Rattle.std.specs.Borrow.{ftrue};

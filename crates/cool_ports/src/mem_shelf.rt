@@ -39,7 +39,7 @@ impl MemShelf {
         }
     }
 
-    /// Sets one file, in place of one of the same name. An `Err` comes only for want of memory, and changes nothing.
+    /// Sets one file, in place of one of the same name. Returns `Err` only if memory runs out; then nothing changes.
     pub fn put_file(&mut self, name: &str, bytes: &[u8]) -> Result<(), AllocError>
         ensures ok { OnOk result ((q : List ℕ) → file_of self.new q ≡ (if bytes_eq name.now q then Some bytes.now else file_of self.old q)) }
         ensures err { OnErr result ((q : List ℕ) → file_of self.new q ≡ file_of self.old q) }
@@ -53,8 +53,7 @@ impl MemShelf {
         Ok(())
     }
 
-    /// Makes the `read` of this number fail, the first being 1. An `Err` comes only for want of memory, and changes
-    /// nothing.
+    /// Makes the `read` of this number fail, the first being 1. Returns `Err` only if memory runs out; then nothing changes.
     pub fn fail_call(&mut self, number: u64) -> Result<(), AllocError>
         ensures ok { OnOk result (schedule_of self.new ≡ failing_at (schedule_of self.old) number) }
         ensures err { OnErr result (schedule_of self.new ≡ schedule_of self.old) }

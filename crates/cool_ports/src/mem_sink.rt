@@ -31,7 +31,7 @@ impl Model for MemSink {
 }
 
 impl MemSink {
-    /// An empty sink with memory for `room` bytes, of which no call is to fail. `Err` comes only for want of memory.
+    /// An empty sink with memory for `room` bytes, of which no call is to fail. Returns `Err` only if memory runs out.
     pub fn new(alloc: Global, room: u32) -> Result<MemSink, AllocError>
         ensures made { IfOk result (λ sink. sink ≡ record { held = []; room = room; puts = []; schedule = no_faults }) }
     {
@@ -44,8 +44,7 @@ impl MemSink {
         })
     }
 
-    /// Makes the `put` of this number fail, the first being 1. An `Err` comes only for want of memory, and changes
-    /// nothing.
+    /// Makes the `put` of this number fail, the first being 1. Returns `Err` only if memory runs out; then nothing changes.
     pub fn fail_call(&mut self, number: u64) -> Result<(), AllocError>
         ensures ok { OnOk result (self.new ≡ record self.old { schedule = failing_at self.old.schedule number }) }
         ensures err { OnErr result (self.new ≡ self.old) }

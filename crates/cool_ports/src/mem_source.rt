@@ -43,8 +43,7 @@ impl MemSource {
         }
     }
 
-    /// Makes the `take` of this number fail, the first being 1. An `Err` comes only for want of memory, and changes
-    /// nothing.
+    /// Makes the `take` of this number fail, the first being 1. Returns `Err` only if memory runs out; then nothing changes.
     pub fn fail_call(&mut self, number: u64) -> Result<(), AllocError>
         ensures ok { OnOk result (self.new ≡ record self.old { schedule = failing_at self.old.schedule number }) }
         ensures err { OnErr result (self.new ≡ self.old) }

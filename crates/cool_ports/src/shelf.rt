@@ -1,4 +1,4 @@
-//! What gives files.
+//! The trait of a shelf: reads files by name.
 
 ghost use Rattle.std.specs.Prelude.{◌≡◌, ℕ, ◌<◌, ◌≤◌, ◌^◌, List, [], ◌∷◌, ◌++◌, vec_len, IfOk, OnOk, OnErr, IsErrOf, Option};
 ghost use Rattle.cool_ports.specs.Counts.{GoesOn, Rose};
@@ -6,7 +6,7 @@ ghost use Rattle.cool_ports.specs.ShelfFiles.{FileMap, MayHold, IsMissing, IsLon
 
 use std::alloc::Global;
 
-/// Why a file was not read.
+/// The reason why a file was not read.
 #[derive(Clone, Copy)]
 pub enum ShelfFault {
     /// There is no such file.
@@ -21,7 +21,7 @@ pub enum ShelfFault {
 
 /// A place of files, each under its name.
 pub trait Shelf {
-    /// How often it has failed.
+    /// The number of its failures.
     ghost faults: { Self → ℕ };
 
     /// Its files, where it tells them. No call changes them.
@@ -35,10 +35,9 @@ pub trait Shelf {
 
     /// All bytes of the file of this name; they are at most `most`.
     ///
-    /// `Missing` comes exactly where the told map lacks the name and the call did not fail, `TooLarge` exactly where
-    /// the told file is longer than `most` and the call did not fail. Where the map is not told, both come only where
-    /// the count of faults rose, and so does `Failed` always. `Memory` comes only for want of memory: where the map is told
-    /// the count did not rise, and else it rose.
+    /// `Missing` comes exactly where the told map lacks the name and the call did not fail, `TooLarge` exactly where the told file is longer than `most`
+    /// and the call did not fail. Where the map is not told, both come only where the count of faults rose, and so does `Failed` always. `Memory` comes
+    /// only if memory runs out: the count did not rise if the map is told, and it rose if not.
     fn read(&mut self, alloc: Global, name: &str, most: u64) -> Result<Vec<u8>, ShelfFault>
         requires { most < 2 ^ 40 }
         ensures read { IfOk result (λ bytes. MayHold (files self.old) name.now bytes.items) }

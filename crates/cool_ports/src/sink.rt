@@ -1,4 +1,4 @@
-//! What takes output.
+//! The trait of a sink: takes output.
 
 ghost use Rattle.std.specs.Prelude.{◌≡◌, ℕ, ◌<◌, List, [], ◌∷◌, ◌++◌, length, OnOk, OnErr, Option};
 ghost use Rattle.cool_ports.specs.Counts.{GoesOn, Rose};
@@ -8,13 +8,13 @@ use crate::Failed;
 
 /// A place where bytes are put, in order.
 pub trait Sink {
-    /// How often it has failed.
+    /// The number of its failures.
     ghost faults: { Self → ℕ };
 
     /// The bytes that it holds, where it tells them.
     ghost held: { Self → Option (List ℕ) };
 
-    /// What it was given to put, a list for each put, those that failed among them.
+    /// The bytes that it was given to put, a list for each put, including those that failed.
     ghost puts: { Self → List (List ℕ) };
 
     /// Puts the bytes after those that it holds.

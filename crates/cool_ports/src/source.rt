@@ -1,4 +1,4 @@
-//! What gives input.
+//! The trait of a source: gives input.
 
 ghost use Rattle.std.specs.Prelude.{◌≡◌, ℕ, List, IfOk, OnOk, OnErr, Option};
 ghost use Rattle.cool_ports.specs.Answers.{Past, after_answer};
@@ -9,7 +9,7 @@ use crate::Failed;
 
 /// A place from which bytes are taken, one after another.
 pub trait Source {
-    /// How often it has failed.
+    /// The number of its failures.
     ghost faults: { Self → ℕ };
 
     /// The bytes that it has given so far, and how often it has answered that nothing is left.
@@ -18,7 +18,7 @@ pub trait Source {
     /// The bytes that are left, where it tells them.
     ghost left: { Self → Option (List ℕ) };
 
-    /// How many bytes it can still give, at the most.
+    /// The greatest number of bytes that it can still give.
     ghost room: { Self → ℕ };
 
     /// Takes the next byte, or answers `None` where nothing is left.

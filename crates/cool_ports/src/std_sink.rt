@@ -10,8 +10,8 @@ use crate::{Failed, Log, Sink};
 use std::io;
 use std::io::Write;
 
-/// A sink over a writer, as standard output. It tells the bytes that the writer took: those of each put that went well, in order. Of a put
-/// that failed the writer may have taken a part, of which it tells nothing. It counts each `Err` as a fault.
+/// A sink over a writer, as standard output. It tells the bytes that the writer took: those of each put that went well, in order. The writer may have taken
+/// a part of a put that failed; the sink does not tell that part. It counts each `Err` as a fault.
 #[derive(Drop)]
 pub struct StdSink<W> {
     writer: W,

@@ -46,7 +46,7 @@ impl<R: Read + Drop> Source for StdSource<R> {
 
     ghost room = { λ source. last_count - source.given };
 
-    /// Where the reader tells what it has left, this is the first byte of it, or nothing is left of it.
+    /// If the reader tells what it has left, this is its first byte, or nothing is left.
     #[tactic(auto, unfolding(crate::specs::SourceBytes::put_back))]
     fn take(&mut self) -> Result<Option<u8>, Failed>
         ensures reads { IfOk result (λ first. Reads (bytes_remaining R.remaining self.old.bytes) first (bytes_remaining R.remaining self.new.bytes)) }

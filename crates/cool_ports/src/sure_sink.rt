@@ -5,7 +5,7 @@ ghost use Rattle.cool_ports.specs.SinkBytes.{appended};
 
 use crate::{Failed, Log, Sink};
 
-/// A sink that throws its bytes away, and never fails. It tells nothing of what it got.
+/// A sink that throws its bytes away, and never fails. It tells nothing of the bytes that it got.
 #[derive(Drop)]
 pub struct SureSink {
     puts: Log,

@@ -8,8 +8,7 @@ use crate::history::{Answer, History};
 use crate::{Failed, Source};
 use std::marker::Model;
 
-/// A source that gives bytes of memory, and never fails. A contract sees the bytes that are left, and what it
-/// has answered.
+/// A source that gives bytes of memory, and never fails. A contract sees the bytes that are left, and its answers so far.
 #[derive(Drop)]
 pub struct SureSource {
     bytes: Vec<u8>,

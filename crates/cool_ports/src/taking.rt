@@ -1,4 +1,4 @@
-//! Bytes of a source, without those that are 0.
+//! Reading bytes from a source, without those that are 0.
 
 ghost use Rattle.std.specs.Prelude.{◌≡◌, ◌<◌, IfOk, IfSome, OnOk, OnErr};
 ghost use Rattle.cool_ports.specs.Counts.{Rose};

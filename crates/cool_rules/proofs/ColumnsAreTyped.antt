@@ -73,7 +73,7 @@ module _ (p : List Class) (whole : IsWholeTable p) (c : ClassId) (within : c.0 <
   within_name name declared bound type scope t denotes has =
       subst (λ (u : Ty). HasType p c (with_name name u scope) t type) (type_meant_is p declared bound whole.table denotes) has
 
-  -- where a form with one part has a type, so has the part; those with two parts, and calls
+  -- if a form with one part has a type, so has the part; the same for forms with two parts, and for calls
   part_typed : (at : Place) (form : Unary) (e : Tree) (scope : List Binding) (type : Ty) → HasType p c scope (trees.unary at form e) type → (t : Ty) × HasType p c scope e t
   part_typed at (trees.assign name) e scope type h = (type, h.2)
   part_typed at trees.isvoid e scope type h = (h.0, h.1)
@@ -155,7 +155,7 @@ module _ (p : List Class) (whole : IsWholeTable p) (c : ClassId) (within : c.0 <
         typed = subst (λ (ts : List Tree). HasType p c found.0 (get_or ts id.0 (trees.Int nowhere 0)) found.1) (sym (all_trees-parts e)) found.4;
       }
 
-  -- that of a feature
+  -- the column of a feature
   declared_typed : (inner : List Binding) (e : Tree) (declared : List ℕ) → AreTypes p inner → FitsDeclared p c inner e declared → (id : NodeId) → id.0 < tree_size e
       → IsTypedEntry p c (inner ++ own_scope p c) e (node_types p c (inner ++ own_scope p c) e) id
   declared_typed inner e declared types f id less =

@@ -7,7 +7,7 @@ use Rattle.cool_classes.specs.declared.class_id.Ty.{Ty}
 use Rattle.cool_classes.specs.Chains.{Class, class_number, features_of}
 use Rattle.cool_rules.specs.NodeTypes.{features_types, classes_types, columns_of}
 
--- from a class on there are its columns and those of the classes after it
+-- the columns from a class on are its columns and those of the classes after it
 classes_first : (p : List Class) (n : ℕ) (ds : List Class) (k : ℕ) → k < length ds
     → classes_types p n (drop k ds) ≡ features_types p (class_number n) (features_of ds (class_number k)) ∷ classes_types p (suc n) (drop (suc k) ds)
 classes_first p n [] k within = absurd (omega arith)

@@ -34,7 +34,7 @@ not_found (b ∷ bs) name h = by (bytes_eq b.name name) refl (not_found bs name 
     by true e rest = absurd (h.0 ((bytes_eq-Decides b.name name).0 e))
     by false e rest = rest
 
--- where names are different, the order does not matter
+-- if names are different, the order does not matter
 found_entered : (bs o : List Binding) (name : List ℕ) → NamesDiffer bs → found (entered bs o) name ≡ option_or (found bs name) (found o name)
 found_entered [] o name h = refl
 found_entered (b ∷ bs) o name h =
@@ -57,7 +57,7 @@ or_none : (o : Option Ty) → option_or o None ≡ o
 or_none None = refl
 or_none (Some t) = refl
 
--- what holds of the types of names holds of them when they are entered
+-- a property of the types of names holds of them when they are entered
 pub entered_types : (P : Ty → Type 0) (bs o : List Binding) → AllByRecursion (λ (b : Binding). P b.value) bs → AllByRecursion (λ (b : Binding). P b.value) o → AllByRecursion (λ (b : Binding). P b.value) (entered bs o)
 entered_types P [] o h g = g
 entered_types P (b ∷ bs) o h g = entered_types P bs (b ∷ o) h.1 (h.0, g)

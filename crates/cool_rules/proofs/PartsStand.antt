@@ -1,5 +1,5 @@
--- Where the nodes of an expression stand in a body, and their types in its column, the number of its root gives the expression, its node and
--- its type, and its parts stand there too.
+-- If the nodes of an expression stand in a body, and their types in its column, the number of its root gives the expression, its node and its type, and its
+-- parts stand there too.
 use Rattle.std.proofs.Common.{◌≡◌, ℕ, ◌+◌, ◌-◌, ◌<◌, List, [], ◌∷◌, ◌++◌, Some, length, get_or, refl, sym, ◌∙◌, ap, subst, append_assoc, append-nil, length-append, arith}
 use Rattle.std.specs.Prelude.{slice_get}
 use Rattle.std.proofs.lemmas.List.{get_or-append_right}
@@ -99,7 +99,7 @@ node_there b k t s =
 
 -- Lists that stand in a list
 
--- what stands somewhere stands there in two parts
+-- a list that stands somewhere stands there in two parts
 left_part : {A : Type 0} {ns : List A} {k : ℕ} (xs ys : List A) → Lies ns k (xs ++ ys) → Lies ns k xs
 left_part xs ys s = record { front = s.front; back = ys ++ s.back; before = s.before; is = s.is ∙ ap (λ zs. s.front ++ zs) (append_assoc xs ys s.back) }
 
@@ -124,14 +124,14 @@ two_parts {A} {ns} {k} xs ys m e s = (left_part xs ys s, right_part xs ys (k + m
 
 -- Nodes
 
--- of trees in order, the first one, and the others
+-- the first one of trees in order, and the others
 pub first_stands : {ns : List Node} {k : ℕ} (t : Tree) (ts : Trees) → Lies ns k (nodes_of_all k (More t ts)) → Stands ns k t
 first_stands {ns} {k} t ts s = left_part (nodes k t) (nodes_of_all (k + tree_size t) ts) s
 
 pub others_stand : {ns : List Node} {k : ℕ} (t : Tree) (ts : Trees) → Lies ns k (nodes_of_all k (More t ts)) → Lies ns (k + tree_size t) (nodes_of_all (k + tree_size t) ts)
 others_stand {ns} {k} t ts s = right_part (nodes k t) (nodes_of_all (k + tree_size t) ts) (k + tree_size t) (omega (arith, length-nodes t k)) s
 
--- of branches in order, the first one, and the others
+-- the first one of branches in order, and the others
 pub first_branch_stands : {ns : List Node} {k : ℕ} (t : Tree) (cs : Cases) → Lies ns k (nodes k t ++ nodes_of_cases (k + tree_size t) cs) → Stands ns k t
 first_branch_stands {ns} {k} t cs s = left_part (nodes k t) (nodes_of_cases (k + tree_size t) cs) s
 

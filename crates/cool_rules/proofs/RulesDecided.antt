@@ -1,5 +1,4 @@
--- The functions of the rules of types decide them, in whole tables: what names denote, and joins. Two types that conform to one another
--- are one.
+-- The functions of the rules of types decide them, in whole tables: the types that names denote, and joins. Two types that conform to one another are one.
 use Rattle.std.proofs.Common.{◌≡◌, inl, inr, ◌<◌, ℕ, List, [], ◌∷◌, length, Option, Some, None, Bool, true, false, ap, sym, ◌∙◌, refl, subst, arith, true≢false}
 use Rattle.std.specs.Prelude.{Contains, if◌then◌else◌, bytes_eq, option_map}
 use Rattle.std.proofs.lemmas.Bool.{eqb-true, eq-eqb}

@@ -1,4 +1,4 @@
--- The rules of types as functions: of a whole table, what fits the definitions of conformance, joins and names is what the functions give.
+-- The rules of types as functions: in a whole table, the functions return exactly the results that satisfy the definitions of conformance, joins and names.
 use Rattle.std.proofs.Common.{◌≡◌, ℕ, zero, suc, ◌<◌, ◌≤◌, ◌⊎◌, inl, inr, List, [], ◌∷◌, length, Option, Some, None, Bool, true, false, ap, sym, ◌∙◌, refl, subst, arith}
 use Rattle.std.specs.Prelude.{Contains, IsTrue, ◌↔◌, if◌then◌else◌, option_map, unwrap_or}
 use Rattle.cool_classes.specs.declared.class_id.ClassId.{ClassId}
@@ -110,7 +110,7 @@ join_in_is p c (IsClass a) (IsClass b) SelfType h within ia ib join = absurd joi
 join_in_is p c (IsClass a) (IsClass b) (IsClass j) h within ia ib join =
     ap IsClass (join_is_first p a b j h ia ib (class_join p c a b j (IsClass a) (IsClass b) (λ o k. k) (λ o k. k) join.left join.right join))
 
--- what a name means is what the function finds
+-- the type that a name means is the one that the function finds
 pub type_of_name_is : (p : List Class) (name : List ℕ) (r : Option Ty) → IsTable p → IsTypeNamed p name r → r ≡ type_of_name p name
 unfolding type_of_name
 type_of_name_is p name None h none =

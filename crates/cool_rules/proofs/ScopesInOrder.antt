@@ -29,7 +29,7 @@ found_before {T} es k e name within is =
     let more : take (suc k) es ≡ take k es ++ e ∷ [] = take-suc es k e within ∙ ap (λ (x : Entry T). take k es ++ x ∷ []) (sym is) in
     ap (λ (xs : List (Entry T)). found (latest_first xs) name) more ∙ ap (λ (bs : List (Bound T)). found bs name) (latest_more (take k es) e)
 
--- where the entry is the name's, what it is bound to is found; else it is looked for before it
+-- if the entry is the name's, its value is found; if not, the name is looked for before it
 pub found_here : {T : Type 0} (es : List (Entry T)) (k : ℕ) (e : Entry T) (name : List ℕ) → k < length es → e ≡ get_or es k e → bytes_eq e.name.now name ≡ true → found (latest_first (take (suc k) es)) name ≡ Some e.value
 found_here {T} es k e name within is same =
     found_before es k e name within is ∙ ap (λ (b : Bool). if b then Some e.value else found (latest_first (take k es)) name) same

@@ -32,7 +32,7 @@ abbrev pub folded : List Class → ClassId → Option Ty → List Ty → Option 
 folded p c join [] = join
 folded p c join (t ∷ ts) = folded p c (Some (joined p c join t)) ts
 
--- what a scope says of a name, another one says, too
+-- each binding of a name in one scope is in another one, too
 abbrev pub Covers : List Binding → List Binding → Type 0
 Covers scope seen = (name : List ℕ) (t : Ty) → found scope name ≡ Some t → found seen name ≡ Some t
 

@@ -24,7 +24,7 @@ use Rattle.cool_rules.proofs.TypesOfMethods.{basic_there, in_scope}
 use Rattle.lists.proofs.AllItems.{all_append}
 
 module _ (p : List Class) (whole : IsWholeTable p) where
-  -- what a name means
+  -- the type that a name means
   pub meant_is_type : (name : List ℕ) → IsType p (type_meant p name)
   unfolding type_meant
   meant_is_type name = by (type_of_name p name) refl

@@ -1,4 +1,4 @@
--- Types in a class: which conform to which, and the least type to which two conform (the Cool manual, section 4).
+-- Types in a class: which type conforms to which, and the least type to which two conform (the Cool manual, section 4).
 use Rattle.std.specs.Prelude.{ℕ, ◌<◌, List, length, Option, Some, None}
 use Rattle.cool_classes.specs.declared.class_id.ClassId.{ClassId}
 use Rattle.cool_classes.specs.declared.class_id.Ty.{Ty}
@@ -21,7 +21,7 @@ abbrev pub class_of : ClassId → Ty → ClassId
 class_of c (IsClass a) = a
 class_of c SelfType = c
 
--- In class c, the first type conforms to the second: a class to itself and those above it, SELF_TYPE to itself and to what c conforms to.
+-- In class c, the first type conforms to the second: a class to itself and those above it, SELF_TYPE to itself and to the types that c conforms to.
 abbrev pub Conforms : List Class → ClassId → Ty → Ty → Type 0
 Conforms p c SelfType SelfType = Unit {0}
 Conforms p c SelfType (IsClass b) = Below p c b

@@ -1,4 +1,4 @@
--- What the code generator may count on: the limits that every accepted program keeps.
+-- The limits that every accepted program keeps, and that the code generator may rely on.
 use Rattle.std.specs.Prelude.{ℕ, ◌+◌, ◌≤◌, ◌<◌, List, [], ◌∷◌, length, drop}
 use Rattle.std.specs.List.{AllByRecursion}
 use Rattle.cool_syntax.specs.declared.TheConstants.{MOST_FILES, MOST_SOURCE_BYTES}
@@ -9,7 +9,7 @@ use Rattle.cool_classes.specs.declared.class_id.ClassId.{ClassId}
 use Rattle.cool_classes.specs.Chains.{Class, name_of, features_of}
 use Rattle.cool_classes.specs.Limits.{KeepsLimits}
 
--- how much the classes hold: their names, and the formals, nodes, branches and bytes of string constants of their features
+-- the weight of the classes: their names, and the formals, nodes, branches and bytes of string constants of their features
 abbrev pub weight_of : List Class → ℕ
 weight_of [] = 0
 weight_of (c ∷ cs) = 1 + length c.name + features_weight c.features + weight_of cs

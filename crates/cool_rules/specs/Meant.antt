@@ -1,5 +1,5 @@
--- The methods that names mean, the types of calls, and the joins of branches, where it is known that there are such; else some method and
--- some type are given (the Cool manual, section 7).
+-- The methods that names mean, the types of calls, and the joins of branches, if they are known to exist; if not, some method and some type are given (the
+-- Cool manual, section 7).
 use Rattle.std.specs.Prelude.{ℕ, List, Option, Some, None, unwrap_or}
 use Rattle.cool_classes.specs.declared.class_id.ClassId.{ClassId}
 use Rattle.cool_classes.specs.declared.class_id.Ty.{Ty}

@@ -1,4 +1,4 @@
--- The names in scope at the nodes of expressions, as lists in the order of the nodes' numbers, and what a column of types says by the rules.
+-- The names in scope at the nodes of expressions, as lists in the order of the nodes' numbers, and the types that the rules give a column.
 use Rattle.std.specs.Prelude.{◌≡◌, ℕ, ◌<◌, List, [], ◌∷◌, ◌++◌, length, Option, Some, slice_get, codes, refl}
 use Rattle.cool_syntax.specs.declared.place.Place.{Place}
 use Rattle.cool_syntax.specs.declared.type_ref.TypeRef.{TypeRef}
@@ -45,7 +45,7 @@ abbrev mutual
       (part_scopes p (with_name name (type_meant p declared.name) scope) t ++ with_name name (type_meant p declared.name) scope ∷ [])
       ++ scopes_of_cases p scope cs
 
--- those at the nodes of an expression: of its parts, and then its own
+-- the scopes at the nodes of an expression: of its parts, and then its own
 abbrev pub node_scopes : List Class → List Binding → Tree → List (List Binding)
 node_scopes p scope t = part_scopes p scope t ++ scope ∷ []
 

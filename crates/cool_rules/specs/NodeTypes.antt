@@ -75,16 +75,16 @@ abbrev pub feature_types : List Class → ClassId → Feature → List Ty
 feature_types p c (Method m) = node_types p c (formals_in_scope p m.formals ++ own_scope p c) m.body
 feature_types p c (Attribute a) = initial_types p c a.init
 
--- those of the features of a class, in order
+-- the columns of the features of a class, in order
 abbrev pub features_types : List Class → ClassId → List Feature → List (List Ty)
 features_types p c features = map (feature_types p c) features
 
--- those of classes of a table, from one of this number on
+-- the columns of classes of a table, from one of this number on
 abbrev pub classes_types : List Class → ℕ → List Class → List (List (List Ty))
 classes_types p k [] = []
 classes_types p k (x ∷ xs) = features_types p (class_number k) x.features ∷ classes_types p (suc k) xs
 
--- those of all classes of a table
+-- the columns of all classes of a table
 abbrev pub table_types : List Class → List (List (List Ty))
 table_types p = classes_types p 0 p
 

@@ -1,4 +1,4 @@
--- The names in scope: bindings of names to their types, or to what else is known of them, the latest first (the Cool manual, section 12).
+-- The names in scope: bindings of names to their types or to other values, the latest first (the Cool manual, section 12).
 use Rattle.std.specs.Prelude.{◌≡◌, ℕ, List, [], ◌∷◌, ◌++◌, codes, bytes_eq, if◌then◌else◌, Option, Some, None, refl}
 use Rattle.std.specs.List.{AllByRecursion}
 use Rattle.cool_classes.specs.declared.class_id.Ty.{Ty}
@@ -7,7 +7,7 @@ use Rattle.cool_classes.specs.Chains.{Class}
 use Rattle.cool_rules.specs.Conformance.{IsType}
 use Rattle.cool_rules.specs.declared.scope.Entry.{Entry}
 
--- a name and what it is bound to
+-- a name and its value
 pub record Bound (T : Type 0) : Type 0 where
   pub name : List ℕ
   pub value : T
@@ -20,7 +20,7 @@ Binding = Bound Ty
 abbrev pub AreTypes : List Class → List Binding → Type 0
 AreTypes p scope = AllByRecursion (λ b. IsType p b.value) scope
 
--- what the latest binding of a name binds it to
+-- the value of the latest binding of a name
 abbrev pub found : {T : Type 0} → List (Bound T) → List ℕ → Option T
 found [] name = None
 found (b ∷ bs) name = if bytes_eq b.name name then Some b.value else found bs name

@@ -1,5 +1,5 @@
--- The static types of expressions, as a function (the Cool manual, sections 4, 7 and 12): where typing gives an expression a type, it is this one
--- (`IsTypeWhereTyped`). Where it gives none, some type is given.
+-- The static types of expressions, as a function (the Cool manual, sections 4, 7 and 12): if typing gives an expression a type, it is this one
+-- (`IsTypeWhereTyped`). If it gives none, some type is returned.
 use Rattle.std.specs.Prelude.{◌≡◌, ◌<◌, List, length, Option, Some, None, unwrap_or}
 use Rattle.std.specs.List.{AllByRecursion}
 use Rattle.cool_syntax.specs.Tree.{Tree, Trees, Cases, Last, More, NoCase, CaseOf}
@@ -35,7 +35,7 @@ abbrev mutual
   type_of p c scope (trees.Str at bytes) = string_type
   type_of p c scope (trees.Bool at value) = bool_type
 
-  -- of the last item of a block, after one of this type
+  -- the type of the last item of a block, after one of this type
   pub last_type_of : List Class → ClassId → List Binding → Ty → Trees → Ty
   last_type_of p c scope last Last = last
   last_type_of p c scope last (More t ts) = last_type_of p c scope (type_of p c scope t) ts

@@ -1,5 +1,5 @@
--- Expressions in a body whose nodes have types in a column: where one stands by its number, with these names in scope, and the parts of a
--- node by their numbers.
+-- Expressions in a body whose nodes have types in a column: the expression at a number, with these names in scope, and the parts of a node by their
+-- numbers.
 use Rattle.std.specs.Prelude.{◌≡◌, ℕ, List, [], ◌∷◌, ◌++◌, Option, Some, None, length}
 use Rattle.cool_syntax.specs.declared.node.Node.{Node}
 use Rattle.cool_syntax.specs.declared.node.Node.TheVariants as node

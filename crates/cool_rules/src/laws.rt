@@ -7,7 +7,7 @@ ghost use Rattle.cool_rules.specs.NodeScopes.{AreTypedColumns};
 ghost use Rattle.cool_rules.specs.StaticTypes.{IsTypeWhereTyped};
 ghost use Rattle.cool_rules.specs.TypedTables.{IsTypedTable};
 
-/// Where the rules give an expression a type, it is its static type. So it is in each whole table, typed or not.
+/// If the rules give an expression a type, it is its static type. So it is in each whole table, typed or not.
 pub fn law_static_type()
     ensures { (p : List Class) → IsWholeTable p → IsTypeWhereTyped p }
 {}

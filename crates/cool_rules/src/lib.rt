@@ -1,8 +1,8 @@
-//! The rules of types in Cool: which type conforms to which, which names are in scope, and which programs are well typed (the Cool
-//! manual, sections 4 and 12).
+//! The rules of types in Cool: which type conforms to which, which names are in scope, and which programs are well typed (the Cool manual, sections 4 and
+//! 12).
 //!
-//! Comes in: a class table. Goes out: answers on types, and the program that the checker has accepted, with the types of the nodes of its
-//! expressions. `specs/Conformance.antt`, `specs/Scopes.antt`, `specs/Fits.antt` and `specs/NodeTypes.antt` define what they mean.
+//! Input: a class table. Output: answers on types, and the program that the checker has accepted, with the types of the nodes of its expressions.
+//! `specs/Conformance.antt`, `specs/Scopes.antt`, `specs/Fits.antt` and `specs/NodeTypes.antt` define their meaning.
 #![tactic(auto)]
 
 mod conformance;

@@ -1,5 +1,4 @@
-//! The type and the method that a name means, as functions of a whole table: where it is known that the name means something, or where some
-//! answer will do.
+//! The type and the method that a name means, as functions of a whole table: used if the name is known to mean something, or if any result will do.
 
 ghost use Rattle.std.specs.Prelude.{◌≡◌, ◌<◌, length};
 ghost use Rattle.cool_classes.specs.Features.{HasMethod};

@@ -1,4 +1,4 @@
-//! The names in scope, each with what it is bound to.
+//! The names in scope, each with its value.
 
 ghost use Rattle.std.specs.Prelude.{◌≡◌, ◌≢◌, [], ◌∷◌, length, option_map, slice_get, if◌then◌else◌};
 ghost use Rattle.std.specs.Result.{is_ok};
@@ -8,14 +8,14 @@ use cool_syntax::Name;
 use std::alloc::{AllocError, Global};
 use std::marker::Model;
 
-/// A name that was entered, with what it is bound to.
+/// A name that was entered, with its value.
 #[derive(Clone, Copy)]
 pub struct Entry<'a, T: Copy> {
     pub name: &'a [u8],
     pub value: T,
 }
 
-/// The names in scope, each bound to its type or to what else is known of it. A contract sees them with the latest first.
+/// The names in scope, each bound to its type or to another value. A contract sees them with the latest first.
 #[derive(Drop)]
 pub struct Scope<'a, T: Copy> {
     entries: Vec<Entry<'a, T>>,
@@ -40,7 +40,7 @@ impl<'a, T: Copy> Scope<'a, T> {
         }
     }
 
-    /// Adds a name, in front of an earlier one of the same name. `Err` comes only for want of memory, and leaves the scope as it is.
+    /// Adds a name, in front of an earlier one of the same name. Returns `Err` only if memory runs out; then the scope stays as it is.
     pub fn enter(&mut self, name: &'a Name, value: T) -> Result<(), AllocError>
         ensures { self.new ≡ (if is_ok result then record { name = name.now; value = value } ∷ self.old else self.old) }
     {
@@ -59,21 +59,21 @@ impl<'a, T: Copy> Scope<'a, T> {
         self.entries.pop();
     }
 
-    /// How many names are in scope.
+    /// The number of names in scope.
     pub fn count(&self) -> usize
         ensures { result ≡ length self.now }
     {
         self.entries.len()
     }
 
-    /// The name that was entered last, with what it is bound to.
+    /// The name that was entered last, with its value.
     pub fn latest(&self) -> Option<Entry<'a, T>>
         ensures { option_map binding_of result ≡ slice_get self.now 0 }
     {
         self.entries.last().copied()
     }
 
-    /// What a name is bound to, by its latest entry. None exactly where there is no entry of the name.
+    /// The value of a name, by its latest entry. `None` exactly if there is no entry of the name.
     pub fn find(&self, name: &Name) -> Option<T>
         ensures { result ≡ found self.now name.now }
     {

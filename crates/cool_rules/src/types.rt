@@ -1,4 +1,4 @@
-//! Types by name, and the classes that stand for types.
+//! Types by name, and the classes of types.
 
 ghost use Rattle.std.specs.Prelude.{◌≡◌, ◌<◌, length, IfSome};
 ghost use Rattle.cool_rules.specs.Conformance.{IsType, IsTypeNamed, class_of};

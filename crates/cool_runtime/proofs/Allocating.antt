@@ -19,7 +19,7 @@ use Rattle.cool_runtime.proofs.Runs.{wider, here}
 use Rattle.cool_runtime.proofs.Walking.{walk}
 use Rattle.cool_runtime.proofs.Words.{load_eq, store_eq}
 
--- what `sltu` and `beq` found
+-- the result of `sltu` and `beq`
 pub not_less : (x y z : ℕ) → z ≡ 0 → (flag (nat_lt x y) == z) ≡ true → y ≤ x
 not_less x y z h e = grind arith
 

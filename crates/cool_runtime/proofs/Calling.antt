@@ -52,7 +52,7 @@ module _ (w : World) where
             stack_exit w _ _ c limits refl at.numbers.zero_is (omega arith) at.input_is at.output_is way),
       )
 
-  -- what a frame holds
+  -- the contents of a frame
   pub record FrameAt (m : Bytes) (fp : ℕ) (ra old self : ℕ) : Type 0 where
     pub ra_is : word m (fp + 8) ≡ ra
     pub fp_is : word m (fp + 4) ≡ old

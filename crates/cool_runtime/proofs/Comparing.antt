@@ -21,7 +21,7 @@ use Rattle.cool_runtime.proofs.Pieces.{done, next, never, has_front, has_back, h
 use Rattle.cool_runtime.proofs.Copying.{differ, same_numbers}
 use Rattle.std.proofs.lemmas.Bool.{eqb-true, eqb-false}
 
--- where the tests on addresses and tags lead
+-- the possible ends of the tests on addresses and tags
 pub data Way (w : World) (p : Pointers) (m : Bytes) (c : Console) (a b ta tb : ℕ) (s : State) : Type 0 where
   Same : a ≡ b → At w (record p { pc = w.place equal_true }) m c s → Way w p m c a b ta tb s
   Void : (a ≡ b → ⊥) → (a ≡ 0) ⊎ (b ≡ 0) → At w (record p { pc = w.place equal_false }) m c s → Way w p m c a b ta tb s
@@ -105,7 +105,7 @@ module _ (w : World) where
             (record { numbers = omega arith; memory_is = at.memory_is; input_is = at.input_is; ended_is = at.ended_is; output_is = at.output_is }))),
       )
 
-  -- where a verdict leads
+  -- the address to which a verdict leads
   abbrev verdict_place : Bool → ℕ
   verdict_place t = if t then w.place equal_true else w.place equal_false
 

@@ -1,4 +1,4 @@
--- What stands in memory where an object was copied.
+-- The memory after an object was copied: the copy, and everything that stays.
 use Rattle.std.proofs.Common.{◌≡◌, ℕ, zero, suc, ◌+◌, ◌-◌, ◌*◌, ◌/◌, ◌%◌, ◌<◌, ◌≤◌, ◌⊎◌, inl, inr, List, [], ◌∷◌, length, get_or, refl, sym, ap, ◌∙◌, subst, arith}
 use Rattle.mips_isa.specs.Bytes.{Bytes, word, set_word}
 use Rattle.cool_runtime.specs.Reaches.{World}
@@ -85,7 +85,7 @@ copied_byte m from to (suc n) (suc k) j less small apart bytes =
     ∙ copied_byte m1 (from + 4) (to + 4) n k j (omega arith) small (omega arith) (λ i h. subst (λ b. b < 256) (sym (same i h)) (bytes i h)) ∙ same j small
 
 module _ (w : World) where
-  -- what is below gp, and on the stack, is the same
+  -- memory below gp and on the stack is the same
   pub copy_same : (m : Bytes) (gp sp a size : ℕ) → gp + 4 * size + 4 ≤ sp → Same m (with_copy m gp a size) gp sp
   copy_same m gp sp a size room = record {
     below = λ q h. copied_other (set_word m gp 4294967295) a (gp + 4) size q (inl (omega arith)) ∙ byte_other m gp 4294967295 q (inl h);

@@ -21,7 +21,7 @@ use Rattle.cool_runtime.proofs.Words.{load_eq, store_eq}
 use Rattle.cool_runtime.proofs.Allocating.{heap_exit, not_less, less}
 use Rattle.cool_runtime.proofs.Pieces.{has_front, has_back, has_at, done, next}
 
--- what `bne` found
+-- the result of `bne`
 pub differ : (x y : ℕ) → not (x == y) ≡ true → x ≡ y → ⊥
 differ x y t e = grind arith
 

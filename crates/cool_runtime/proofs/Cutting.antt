@@ -105,7 +105,7 @@ module _ (w : World) where
   may_cut : (m : Bytes) (gp a : ℕ) (xs : List ℕ) (i l : ℕ) → StringAt w m gp a xs → i + l ≤ length xs → 536870912 ≤ gp → gp + 40 + l ≤ w.segments.heap_end → MayCopyBytes w (a + 16 + i) (gp + 40) l
   may_cut m gp a xs i l at within from room = let lies = at.lies in omega (arith, lies)
 
-  -- what does not lie within the String is refused
+  -- a range that does not lie within the String is refused
   refuses : (p : Pointers) (m : Bytes) (c : Console) (s : State) (xs : List ℕ) (i l : ℕ) → HasLines w p.pc substr_begin_lines → At w p m c s → p.sp + 8 ≤ 2147483648
       → StringAt w m p.gp p.acc xs → IntAt w m p.gp (word m (p.sp + 4)) i → IntAt w m p.gp (word m p.sp) l → length xs < i + l
       → Reaches w s 0 13 (stands (λ t. At w (record p { pc = w.place substr_abort }) m c t × (t.core.registers T8 ≡ s.core.registers T8) × (t.core.registers T9 ≡ s.core.registers T9)))

@@ -12,7 +12,7 @@ use Rattle.lists.proofs.Prefixes.{suffix_more, suffix_then, suffix_same}
 abbrev pub taking : List ℕ → List ℕ → Bool → Taken
 taking got rest ended = record { got = got; rest = rest; ended = ended }
 
--- What the next byte of the input is, and what the line then is.
+-- The next byte of the input, and the line that then is read.
 pub data Front (input : List ℕ) : Type 0 where
   AtEnd : taken 1 input ≡ taking [] [] true → line_of input ≡ taking [] [] true → Front input
   AtNewline : (rest : List ℕ) → taken 1 input ≡ taking (10 ∷ []) rest false → line_of input ≡ taking [] rest false → Front input

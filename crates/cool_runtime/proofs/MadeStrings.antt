@@ -42,7 +42,7 @@ zeros m a (suc (suc (suc (suc j)))) less = absurd (omega arith)
 
 -- bytes that were stored one after another, word by word
 
--- what stands before them and after their room is the same
+-- memory before them and after their room is the same
 pub filled_other : (m : Bytes) (a left : ℕ) (bytes : List ℕ) (q : ℕ) → left ≤ 3 → (q < a) ⊎ (a + (left + 1) + 4 * ((length bytes + (3 - left)) / 4) ≤ q) → filled m a left bytes q ≡ m q
 filled_other m a left [] q some h = refl
 filled_other m a zero (b ∷ rest) q some h =
@@ -72,7 +72,7 @@ filled_at m a (suc left) (b ∷ rest) (suc i) some h =
     let on : a + suc i ≡ a + 1 + i = omega arith in
     ap (filled m a (suc left) (b ∷ rest)) on ∙ filled_at (set_byte m a b) (a + 1) left rest i (omega arith) (omega arith)
 
--- where zeros were in the room, they are after the bytes
+-- if zeros were in the room, they are after the bytes
 pub filled_zeros : (m : Bytes) (a left : ℕ) (bytes : List ℕ) → left ≤ 3 → ((q : ℕ) → a ≤ q → q < a + (left + 1) → m q ≡ 0)
     → (q : ℕ) → a + length bytes ≤ q → q < a + (left + 1) + 4 * ((length bytes + (3 - left)) / 4) → filled m a left bytes q ≡ 0
 filled_zeros m a left [] some before q from to = before q (omega arith) (omega arith)
@@ -100,14 +100,14 @@ past (x ∷ xs) zero h = absurd (omega arith)
 past (x ∷ xs) (suc i) h = past xs i (omega arith)
 
 module _ (w : World) where
-  -- what the head of a String leaves
+  -- memory below gp and on the stack is the same after the head of a String is stored
   pub string_head_same : (m : Bytes) (gp sp n : ℕ) → gp + 44 + 4 * (n / 4) ≤ sp → Same m (with_string w m gp n) gp sp
   string_head_same m gp sp n room = record {
     below = λ q h. byte_other _ (gp + 40 + 4 * (n / 4)) 0 q (inl (omega arith)) ∙ head_other _ (gp + 20) _ _ _ _ q (inl (omega arith)) ∙ head_other m gp _ _ _ _ q (inl h);
     over = λ q h. byte_other _ (gp + 40 + 4 * (n / 4)) 0 q (inr (omega arith)) ∙ head_other _ (gp + 20) _ _ _ _ q (inr (omega arith)) ∙ head_other m gp _ _ _ _ q (inr (omega arith));
   }
 
-  -- what the head and the length of a String leave
+  -- memory below gp and on the stack is the same after the head and the length of a String are stored
   pub string_words_same : (m : Bytes) (gp sp n : ℕ) → gp + 40 ≤ sp → Same m (with_string_head w m gp n) gp sp
   string_words_same m gp sp n room = record {
     below = λ q h. head_other _ (gp + 20) _ _ _ _ q (inl (omega arith)) ∙ head_other m gp _ _ _ _ q (inl h);

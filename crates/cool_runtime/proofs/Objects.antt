@@ -1,4 +1,4 @@
--- What stands in memory where an object was made, and what stays.
+-- The memory after an object was made: the new object, and everything that stays.
 use Rattle.std.proofs.Common.{◌≡◌, ℕ, ◌+◌, ◌-◌, ◌*◌, ◌%◌, ◌<◌, ◌≤◌, ◌⊎◌, inl, inr, List, length, sym, ap, ◌∙◌, subst, arith}
 use Rattle.mips_isa.specs.Bytes.{Bytes, word, set_word}
 use Rattle.cool_runtime.specs.Reaches.{World}
@@ -44,7 +44,7 @@ module _ (w : World) where
       let at : gp + 4 + 12 ≡ gp + 16 = omega arith in
       record { lies = omega arith; head = words.0; head_fits = proto.head_fits; value = ap (word (with_int m gp w.tags.int (w.place int_table) v)) at ∙ words.1; fits = fits }
 
-  -- what is below the heap's next address, and on the stack, is the same
+  -- memory below the heap's next address and on the stack is the same
   pub made_int_same : (m : Bytes) (gp sp tag table v : ℕ) → gp + 20 ≤ sp → Same m (with_int m gp tag table v) gp sp
   made_int_same m gp sp tag table v room = record {
     below = λ q h. head_other m gp tag 4 table v q (inl h);

@@ -61,7 +61,7 @@ placed_there seen p number (first ∷ front) line rest name fine here =
     by true o other found never h = absurd (never refl)
     by false o other found never h = h
 
--- how the words grow
+-- the number of words only grows
 
 pub words_grow : (p : Position) (lines : List Line) → p.words ≤ (after_lines p lines).words
 words_grow p [] = omega arith

@@ -27,14 +27,14 @@ use Rattle.lists.specs.Prefixes.{IsSuffix}
 use Rattle.lists.specs.Bytes.{AreBytes}
 use Rattle.std.proofs.lemmas.Bool.{eqb-true, eqb-false}
 
--- what `bgez` found
+-- the result of `bgez`
 not_negative : (v : ℕ) → not (nat_le 2147483648 v) ≡ true → v < 2147483648
 not_negative v t = grind arith
 
 negative : (v : ℕ) → not (nat_le 2147483648 v) ≡ false → 2147483648 ≤ v
 negative v t = grind arith
 
--- How the room for a line stands: k bytes are there, and so many bytes of the last word are after the next one.
+-- The state of the room for a line: k bytes are there, and so many bytes of the last word are after the next one.
 pub record Filling (w : World) (p : Pointers) (t : Temporaries) (k left : ℕ) : Type 0 where
   pub next_is : t.t4 ≡ p.gp + 40 + k
   pub end_is : t.t1 ≡ t.t4 + (left + 1)
@@ -44,7 +44,7 @@ pub record Filling (w : World) (p : Pointers) (t : Temporaries) (k left : ℕ) :
   pub held : t.t1 ≤ w.segments.heap_end
 
 module _ (w : World) where
-  -- what a byte taken leaves
+  -- the console after a byte was taken
   taken_so : (c : Console) (t : Taken) (s : State) (p : Pointers) (m : Bytes) → At w p m c s → asked c.ended 1 c.input ≡ t → asked s.ended 1 s.input ≡ t
   taken_so c t s p m at is = ap (λ e. asked e 1 s.input) at.ended_is ∙ ap (asked c.ended 1) at.input_is ∙ is
 
@@ -176,7 +176,7 @@ module _ (w : World) where
         (λ z. absurd (eqb-false _ _ z (omega arith))),
       )
 
-  -- where the loop comes to, with the bytes of a line
+  -- the state at the end of the loop, with the bytes of a line
   abbrev Ended : Pointers → Bytes → Console → Temporaries → ℕ → ℕ → ℕ → Taken → State → Type 0
   Ended p m c t left last end line = λ r. (end ≤ w.segments.heap_end)
       × Holding w (record p { pc = w.place in_string_end }) (filled m t.t4 left line.got) (got c line) (record t { t1 = end; t4 = last }) r
@@ -322,7 +322,7 @@ module _ (w : World) where
       walk w string_return_lines 0 s.core.registers s.core.pc s.core.memory (beside s) p.pc 0 0 _ has (omega arith)
       (here w _ _ (record { numbers = omega arith; memory_is = at.memory_is; input_is = at.input_is; ended_is = at.ended_is; output_is = at.output_is }))
 
-  -- what a text and the zeros after it leave
+  -- memory below gp and on the stack is the same after a text and its zeros are stored
   text_same : (m : Bytes) (gp sp : ℕ) (bytes : List ℕ) → gp + 44 + 4 * (length bytes / 4) ≤ sp → Same m (with_text m gp bytes) gp sp
   text_same m gp sp bytes room = record {
     below = λ q h. filled_other (set_word m (gp + 40) 0) (gp + 40) 3 bytes q (omega arith) (inl (omega arith)) ∙ byte_other m (gp + 40) 0 q (inl (omega arith));

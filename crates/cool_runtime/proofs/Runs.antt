@@ -26,7 +26,7 @@ module _ (w : World) where
   ends_as lo m goal goal' (Exited code s) as' (inr e) = inr e
   ends_as lo m goal goal' (Trapped trap s) as' e = e
 
-  -- what follows from the goal
+  -- a weaker goal is reached, too
   pub weaker : (s : State) (lo hi : ℕ) (goal goal' : Goal) → ((o : Outcome) → goal o → goal' o) → Reaches w s lo hi goal → Reaches w s lo hi goal'
   weaker s lo hi goal goal' as' r = record { count = r.count; within = r.within; ends = ends_as lo r.count goal goal' (run w.text w.segments r.count s) as' r.ends }
 
@@ -84,7 +84,7 @@ module _ (w : World) where
   then s lo hi lo' hi' P goal r next =
       then_from s r.count lo hi lo' hi' P goal (run w.text w.segments r.count s) r.within refl r.ends next
 
-  -- where the limits are the machine's own, no exit by a limit comes
+  -- if the limits are the machine's own, no exit by a limit comes
 
   state_of : (lo k : ℕ) (P : State → Type 0) (s : State) (o : Outcome) → w.top ≤ w.segments.heap_end → w.segments.stack_low ≤ w.low → run w.text w.segments k s ≡ o → Ends w lo (stands P) k o
       → (t : State) × (lo ≤ k) × (run w.text w.segments k s ≡ Running t) × P t
@@ -108,7 +108,7 @@ module _ (w : World) where
       → (k : ℕ) × (k ≤ hi) × ((t : State) × (run w.text w.segments k s ≡ Exited n t) × P t)
   comes_to_exit s lo hi n P top low r = (r.count, r.within, exit_of lo r.count n P s (run w.text w.segments r.count s) top low refl r.ends)
 
-  -- where the state cannot come about and the stack holds, the exit by the heap's limit comes
+  -- if the state cannot come about and the stack holds, the exit by the heap's limit comes
 
   limit_of : (lo k : ℕ) (P : State → Type 0) (s : State) (o : Outcome) → w.segments.stack_low ≤ w.low → ((t : State) → P t → ⊥) → run w.text w.segments k s ≡ o → Ends w lo (stands P) k o
       → (t : State) × (run w.text w.segments k s ≡ Exited 4 t) × OnTheWay w t.output t.input

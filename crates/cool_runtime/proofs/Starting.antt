@@ -44,7 +44,7 @@ module _ (w : World) where
       walk w start_end_lines 0 s.core.registers s.core.pc s.core.memory (beside s) p.pc 0 0 _ has (let numbers = at.numbers in omega arith)
       (omega arith, (PrintString words, (omega arith, found, (Exit, (omega arith, inl (refl, record { output_is = ap (λ o. o ++ words) at.output_is; input_is = at.input_is }))))))
 
-  -- what the code under `Main_init` and `Main.main` does is a premise, with its counts
+  -- the effect of the code under `Main_init` and `Main.main` is a premise, with its counts
   pub starts : (p : Pointers) (m : Bytes) (c c1 c2 : Console) (s : State) (size init main : ℕ) (words : List ℕ) → Limits w → HasLines w (w.place start_name) start_lines → HasLines w (w.place copy) copy_lines
       → At w p m c s → p.pc ≡ w.place start_name → Lies w p.gp (w.place main_prototype) (4 * size) → 3 ≤ size → word m (w.place main_prototype + 4) ≡ size → p.gp + 4 * size + 4 ≤ w.top → OnTheWay w c.output c.input
       → ((t : State) → At w (record p { pc = w.place main_init; gp = p.gp + 4 * size + 4; acc = p.gp + 4; ra = p.pc + 12 + 4 }) (with_copy m p.gp (w.place main_prototype) size) c t

@@ -1,4 +1,4 @@
--- A run over lines that stand in the text comes to its goal where what is computed from the lines holds.
+-- A run over lines that stand in the text reaches its goal if the condition computed from the lines holds.
 use Rattle.std.proofs.Common.{◌≡◌, ℕ, zero, suc, ◌+◌, ◌-◌, ◌*◌, ◌/◌, ◌%◌, ◌<◌, ◌≤◌, ◌⊎◌, List, [], ◌∷◌, Option, Some, None, refl, sym, ap, ◌∙◌, subst, arith, Bool, true, false}
 use Rattle.std.specs.Prelude.{ℤ, pos, negsuc, bit_or, nat_le, ◌==◌, ◌||◌, if◌then◌else◌}
 use Rattle.std.proofs.Math.Path.{fun_ext}
@@ -78,7 +78,7 @@ module _ (w : World) where
     abbrev Ahead : State → Type 0
     Ahead s = Reaches w s (suc lo) (suc hi) goal
 
-    -- what follows, after any number of lines that are passed over
+    -- the continuation, after any number of lines that are passed over
     abbrev From : ℕ → Next → Type 0
     From pc go = (k : ℕ) (r : Registers) (pc' : ℕ) (m : Bytes) (x : Beside) → pc' ≡ pc + 4 + 4 * k → go k r pc' m x → Reaches w (st r pc' m x) lo hi goal
 
@@ -221,7 +221,7 @@ module _ (w : World) where
     counted_two : (s : State) → Reaches w s (suc (suc lo)) (suc (suc hi)) goal → Reaches w s (2 + lo) (2 + hi) goal
     counted_two s h = wider w s (suc (suc lo)) (2 + lo) (suc (suc hi)) (2 + hi) goal (omega arith) (omega arith) h
 
-    -- what follows a statement, after any number of lines that are passed over
+    -- the continuation of a statement, after any number of lines that are passed over
     abbrev Behind : Statement → ℕ → Next → Type 0
     Behind s pc go = (k : ℕ) (r : Registers) (pc' : ℕ) (m : Bytes) (x : Beside) → pc' ≡ pc + 4 * words_needed (need s) + 4 * k → go k r pc' m x → Reaches w (st r pc' m x) lo hi goal
 
@@ -285,7 +285,7 @@ module _ (w : World) where
       (c_statement lo (steps ls + hi) goal hi (omega arith) line.statement r pc m x _ (subst (λ q. InstructionsAt w q (instructions w.place q line.statement)) (sym e) has.0.words) has.0.names h
       (λ k r' pc' m' x' p q. walk ls k r' pc' m' x' (pc0 + 4 * n) lo hi goal has.1 (omega arith) q))
 
-  -- one instruction alone; a line that its branch passes over is not counted
+  -- a single instruction; a line that its branch passes over is not counted
   pub single : (i : Instr) (r : Registers) (pc : ℕ) (m : Bytes) (x : Beside) (hi : ℕ) (goal : Goal) → InstructionAt w pc i
       → w_plain w.segments i r pc m x (λ k r pc m x. Reaches w (st r pc m x) 0 hi goal) (λ r pc m x. Reaches w (st r pc m x) 0 hi goal) (Ending' goal)
       → Reaches w (st r pc m x) 0 (suc hi) goal

@@ -23,7 +23,7 @@ pub record ValueAt (w : World) (m : Bytes) (gp a v : ℕ) : Type 0 where
 abbrev pub constant_place : World → Bool → ℕ
 constant_place w t = if t then w.place true_constant else w.place false_constant
 
--- What the verdict is, and why.
+-- The verdict, and the reason for it.
 pub data Verdict (w : World) (a b ta tb v u : ℕ) (xs ys : List ℕ) (t : Bool) : Type 0 where
   Identical : a ≡ b → t ≡ true → Verdict w a b ta tb v u xs ys t
   WithVoid : (a ≡ b → ⊥) → (a ≡ 0) ⊎ (b ≡ 0) → t ≡ false → Verdict w a b ta tb v u xs ys t

@@ -1,5 +1,5 @@
--- What stands in memory: objects, by the run-time conventions. At -4 the word -1, at 0 the tag, at 4 the size in words, at 8 the
--- address of the dispatch table, from 12 on the attributes.
+-- The objects in memory, by the run-time conventions. The word -1 is at -4, the tag at 0, the size in words at 4, the address of the dispatch table at 8,
+-- and the attributes are from 12 on.
 use Rattle.std.specs.Prelude.{ℕ, ◌+◌, ◌-◌, ◌*◌, ◌/◌, ◌%◌, ◌^◌, ◌<◌, ◌≤◌, ◌≡◌, ◌≢◌, List, length, get_or}
 use Rattle.std.specs.List.{AllByRecursion}
 use Rattle.mips_isa.specs.declared.address_map.TheConstants.{DATA_START, HEAP_START}
@@ -59,7 +59,7 @@ pub record StringAt (w : World) (m : Bytes) (gp a : ℕ) (bytes : List ℕ) : Ty
   pub holds : (i : ℕ) → i < 4 * words_of_bytes (length bytes) → m (a + 16 + i) ≡ get_or bytes i 0
   pub text : IsText bytes
 
--- what is below gp, and from sp on, is the same
+-- memory below gp, and from sp on, is the same
 pub record Same (m m' : Bytes) (gp sp : ℕ) : Type 0 where
   pub below : (a : ℕ) → a < gp → m' a ≡ m a
   pub over : (a : ℕ) → sp ≤ a → m' a ≡ m a

@@ -1,4 +1,4 @@
--- The line that a draft of it stands for.
+-- The line that a draft stands for.
 use Rattle.std.specs.Prelude.{pos, [], ◌∷◌}
 use Rattle.mips_isa.specs.Lines.{Line, Empty, Plain, ToJump, La, Li, Move}
 use Rattle.mips_isa.specs.Assembly.{instruction_line}

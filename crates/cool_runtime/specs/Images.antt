@@ -1,4 +1,4 @@
--- For proofs alone: the image of lines, and a machine that holds it.
+-- The image of lines, and a machine that holds it. Only proofs use it.
 use Rattle.std.specs.Prelude.{◌≡◌, ◌+◌, ◌*◌, ◌<◌, List, [], ◌∷◌, length, None}
 use Rattle.mips_isa.specs.declared.address_map.TheConstants.{TEXT_START, MOST_TEXT_WORDS}
 use Rattle.mips_isa.specs.Lines.{Line, AreInRange}

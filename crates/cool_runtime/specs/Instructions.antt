@@ -14,7 +14,7 @@ use Rattle.mips_isa.specs.declared.register.TheConstants.{ZERO, V0, RA}
 use Rattle.mips_isa.specs.Lines.{Name, Empty, Plain, ToJump, La, Li, Move, Line}
 use Rattle.mips_isa.specs.Assembly.{instruction_line}
 
--- a line that has a label alone
+-- a line with only a label
 abbrev pub label : Name → Line
 label name = record { labels = name ∷ []; statement = Empty }
 

@@ -1,4 +1,4 @@
--- Where a machine stands between pieces of compiled code.
+-- The state of a machine between pieces of compiled code.
 use Rattle.std.specs.Prelude.{ℕ, zero, suc, ◌*◌, ◌/◌, ◌+◌, ◌-◌, ◌%◌, ◌^◌, ◌<◌, ◌≤◌, ◌≡◌, List, [], ◌∷◌, ◌++◌, Bool, true, false, ◌==◌, if◌then◌else◌}
 use Rattle.mips_isa.specs.declared.address_map.TheConstants.{HEAP_START, STACK_END}
 use Rattle.mips_isa.specs.declared.register.TheConstants.{ZERO, A0, T1, T2, T3, T4, T5, T6, T7, S0, S6, S7, GP, SP, FP, RA}
@@ -14,8 +14,7 @@ pub record Console : Type 0 where
   pub ended : Bool
   pub output : List ℕ
 
--- What the registers hold that code relies on: pc, the next free address of the heap, the stack, the frame, self, the result, and
--- the return address.
+-- The registers that code relies on: pc, the next free address of the heap, the stack, the frame, self, the result, and the return address.
 pub record Pointers : Type 0 where
   pub pc : ℕ
   pub gp : ℕ
@@ -53,7 +52,7 @@ pub record At (w : World) (p : Pointers) (m : Bytes) (c : Console) (s : State) :
   pub ended_is : s.ended ≡ c.ended
   pub output_is : s.output ≡ c.output
 
--- What the temporary registers hold.
+-- The contents of the temporary registers.
 pub record Temporaries : Type 0 where
   pub t1 : ℕ
   pub t2 : ℕ
@@ -148,7 +147,7 @@ pub record EndsWith (c : Console) (bytes : List ℕ) (s : State) : Type 0 where
   pub output_is : s.output ≡ c.output ++ bytes
   pub input_is : s.input ≡ c.input
 
--- what a call that returns leaves: pc is its return address, the stack and the frame are as before
+-- the state after a call returns: pc is its return address, the stack and the frame are as before
 pub record Returned (w : World) (p : Pointers) (c : Console) (s : State) : Type 0 where
   pub gp : ℕ
   pub acc : ℕ

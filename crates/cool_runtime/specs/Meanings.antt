@@ -1,5 +1,5 @@
--- What the routines do, wherever their lines stand in a text: from the contents at entry to those at exit, within so many
--- instructions, or to an exit by a limit.
+-- The effects of the routines, wherever their lines stand in a text: from the contents at entry to those at exit, within so many instructions, or to an
+-- exit by a limit.
 use Rattle.mips_isa.specs.declared.register.TheConstants.{T8, T9}
 use Rattle.cool_runtime.specs.Comparison.{Operands, ValueAt, Verdict, constant_place}
 use Rattle.cool_runtime.specs.Contents.{IntAt, StringAt, TextAt, Lies, Tagged, Prototypes, NameAt}
@@ -126,7 +126,7 @@ StartsMain w = (p : Pointers) (m : Bytes) (c c1 c2 : Console) (s : State) (size 
     → Reaches w t 0 main (stands (λ u. (r : Returned w (record p { pc = w.place main_main; gp = gp; acc = acc; ra = p.pc + 12 + 4 + 4 }) c2 u) × TextAt w r.memory (w.place end_text) words)))
     → Reaches w s 0 (7 * size + init + main + 27) (exits 0 (EndsWith c2 words))
 
--- what a routine does
+-- the effect of a routine
 abbrev pub Means : World → Routine → Type 0
 Means w routines.Start = StartsMain w
 Means w routines.Copy = Copies w

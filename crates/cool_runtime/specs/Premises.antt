@@ -1,4 +1,4 @@
--- What the routines ask of the text besides their own lines.
+-- The premises of the routines about the text, besides their own lines.
 use Rattle.cool_runtime.specs.Reaches.{World}
 use Rattle.cool_runtime.specs.Standing.{HasLines}
 use Rattle.cool_runtime.specs.Labels.{heap_limit, stack_limit}

@@ -1,5 +1,5 @@
--- A run from one state of the machine to another, with the number of its instructions, how far heap and stack may reach, and
--- what the console holds at an early end.
+-- A run from one state of the machine to another, with the number of its instructions, the limits of heap and stack, and the contents of the console at an
+-- early end.
 use Rattle.std.specs.Prelude.{ℕ, ◌+◌, ◌-◌, ◌%◌, ◌^◌, ◌<◌, ◌≤◌, ◌≡◌, ◌⊎◌, List, ◌++◌}
 use Rattle.mips_isa.specs.declared.address_map.TheConstants.{DATA_START, HEAP_START, STACK_END}
 use Rattle.mips_isa.specs.Bytes.{Segments}
@@ -8,7 +8,7 @@ use Rattle.mips_isa.specs.Run.{run}
 use Rattle.mips_isa.specs.Lines.{Name}
 use Rattle.lists.specs.Prefixes.{IsPrefix, IsSuffix}
 
--- Where the segments may end: data at 0x20000000, the heap has at most 256 MiB, and the stack 4 KiB to 64 MiB.
+-- The limits of the segments: data ends at 0x20000000 or before, the heap has at most 256 MiB, and the stack 4 KiB to 64 MiB.
 pub record AreLaid (b : Segments) : Type 0 where
   pub text : b.text_end ≤ DATA_START
   pub data_to : b.data_end ≤ HEAP_START
@@ -25,8 +25,8 @@ pub record Tags : Type 0 where
   pub bool : ℕ
   pub string : ℕ
 
--- What a run knows: the words of the text, where labels are, the segments, how far heap and stack are to reach, and the output
--- and the input left when it is at its end.
+-- The fixed data of a run: the words of the text, the addresses of labels, the segments, the limits that heap and stack are to keep, and the output and
+-- the input left when it is at its end.
 pub record World : Type 0 where
   pub text : List ℕ
   pub place : Name → ℕ
@@ -50,7 +50,7 @@ pub record Limited (w : World) (code : ℕ) (s : State) : Type 0 where
   pub why : ((code ≡ 4) × (w.segments.heap_end < w.top)) ⊎ ((code ≡ 5) × (w.low < w.segments.stack_low))
   pub console : OnTheWay w s.output s.input
 
--- what a run is to come to: a state, or an exit
+-- the goal of a run: a state, or an exit
 abbrev pub Goal : Type 1
 Goal = Outcome → Type 0
 
@@ -66,13 +66,13 @@ exits n Q (Running s) = ⊥
 exits n Q (Exited code s) = (code ≡ n) × Q s
 exits n Q (Trapped trap s) = ⊥
 
--- where a run may be after m instructions: at the goal after at least lo, at an exit of the goal, or at an exit by a limit
+-- the possible outcomes of a run after m instructions: at the goal after at least lo, at an exit of the goal, or at an exit by a limit
 abbrev pub Ends : World → ℕ → Goal → ℕ → Outcome → Type 0
 Ends w lo goal m (Running s) = (lo ≤ m) × goal (Running s)
 Ends w lo goal m (Exited code s) = goal (Exited code s) ⊎ Limited w code s
 Ends w lo goal m (Trapped trap s) = ⊥
 
--- from s the machine comes to the goal in lo to hi instructions, or within hi to an exit by a limit
+-- the machine comes from s to the goal in lo to hi instructions, or within hi to an exit by a limit
 pub record Reaches (w : World) (s : State) (lo hi : ℕ) (goal : Goal) : Type 0 where
   pub count : ℕ
   pub within : count ≤ hi

@@ -139,7 +139,7 @@ concat_lines =
     concat_begin_lines ++ (int_head_lines ++ (string_head_lines ++ (string_zeros_lines ++ (bytes_lines concat_first concat_second ++ (concat_turn_lines
     ++ (bytes_lines concat_third concat_end ++ string_end_lines concat_end 4))))))
 
--- Of the String in $a0, from the position that is the Int at 4($sp), so many bytes as the Int at $sp says.
+-- The part of the String in $a0 that begins at the position in the Int at 4($sp), and has as many bytes as the Int at $sp says.
 abbrev pub substr_begin_lines : List Line
 substr_begin_lines =
     label string_substr

@@ -1,4 +1,4 @@
--- That lines of assembly stand in the text of a machine.
+-- Lines of assembly that stand in the text of a machine.
 use Rattle.std.specs.Prelude.{ℕ, ◌+◌, ◌*◌, ◌%◌, ◌^◌, ◌<◌, ◌≤◌, ◌≡◌, List, [], ◌∷◌, Some}
 use Rattle.mips_isa.specs.declared.address_map.TheConstants.{TEXT_START, DATA_START}
 use Rattle.mips_isa.specs.declared.instr.Instr.{Instr}

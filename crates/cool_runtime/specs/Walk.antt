@@ -1,5 +1,4 @@
--- For proofs alone: what is to be shown of a list of lines, so that a run from the first one comes to its goal. It is computed from the
--- lines.
+-- The condition on a list of lines under which a run from the first one reaches its goal, computed from the lines. Only proofs use it.
 use Rattle.std.specs.Prelude.{ℕ, zero, suc, ◌+◌, ◌*◌, ◌/◌, ◌%◌, ◌^◌, ◌<◌, ◌≤◌, ◌≡◌, ◌==◌, ℤ, pos, negsuc, Bool, true, false, List, [], ◌∷◌, ◌++◌, Option, Some, None}
 use Rattle.std.specs.Fmt.{signed_decimal}
 use Rattle.mips_isa.specs.declared.address_map.TheConstants.{DATA_START, HEAP_START, STACK_END}
@@ -24,7 +23,7 @@ use Rattle.mips_isa.specs.Assembly.{need, zero_branch}
 use Rattle.cool_runtime.specs.Reaches.{World}
 use Rattle.mips_asm.specs.TextWords.{words_needed}
 
--- What stands beside registers, pc and memory: HI and LO, the break, and the console.
+-- The state besides registers, pc and memory: HI and LO, the break, and the console.
 pub record Beside : Type 0 where
   pub hi : ℕ
   pub lo : ℕ
@@ -52,14 +51,14 @@ printed x bytes = record x { output = x.output ++ bytes }
 abbrev pub took : Beside → Taken → Beside
 took x t = record x { input = t.rest; ended = t.ended }
 
--- What a block goes on with: registers, pc, memory, and the rest. An end is an exit with a code.
+-- The continuation of a block, a predicate of registers, pc, memory, and the rest. An end is an exit with a code.
 abbrev pub Parts : Type 1
 Parts = Registers → ℕ → Bytes → Beside → Type 0
 
 abbrev pub Ending : Type 1
 Ending = ℕ → State → Type 0
 
--- what a block goes on with, so many lines after the next one
+-- the continuation of a block, so many lines after the next one
 abbrev pub Next : Type 1
 Next = ℕ → Parts
 
@@ -78,7 +77,7 @@ pub record OkByte (b : Segments) (a : ℕ) : Type 0 where
   pub in_data : a < HEAP_START → a < b.data_end
   pub in_heap : HEAP_START ≤ a → a < b.stack_low → a < b.heap_end
 
--- What a system call is taken to do.
+-- The assumed effect of a system call.
 pub data Service : Type 0 where
   PrintInt : Service
   PrintString : List ℕ → Service
@@ -153,7 +152,7 @@ w_jump Jal a r pc m x jump = jump (set_register r RA (pc + 4)) a m x
 abbrev pub w_to : Bool → ℕ → Registers → ℕ → Bytes → Beside → Next → Parts → Type 0
 w_to t a r pc m x go jump = (t ≡ true → jump r a m x) × (t ≡ false → go 0 r (pc + 4) m x)
 
--- what an instruction has to show when it is next
+-- the condition on an instruction when it is next
 abbrev pub w_instruction : World → AsmInstr → Registers → ℕ → Bytes → Beside → Next → Parts → Ending → Type 0
 w_instruction w (Plain i) r pc m x go jump end = w_plain w.segments i r pc m x go jump end
 w_instruction w (ToTwo op rs rt l) r pc m x go jump end = w_to (two_result op (r rs) (r rt)) (w.place l) r pc m x go jump
@@ -169,7 +168,7 @@ w_instruction w (BranchZero op rs l) r pc m x go jump end = w_to (two_result (ze
 w_instruction w (BranchOrder op rs rt l) r pc m x go jump end = ⊥
 w_instruction w (Mul rd rs rt) r pc m x go jump end = ⊥
 
--- what a statement has to show when it is next
+-- the condition on a statement when it is next
 abbrev pub w_statement : World → Statement → Registers → ℕ → Bytes → Beside → Next → Parts → Ending → Type 0
 w_statement w Empty r pc m x go jump end = go 0 r pc m x
 w_statement w (Instruction i) r pc m x go jump end = w_instruction w i r pc m x go jump end
@@ -186,7 +185,7 @@ w_over_words (suc (suc n)) go = ⊥
 abbrev pub w_over : Statement → Type 0 → Type 0
 w_over s go = w_over_words (words_needed (need s)) go
 
--- what the lines have to show, where the first k of them are passed over
+-- the condition on the lines, if the first k of them are passed over
 abbrev pub w_lines : World → List Line → ℕ → Registers → ℕ → Bytes → Beside → Parts → Ending → Type 0
 w_lines w [] zero r pc m x jump end = jump r pc m x
 w_lines w [] (suc k) r pc m x jump end = ⊥

@@ -1,4 +1,4 @@
-//! The run-time routines that there are.
+//! The catalogue of the run-time routines.
 
 /// A run-time routine.
 #[derive(Clone, Copy)]
@@ -39,8 +39,8 @@ pub enum Routine {
     SubstrRange,
     /// The end of an operation whose result does not fit.
     Overflow,
-    /// The end where the heap is used up.
+    /// The end if the heap is used up.
     HeapLimit,
-    /// The end where the stack is used up.
+    /// The end if the stack is used up.
     StackLimit,
 }

@@ -18,21 +18,21 @@ pub fn number(value: usize) -> WordItem
     WordItem::Number(value as i64)
 }
 
-/// A word that is the address of a label. `Err` comes only for want of memory.
+/// A word that is the address of a label. Returns `Err` only if memory runs out.
 pub fn address(alloc: Global, name: &[u8]) -> Result<WordItem, AllocError>
     ensures { IfOk result (λ item. item_of item ≡ written.address name.now) }
 {
     Ok(WordItem::Address(Label::new(alloc, name)?))
 }
 
-/// A label alone. `Err` comes only for want of memory.
+/// A line with only a label. Returns `Err` only if memory runs out.
 pub fn label_line(alloc: Global, name: &[u8]) -> Result<Line, AllocError>
     ensures { IfOk result (λ line. line_of line ≡ instructions.label name.now) }
 {
     full_line(alloc, &label(name))
 }
 
-/// A line of words. `Err` comes only for want of memory.
+/// A line of words. Returns `Err` only if memory runs out.
 pub fn word_line(alloc: Global, items: Vec<WordItem>) -> Result<Line, AllocError>
     ensures { IfOk result (λ line. line_of line ≡ written.words (map item_of items.items)) }
 {
@@ -40,7 +40,7 @@ pub fn word_line(alloc: Global, items: Vec<WordItem>) -> Result<Line, AllocError
     Ok(unlabelled(statement))
 }
 
-/// A line of bytes and a zero. `Err` comes only for want of memory.
+/// A line of bytes and a zero. Returns `Err` only if memory runs out.
 fn text_line(alloc: Global, bytes: &[u8]) -> Result<Line, AllocError>
     ensures { IfOk result (λ line. line_of line ≡ data_line (Asciiz bytes.now)) }
 {
@@ -49,7 +49,7 @@ fn text_line(alloc: Global, bytes: &[u8]) -> Result<Line, AllocError>
     Ok(unlabelled(statement))
 }
 
-/// Bytes and a zero under a label. `Err` comes only for want of memory.
+/// Bytes and a zero under a label. Returns `Err` only if memory runs out.
 pub fn labelled_text(alloc: Global, name: &[u8], bytes: &[u8]) -> Result<Vec<Line>, AllocError>
     ensures { IfOk result (λ lines. lines_of lines.items ≡ written.text_lines name.now bytes.now) }
 {
@@ -58,7 +58,7 @@ pub fn labelled_text(alloc: Global, name: &[u8], bytes: &[u8]) -> Result<Vec<Lin
     Ok(vec![in alloc; first, text]?)
 }
 
-/// The words of an object: its head, and what stands after that.
+/// The words of an object: its head, and the words after that.
 fn object_words(
     alloc: Global,
     tag: u32,
@@ -79,7 +79,7 @@ fn object_words(
     Ok(items)
 }
 
-/// An object with a tag, a size in words and a dispatch table, and what stands after its head. `Err` comes only for want of memory.
+/// An object with a tag, a size in words and a dispatch table, and the fields after its head. Returns `Err` only if memory runs out.
 pub fn object(
     alloc: Global,
     name: &[u8],
@@ -113,7 +113,7 @@ fn number_object(
     object(alloc, name, tag, 4, table, fields)
 }
 
-/// An Int. `Err` comes only for want of memory.
+/// An Int. Returns `Err` only if memory runs out.
 #[tactic(auto, unfolding(crate::specs::Labels::int_table))]
 pub fn int_object(
     alloc: Global,
@@ -127,7 +127,7 @@ pub fn int_object(
     number_object(alloc, name, tag, b"Int_dispTab", value)
 }
 
-/// A Bool. `Err` comes only for want of memory.
+/// A Bool. Returns `Err` only if memory runs out.
 #[tactic(auto, unfolding(crate::specs::Labels::bool_table))]
 pub fn bool_object(
     alloc: Global,
@@ -164,7 +164,7 @@ fn string_head(
     object(alloc, name, tag, size, b"String_dispTab", fields)
 }
 
-/// A String, and in front of it the Int of its length. `Err` comes only for want of memory.
+/// A String, and in front of it the Int of its length. Returns `Err` only if memory runs out.
 pub fn string_object(
     alloc: Global,
     name: &[u8],

@@ -1,4 +1,4 @@
-//! Lines of assembly by borrowed names, as a template gives them, and adding them after others.
+//! Drafts: lines of assembly by borrowed names, as a template gives them, and adding them after others.
 
 ghost use Rattle.std.specs.Prelude.{◌≡◌, ◌++◌, ◌<◌, length, map, take, IfOk, OnErr, OnOk};
 ghost use Rattle.mips_isa.specs.Lines.{line_of, lines_of, instruction_of, statement_of};
@@ -16,7 +16,7 @@ use std::alloc::{AllocError, Global};
 /// A line of a template.
 #[derive(Clone, Copy)]
 pub enum Draft<'a> {
-    /// A label alone.
+    /// Only a label.
     Label(&'a [u8]),
     /// An instruction.
     Plain(Instr),
@@ -30,7 +30,7 @@ pub enum Draft<'a> {
     Move(Reg, Reg),
 }
 
-/// Adds the lines of a template. `Err` comes only for want of memory, and then the lines are those before.
+/// Adds the lines of a template. Returns `Err` only if memory runs out, and then the lines are those before.
 pub fn write(alloc: Global, lines: &mut Vec<Line>, drafts: &[Draft<'_>]) -> Result<(), AllocError>
     ensures written { OnOk result (lines_of lines.new.items ≡ lines_of lines.old.items ++ map drafted drafts.now) }
     ensures refused { OnErr result (lines.new.items ≡ lines.old.items) }
@@ -45,7 +45,7 @@ pub fn write(alloc: Global, lines: &mut Vec<Line>, drafts: &[Draft<'_>]) -> Resu
     }
 }
 
-/// Adds the lines of a template. Before an `Err`, which comes only for want of memory, the first ones may be added.
+/// Adds the lines of a template. Returns `Err` only if memory runs out, and then the first ones may have been added.
 fn add_lines(alloc: Global, lines: &mut Vec<Line>, drafts: &[Draft<'_>]) -> Result<(), AllocError>
     ensures written { OnOk result (lines_of lines.new.items ≡ lines_of lines.old.items ++ map drafted drafts.now) }
     ensures front { take (length lines.old.items) lines.new.items ≡ lines.old.items }
@@ -56,7 +56,7 @@ fn add_lines(alloc: Global, lines: &mut Vec<Line>, drafts: &[Draft<'_>]) -> Resu
     Ok(())
 }
 
-/// The line of a draft. `Err` comes only for want of memory.
+/// The line of a draft. Returns `Err` only if memory runs out.
 ///
 /// It is compiled into its caller, so that a line is made where it is to stand.
 #[inline(always)]
@@ -85,7 +85,7 @@ pub(crate) fn full_line(alloc: Global, draft: &Draft<'_>) -> Result<Line, AllocE
     }
 }
 
-/// A line that is an instruction alone.
+/// A line with only an instruction.
 fn instruction_line(instruction: AsmInstr) -> Line
     ensures { line_of result ≡ instruction_line (instruction_of instruction) }
 {
@@ -282,7 +282,7 @@ pub fn sb(rt: u32, imm: i32, rs: u32) -> Draft<'static>
     })
 }
 
-/// A branch over the next line where two registers are equal.
+/// A branch over the next line if two registers are equal.
 pub fn beq(rs: u32, rt: u32) -> Draft<'static>
     requires first { rs < 32 }
     requires second { rt < 32 }
@@ -296,7 +296,7 @@ pub fn beq(rs: u32, rt: u32) -> Draft<'static>
     })
 }
 
-/// A branch over the next line where two registers differ.
+/// A branch over the next line if two registers differ.
 pub fn bne(rs: u32, rt: u32) -> Draft<'static>
     requires first { rs < 32 }
     requires second { rt < 32 }
@@ -369,7 +369,7 @@ pub fn lui(rt: u32, imm: i32) -> Draft<'static>
     })
 }
 
-/// A branch over the next line where a number is not negative.
+/// A branch over the next line if a number is not negative.
 pub fn bgez(rs: u32) -> Draft<'static>
     requires { rs < 32 }
     ensures { drafted result ≡ written.bgez rs }

@@ -1,7 +1,7 @@
 //! The run-time routines of compiled programs, and the lines of which they and the code of expressions are made.
 //!
-//! Comes in: the name of a routine, or what an object of data holds. Goes out: the lines of assembly. They are those of
-//! `specs/Routines`, and what they do wherever they stand in a text is `specs/Meanings`.
+//! Input: the name of a routine, or the contents of an object of data. Output: the lines of assembly. `specs/Routines` defines them, and
+//! `specs/Meanings` their effects, wherever they stand in a text.
 #![tactic(auto)]
 
 mod catalogue;

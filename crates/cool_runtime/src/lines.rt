@@ -21,7 +21,7 @@ use mips_isa::Line;
 use mips_isa::register::{A0, GP, RA, SP, T1};
 use std::alloc::{AllocError, Global};
 
-/// The lines of a routine, which do what it is to do wherever they stand in a text. `Err` comes only for want of memory.
+/// The lines of a routine, which do what it is to do wherever they stand in a text. Returns `Err` only if memory runs out.
 pub fn routine(alloc: Global, routine: Routine) -> Result<Vec<Line>, AllocError>
     ensures lines { IfOk result (λ lines. lines_of lines.items ≡ routine_lines routine) }
     ensures meaning { (w : World) → Means w routine }
@@ -31,7 +31,7 @@ pub fn routine(alloc: Global, routine: Routine) -> Result<Vec<Line>, AllocError>
     Ok(lines)
 }
 
-/// The lines of all routines. `Err` comes only for want of memory.
+/// The lines of all routines. Returns `Err` only if memory runs out.
 pub fn routines(alloc: Global) -> Result<Vec<Line>, AllocError>
     ensures { IfOk result (λ lines. lines_of lines.items ≡ all_routine_lines) }
 {
@@ -94,7 +94,7 @@ fn limit_routines(alloc: Global, lines: &mut Vec<Line>) -> Result<(), AllocError
     add_routine(alloc, lines, Routine::StackLimit)
 }
 
-/// Adds the lines of a routine. `Err` comes only for want of memory.
+/// Adds the lines of a routine. Returns `Err` only if memory runs out.
 fn add_routine(alloc: Global, lines: &mut Vec<Line>, routine: Routine) -> Result<(), AllocError>
     ensures { OnOk result (lines_of lines.new.items ≡ lines_of lines.old.items ++ routine_lines routine) }
 {

@@ -1,5 +1,4 @@
--- Of tables that differ in bodies, initial values and places alone, the features of the one have no fault where those of the other have
--- none.
+-- If two class tables differ only in bodies, initial values and places, and the features of one have no fault, neither have those of the other.
 use Rattle.std.proofs.Common.{◌≡◌, ℕ, zero, suc, ◌+◌, List, [], ◌∷◌, ◌++◌, length, Option, Some, None, Bool, not, ◌&&◌, ◌||◌, refl, sym, ap, ◌∙◌, subst, arith}
 use Rattle.std.specs.Prelude.{bytes_eq, codes, is_some, is_none, nat_lt, if◌then◌else◌}
 use Rattle.cool_syntax.specs.declared.place.Place.{Place}

@@ -1,5 +1,4 @@
--- Features, classes and definitions that declare the same, in turn: what declares as another declares as what that one declares as, and
--- the other way round; and tables that declare the same have the same signatures.
+-- Declaring the same is transitive and symmetric, for features, classes and definitions; and tables that declare the same have the same signatures.
 use Rattle.std.proofs.Common.{◌≡◌, ℕ, zero, suc, List, [], ◌∷◌, map, drop, Option, Some, None, unwrap_or, refl, sym, ap, ◌∙◌, subst}
 use Rattle.std.specs.Prelude.{slice_get}
 use Rattle.std.proofs.lemmas.Option.{none-some}

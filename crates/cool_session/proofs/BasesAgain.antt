@@ -1,5 +1,5 @@
--- What is known merely of a base, that files came to be typed so, is known: files have one cutting and one tree at most, and the rest are
--- facts with one proof at most.
+-- Uniqueness of a stored check: files have at most one tokenization and one tree, and the other facts have at most one proof. So a base that is only known
+-- to exist can be used.
 use Rattle.std.proofs.Common.{◌≡◌, refl, ap, subst, arith, inl, inr, ℕ, ◌+◌, ◌≤◌, List, [], ◌∷◌, ◌++◌, length, Contains, Option}
 use Rattle.std.specs.List.{AllByRecursion}
 use Rattle.std.proofs.Math.Logic.{∥∥₁_elim, ∥∥₁_map}
@@ -42,7 +42,7 @@ use Rattle.cool_session.specs.Signatures.{signatures}
 use Rattle.cool_session.proofs.KeptOnce.{kept_prop}
 use Rattle.cool_session.proofs.TreesOfTokens.{AreTreesOf, trees_found, trees_lexed}
 
--- what is known merely leads to nothing where it leads to a contradiction
+-- a fact that merely exists leads to nothing if it leads to a contradiction
 never : {A : Type 0} → ∥ A ∥₁ → (A → ⊥) → ⊥
 never h f = ∥∥₁_elim h (λ x y. absurd x) f
 

@@ -21,7 +21,7 @@ feature_bounds file at (Another before e) =
       end = at + length (features_reading before) + length (feature_reading e);
     }) ∷ []
 
--- those of the features of a file
+-- the bounds of the features of a file
 abbrev pub file_bounds : ℕ → Classes → List Run
 file_bounds file NoClass = []
 file_bounds file (Class before h fs rbrace semi) =

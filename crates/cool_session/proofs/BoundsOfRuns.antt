@@ -25,7 +25,7 @@ take_next (suc n) x (y ∷ ys) rest h = ap (λ (zs : List _). y ∷ zs) (take_ne
 drop_next : {X : Type 0} (n : ℕ) (x : X) (xs rest : List X) → drop n xs ≡ x ∷ rest → drop (n + 1) xs ≡ rest
 drop_next n x xs rest h = sym (drop-drop 1 n xs) ∙ ap (drop 1) h
 
--- how long a list is of which this is left
+-- the length of a list of which this is left
 left_length : {X : Type 0} (n : ℕ) (x : X) (xs rest : List X) → drop n xs ≡ x ∷ rest → n < length xs
 left_length zero x [] rest h = absurd (omega (arith, ap length h))
 left_length zero x (y ∷ ys) rest h = omega arith

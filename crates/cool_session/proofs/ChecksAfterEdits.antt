@@ -1,5 +1,5 @@
--- What is kept of the checks of all features of a table gives the typing faults of the table, and what is to be kept at each feature of another
--- table of the same classes that has the same tokens.
+-- The stored checks of all features of a table give the table's typing faults. They are also the results to store for another table of the same classes,
+-- for each feature that has the same tokens.
 use Rattle.std.proofs.Common.{◌≡◌, ◌⊎◌, inl, inr, true≢false, is_ok, ℕ, zero, suc, ◌+◌, ◌<◌, List, [], ◌∷◌, ◌++◌, map, length, get_or, drop, Option, Some, None, Ok, Err, refl, sym, ap, ◌∙◌, subst, arith, append_assoc}
 use Rattle.std.proofs.lemmas.List.{map-append, get_or-map}
 use Rattle.cool_syntax.specs.declared.place.Place.{Place}
@@ -63,7 +63,7 @@ kept_faults [] (r ∷ rs) more h = absurd h
 kept_faults (run ∷ runs) [] more h = absurd h
 kept_faults (run ∷ runs) (r ∷ rs) [] h = absurd h
 
--- what is kept of all features gives the typing faults, at the present tokens
+-- the stored results of all features give the typing faults, at the present tokens
 pub typing_faults_kept : (p : List Class) (runs : List (List Token)) (more : List (Option KeptFault)) → AreKeptOf runs (results p) more
     → typing_faults p ≡ faults_kept runs more
 typing_faults_kept p runs more h = sym (of_classes p 0 p) ∙ kept_faults runs (results p) more h
@@ -91,7 +91,7 @@ pub member_classes_same : (p p' : List Class) → map view p' ≡ map view p
     → map (λ (m : Member). m.class) (members p') ≡ map (λ (m : Member). m.class) (members p)
 member_classes_same p p' same = member_classes_seen 0 p' ∙ (ap (classes_seen 0) same ∙ sym (member_classes_seen 0 p))
 
--- What is kept of a feature is what is to be kept of the feature at the same position, where that has the same tokens
+-- The stored result of a feature is also the result to store for the feature at the same position, if that has the same tokens
 
 abbrev pub member_features : List Member → List Feature
 member_features = map (λ (m : Member). m.feature)
@@ -140,7 +140,7 @@ features_of_table ds = defined_features (names_with_basic ds) 5 ds
 
 -- A fault that was found at a token
 
--- where a fault stands at a token, it is to be kept with the position that is found for its place
+-- if a fault is at a token, it is to be stored with the position that is found for its place
 pub kept_where_found : (tokens : List Token) (r : Checked (Unit {0})) (fault : TypeFault) (n : ℕ) → r ≡ Err fault
     → (kept : Option KeptFault) × IsKeptOf tokens r kept
     → ((k : ℕ) → k < length tokens → fault.at ≡ place_of_token tokens k → n < length tokens)

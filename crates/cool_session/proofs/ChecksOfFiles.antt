@@ -1,4 +1,4 @@
--- Checks of files over a base: how many features are fresh, what the fault list is, and that both are determined.
+-- Checks of files over a base: the number of new features, the fault list, and that both are unique.
 use Rattle.std.proofs.Common.{◌≡◌, ◌≢◌, inl, inr, true≢false, is_some, ℕ, zero, suc, ◌<◌, ◌≤◌, List, [], ◌∷◌, ◌++◌, map, length, get_or, take, drop, Option, Some, None, refl, sym, ap, ◌∙◌, subst, arith}
 use Rattle.std.specs.List.{AllByRecursion}
 use Rattle.std.specs.List.Sorted.{IsPermutation}
@@ -113,7 +113,7 @@ views_of_signatures files others ls ms p q h g same =
     views_read files ls p h
     ∙ (views_same (definitions g.trees) (definitions h.trees) (sym h.signed ∙ (same ∙ g.signed)) ∙ sym (views_read others ms q g))
 
--- What is fresh
+-- The features that are new
 
 other_signatures : (b : KeptBase) (files : List (List ℕ)) (now : Untyped) → IsRead files now.lexed.items now.classes
     → views b.untyped.classes ≢ views now.classes → (seen b.untyped).signatures ≢ (seen now).signatures

@@ -1,4 +1,4 @@
--- What comes of one command: it is done, or ends the session, or is cut short.
+-- The result of one command: it is done, ends the session, or is cut short.
 use Rattle.std.proofs.Common.{◌≡◌, ◌⊎◌, inl, inr, ℕ, zero, suc, ◌<◌, ◌≤◌, true, false, List, [], ◌∷◌, ◌++◌, length, map, refl, sym, ◌∙◌, ap, subst, arith}
 use Rattle.std.specs.Prelude.{◌≢◌, ◌==◌, Option, Some, None, option_map, Result, Ok, Err}
 use Rattle.std.specs.Result.{is_err}
@@ -18,12 +18,12 @@ use Rattle.cool_session.specs.Held.{Held, with_file, without_file, with_base, Ha
 use Rattle.cool_session.specs.Obeying.{TookFile, PutLines, Obeyed, command_of}
 use Rattle.cool_session.specs.Replies.{reply_lines}
 
--- what is held, by its parts
+-- the session's state, by its parts
 pub held_is : (names names' files files' : List (List ℕ)) (base base' : Option Base) → names ≡ names' → files ≡ files' → base ≡ base'
     → ◌≡◌ {A = Held} (record { names = names; files = files; base = base }) (record { names = names'; files = files'; base = base' })
 held_is names names' files files' base base' p q r = rw (p, q, r) refl
 
--- what an answer says of the room
+-- the room, by an answer
 pub no_room : (answer room : Result (Unit {0}) SetError) → answer ≡ room → is_err answer ≡ true → room ≡ Ok tt → ⊥
 no_room (Ok u) room e h k = absurd cc
 no_room (Err x) room e h k = absurd cc
@@ -122,7 +122,7 @@ module _ (number : ℕ) (h : Held) (input : List ℕ) where
       check_cut WriteFault got = (reply_lines h.names faults typed, with_base h base, checks faults typed base left ask some list types, got)
       check_cut Memory got = inr (inl (reply_lines h.names faults typed, with_base h base, checks faults typed base left ask some list types, got))
 
--- what a line asks that stands at the head of an input
+-- the command of a line at the head of an input
 pub asks_of : (input line rest left : List ℕ) (what : Option Command) → head input ≡ Line line rest → left ≡ rest → what ≡ command line
     → Asks input what left
 asks_of input line rest left what at same is = (line, at ∙ ap (Line line) (sym same), sym is)

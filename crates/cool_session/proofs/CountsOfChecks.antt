@@ -1,5 +1,5 @@
--- A check of files over a base of files types so many features: files have a fault list, which says whether they come to be typed, and two
--- bases of the same signatures have as many features.
+-- A check of files over a base of files types some number of features: files have a fault list, which says whether they come to be typed, and two bases of
+-- the same signatures have as many features.
 use Rattle.std.proofs.Common.{◌≡◌, ◌≢◌, ◌⊎◌, inl, inr, ℕ, ◌+◌, ◌≤◌, List, [], ◌∷◌, ◌++◌, map, length, refl, sym, ap, ◌∙◌, subst, arith, add-one}
 use Rattle.std.specs.Prelude.{Option, Some, None}
 use Rattle.std.specs.List.Sorted.{IsPermutation}
@@ -141,7 +141,7 @@ fresh_at_least files now t (Some old) (others, was) = by (known_signatures old.s
         features_many others old was ∙ (ap features_signed same ∙ sym (features_many files now t)) in
         let (n, d) = so_many_differ (known_lists known_kinds) old.features now.features long in (n, edited old n same d)
 
--- what a check leaves is of files
+-- the base that a check leaves is one of files
 pub types_of_list : (files : List (List ℕ)) (faults : List Fault) → IsFaultList files faults → (base : Option Base) → IsOfFiles base → HasCount files base
 unfolding IsKnownTyped
 types_of_list files faults list base is = by (known_typed files faults list)

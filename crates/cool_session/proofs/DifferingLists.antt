@@ -1,4 +1,4 @@
--- Lists that are the same but for the item at one position.
+-- Lists that are the same except for the item at one position.
 use Rattle.std.proofs.Common.{◌≡◌, ℕ, zero, suc, ◌+◌, List, [], ◌∷◌, ◌++◌, length, Some, refl, sym, ap, ◌∙◌, arith, append_assoc}
 use Rattle.std.specs.Prelude.{slice_get, slice_set}
 use Rattle.std.proofs.lemmas.List.{length-append}
@@ -52,7 +52,7 @@ module _ {X : Type 0} where
   set_seam [] rest x y = refl
   set_seam (z ∷ first) rest x y = ap (λ (xs : List X). z ∷ xs) (set_seam first rest x y)
 
-  -- what they have at the position
+  -- the items at the position
   pub differ_old : (n : ℕ) (old now : List X) (x y : X) → Differ X n old x now y → slice_get old n ≡ Some x
   differ_old n old now x y h =
       ap (λ (xs : List X). slice_get xs n) h.is

@@ -1,5 +1,5 @@
--- What is kept of a base for files whose tokens are those of its files, places aside, but for one feature at most, which declares what it
--- declared.
+-- The stored results of a base, for files whose tokens are those of its files, except for places and for at most one feature, which declares the same as
+-- before.
 use Rattle.std.proofs.Common.{◌≡◌, ◌≢◌, ℕ, zero, suc, ◌<◌, List, [], ◌∷◌, ◌++◌, map, length, get_or, drop, Option, Some, refl, sym, ap, ◌∙◌, subst, arith}
 use Rattle.std.specs.List.{slice_get}
 use Rattle.std.specs.Prelude.{slice_set}
@@ -93,7 +93,7 @@ number_within u faults base ls' number run differ =
     let less : number < length (bounds_of 0 ls) = slice_get_within (bounds_of 0 ls) number differ.old differ.there in
     omega (arith, less, length-map (bounds_of 0 ls) (run_tokens ls), ap length (tokens_of_bounds ls))
 
--- what is kept of files
+-- the results stored for files
 pub record IsKeptBy (files : List (List ℕ)) (ls : List Lexed) (p : List Class) (kept : List (Option KeptFault)) : Type 0 where
   pub read : IsRead files ls p
   pub are : AreKeptOf (runs_of (tokens_of ls)) (results_of read.trees) kept
@@ -107,7 +107,7 @@ module _ (files files' : List (List ℕ)) (ls ls' : List Lexed) (p : List Class)
   abbrev runs' : List (List Token)
   runs' = runs_of (tokens_of ls')
 
-  -- places alone differ
+  -- only places differ
   pub base_moved : SameTokens ls ls' → IsKeptBy files' ls' p kept
   base_moved same =
       let read = read_moved files files' ls ls' p b.read lexed same in
@@ -185,7 +185,7 @@ module _ (files files' : List (List ℕ)) (ls ls' : List Lexed) (p : List Class)
               (named ∙ ap (λ (is : List FeatureId). get_or is number id) (sym ids_same)) own_edited (sym here) is);
         }
 
--- How many features are fresh
+-- The number of features that are new
 
 pub none_fresh : (u now : Untyped) → now.classes ≡ u.classes → SameTokens u.lexed.items now.lexed.items
     → IsFresh (seen now) (Some (seen u)) 0
@@ -227,7 +227,7 @@ asked_once files now base before after is read fresh = record {
       (λ (h : IsRead files now.lexed.items now.classes). let n = fresh_once files now h base 1 fresh count later types in omega (arith, n));
 }
 
--- What a typer answers of a feature of tokens is to be kept of it, where it is merely known to be one.
+-- The typer's result for a feature of tokens is to be stored for it, if the tokens are only known to be some feature.
 pub kept_merely : (tokens run : List Token) (r : Checked (Unit {0})) (x : Feature) (kept : Option KeptFault) → tokens ≡ run
     → (IsFeature tokens x → IsKeptOf tokens r kept) → ∥ IsFeature run x ∥₁ → IsKeptOf run r kept
 kept_merely tokens run r x kept same answer own =

@@ -1,4 +1,4 @@
--- Trees of files whose tokens are those of other files, places aside, or are so but for one feature.
+-- Trees of files whose tokens are those of other files, except for places, or except for places and one feature.
 use Rattle.std.proofs.Common.{◌≡◌, ◌≢◌, ◌⊎◌, inl, inr, ℕ, zero, suc, ◌+◌, ◌-◌, ◌<◌, ◌≤◌, List, [], ◌∷◌, ◌++◌, map, length, get_or, take, drop, unwrap_or, Option, Some, refl, sym, ap, ◌∙◌, subst, arith, append_assoc}
 use Rattle.std.specs.Prelude.{slice_get, slice_set}
 use Rattle.std.specs.List.{AllByRecursion, slice_range}
@@ -133,7 +133,7 @@ trees_moved file (bytes ∷ files) (l ∷ ls) (l' ∷ ls') (t ∷ trees) (is, le
 
 -- A file that differs in one feature
 
--- how many bounds, runs and features a file has
+-- the numbers of bounds, runs and features of a file
 record Counts (file : ℕ) (tokens : List Token) (ds : List ClassDef) : Type 0 where
   pub count : ℕ
   pub bounds : length (bounds_in file tokens) ≡ count
@@ -250,7 +250,7 @@ module _ (file : ℕ) (tokens now : List Token) (ds : List ClassDef) (parses : P
 
 -- Files of which one differs in one feature
 
--- Files, of which the first has this number, are the same but for one run in the file of that run, which has these tokens now.
+-- Files, of which the first has this number, are the same except for one run in the file of that run, which has these tokens now.
 pub record DiffersAt (file : ℕ) (ls ls' : List Lexed) (old run : Run) (new : List Token) : Type 0 where
   pub home : run.file ≡ old.file
   pub start : run.start ≡ old.start

@@ -1,4 +1,4 @@
--- What is to be kept of files after an edit of one feature at most, and how many features are fresh then.
+-- The results to store for files after an edit of at most one feature, and the number of features that are new then.
 use Rattle.std.proofs.Common.{◌≡◌, ◌≢◌, ◌⊎◌, inl, inr, ℕ, zero, suc, ◌+◌, ◌<◌, List, [], ◌∷◌, ◌++◌, map, length, get_or, drop, Option, Some, None, Ok, refl, sym, ap, ◌∙◌, subst, arith, set}
 use Rattle.std.specs.Prelude.{slice_set}
 use Rattle.std.proofs.lemmas.List.{length-map, get_or-set_same, get_or-set_other, length-set}
@@ -33,7 +33,7 @@ use Rattle.cool_session.proofs.TablesOfSignatures.{views_same}
 use Rattle.cool_session.proofs.TypedFiles.{are_features, are_typed}
 use Rattle.std.proofs.lemmas.Bool.{cases_eq}
 
--- What is kept at each position is kept of all
+-- If the result at each position is stored, so are all results
 
 all_kept_at : (runs : List (List Token)) (rs : List (Checked (Unit {0}))) (more : List (Option KeptFault)) → length rs ≡ length runs
     → length more ≡ length runs → ((i : ℕ) → i < length runs → IsKeptOf (get_or runs i []) (get_or rs i (Ok tt)) (get_or more i None))
@@ -72,7 +72,7 @@ module _ (files files' : List (List ℕ)) (ls ls' : List Lexed) (p p' : List Cla
   faults_many : length kept ≡ length (runs_of (tokens_of ls))
   faults_many = (many_kept (runs_of (tokens_of ls)) (results_of h.trees) kept are).1
 
-  -- what is kept at a position whose tokens are the same
+  -- the result stored at a position whose tokens are the same
   still_at : (i : ℕ) → i < length (runs_of (tokens_of ls'))
       → kinds (get_or (runs_of (tokens_of ls')) i []) ≡ kinds (get_or (runs_of (tokens_of ls)) i [])
       → IsKeptOf (get_or (runs_of (tokens_of ls')) i []) (get_or (results_of h'.trees) i (Ok tt)) (get_or kept i None)
@@ -81,7 +81,7 @@ module _ (files files' : List (List ℕ)) (ls ls' : List Lexed) (p p' : List Cla
       (tokens_of ls'))
       kept i (are_features files ls p h) (are_features files' ls' p' h') are less alike
 
-  -- places alone differ
+  -- only places differ
   pub kept_moved : map kinds (runs_of (tokens_of ls')) ≡ map kinds (runs_of (tokens_of ls))
       → AreKeptOf (runs_of (tokens_of ls')) (results_of h'.trees) kept
   kept_moved alike =
@@ -148,7 +148,7 @@ ids_same_from k (d ∷ p) (e ∷ q) h =
     ap (λ (vs : List View). (get_or vs 0 (view d)).features) h in
     λ i. ids_alike (record { 0 = k }) 0 d.features e.features here i ++ ids_same_from (k + 1) p q (ap (drop 1) h) i
 
--- what is to be kept of a feature by its check over a table that is alike
+-- the result to store for a feature, by its check over a table that is alike
 pub kept_here : (files : List (List ℕ)) (ls : List Lexed) (p : List Class) (h : IsRead files ls p) (number : ℕ) (id : FeatureId)
     (tokens : List Token) (x : Feature) (kept : Option KeptFault) → number < length (ids p) → id ≡ get_or (ids p) number id
     → IsFeature tokens x → tokens ≡ get_or (runs_of (tokens_of ls)) number [] → IsKeptOf tokens (feature_checked p id.class x) kept

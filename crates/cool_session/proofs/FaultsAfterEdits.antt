@@ -1,5 +1,5 @@
--- Over tables of the same signatures, features of the same tokens, places aside, are checked with the same result: both are typed, or both
--- have a fault of one kind at the token of one position. So what is kept of the one is what is to be kept of the other.
+-- Over tables of the same signatures, features of the same tokens, except for places, are checked with the same result: both are typed, or both have a
+-- fault of one kind at the token of one position. So the stored result of one is also the result to store for the other.
 use Rattle.std.proofs.Common.{◌≡◌, ◌⊎◌, inl, inr, ℕ, zero, suc, ◌+◌, ◌<◌, List, [], ◌∷◌, map, length, get_or, drop, Option, Some, None, IfSome, Bool, true, false, if◌then◌else◌, Ok, Err, refl, sym, ap, ◌∙◌, subst, arith}
 use Rattle.std.specs.Prelude.{nat_eq}
 use Rattle.std.specs.Option.{option_map}
@@ -196,7 +196,7 @@ module _ (p : List TableClass) (c : ClassId) (x : Feature) (tokens : List Token)
       by (Ok u) is = (None, record { within = tt; is = is })
       by (Err fault) is = of_fault fault is (found_or_not tokens fault.at)
 
--- What is kept of a feature is what is to be kept of a feature of the same tokens
+-- The stored result of a feature is also the result to store for a feature of the same tokens
 
 result_renamed : (f : Place → Place) (tokens : List Token) (kept : Option KeptFault) → IfSome kept (λ fault. fault.token < length tokens)
     → renamed_result f (result_kept tokens kept) ≡ result_kept (map (renamed_token f) tokens) kept

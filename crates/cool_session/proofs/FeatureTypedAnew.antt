@@ -1,6 +1,5 @@
--- A base whose files differ from those before in nothing, places aside, or in one feature: what is merely known of it, so that the
--- tokens, the
--- table and what is kept of the files are known.
+-- A base whose files differ from those before in nothing except places, or in one feature: the facts about its tokens, its table and its stored results,
+-- which are only known to exist (`∥ .. ∥₁`).
 use Rattle.std.proofs.Common.{◌≡◌, ℕ, ◌<◌, List, [], map, length, get_or, Option, Some, sym, ap, ◌∙◌, subst, arith}
 use Rattle.std.specs.List.{slice_get}
 use Rattle.std.specs.Prelude.{slice_set}
@@ -44,7 +43,7 @@ base_by files now kept k = record { read = k.read; kept = k.are }
 pub some_base : (files : List (List ℕ)) (u : Untyped) (kept : List (Option KeptFault)) → ∥ IsBaseOf files u kept ∥₁ → ∥ IsBase u kept ∥₁
 some_base files u kept base = ∥∥₁_map base (λ (b : IsBaseOf files u kept). record { files = files; base = b })
 
--- What is known of files of these tokens, of which one feature is another, over the table that has it.
+-- Facts about files of these tokens, in which one feature is replaced, over the table with that feature.
 pub record IsTypedAnew (u : Untyped) (kept : List (Option KeptFault)) (ls' : List Lexed) (number : ℕ) (run : Run) (id : FeatureId) (x :
     Feature)
     : Type 0 where
@@ -65,7 +64,7 @@ pub record IsTypedAnew (u : Untyped) (kept : List (Option KeptFault)) (ls' : Lis
       → IsAskedWithin files (Some (seen u)) before after
 
 module _ (u : Untyped) (kept : List (Option KeptFault)) (base : ∥ IsBase u kept ∥₁) where
-  -- places alone differ
+  -- only places differ
   pub among_moved : (ls' : List Lexed) → IsLexing ls' → SameTokens u.lexed.items ls' → AreKeptAmong ls' kept
   among_moved ls' l same =
       ∥∥₁_map base

@@ -1,4 +1,4 @@
--- The feature at each position of a table, and what is kept of a base for it.
+-- The feature at each position of a table, and the result stored for it in a base.
 use Rattle.std.proofs.Common.{◌≡◌, ℕ, zero, suc, ◌+◌, ◌-◌, ◌<◌, ◌≤◌, List, [], ◌∷◌, ◌++◌, map, length, get_or, take, drop, Option, Some, None, IfSome, Ok, refl, sym, ap, ◌∙◌, subst, arith, add-one, append_assoc}
 use Rattle.std.specs.List.{AllByRecursion, slice_get}
 use Rattle.std.specs.Borrow.{Bor}
@@ -93,7 +93,7 @@ pub record IsMemberAt (p : List Class) (i : ℕ) (id : FeatureId) : Type 0 where
   pub result : get_or (results p) i (Ok tt) ≡ feature_checked p id.class feature
   pub own : (runs : List (List Token)) → AreFeatures runs (member_features (members p)) → IsFeature (get_or runs i []) feature
 
--- what stands at a position of names, of members and of what is made of them
+-- the items at a position of names, of members and of their results
 record IsFoundAt (p : List Class) (is : List FeatureId) (ms : List Member) (i : ℕ) (d : FeatureId) : Type 0 where
   pub member : Member
   pub points : Points p (get_or is i d) member
@@ -245,7 +245,7 @@ base_as_many u faults files now base h same =
     (λ (b : IsBase u faults).
     as_many_features b.files files u.lexed.items now.lexed.items u.classes now.classes b.base.read h same)
 
--- what holds of a value that is there
+-- a property of an optional value that is there
 pub of_some : {X : Type 0} (P : X → Type 0) (o : Option X) (x : X) → o ≡ Some x → IfSome o P → P x
 of_some {X} P o x is h = subst (λ (q : Option X). IfSome q P) is h
 
@@ -301,7 +301,7 @@ module _ (files : List (List ℕ)) (now : Untyped) (h : IsUntyped files now) (ba
       by None is g = tt
       by (Some b) is g = subst (λ (n : ℕ). i < n) (sym (many_bounds b.now.untyped.lexed.items before g)) (position_before i less b is)
 
-  -- what is kept at a position is to be kept of the feature there
+  -- the result stored at a position is to be stored for the feature there
   pub kept_before : (i : ℕ) (tokens : List Token) (kept : Option KeptFault) → tokens ≡ get_or (runs_seen now) i [] → i < length (runs_seen now)
       → IsKeptAt base i tokens kept → IsKeptOf (get_or (runs_seen now) i []) (get_or (results now.classes) i (Ok tt)) kept
   kept_before i tokens kept here less is = by base refl is
@@ -314,7 +314,7 @@ module _ (files : List (List ℕ)) (now : Untyped) (h : IsUntyped files now) (ba
           subst (IsKeptOf (get_or (runs_seen now) i []) (get_or (results now.classes) i (Ok tt))) (sym value)
           (base_kept b.now.untyped b.now.faults.items files now b.now.kept h (sym classes) i less (ap kinds (sym here) ∙ alike))
 
--- What is kept of one feature more
+-- The stored results with one more feature
 
 kept_next : (runs : List (List Token)) (rs : List (Checked (Unit {0}))) (more : List (Option KeptFault)) (i : ℕ) (kept : Option KeptFault)
     → i < length runs → i < length rs → AreKeptOf (take i runs) (take i rs) more → IsKeptOf (get_or runs i []) (get_or rs i (Ok tt)) kept

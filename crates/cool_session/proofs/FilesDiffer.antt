@@ -1,4 +1,4 @@
--- Files that differ in one feature alone: what is the same in front of a run and after it is the same outside it, and the rest differs.
+-- Files that differ only in one feature: the parts before and after a run are the same, and the rest differs.
 use Rattle.std.proofs.Common.{◌≡◌, ◌≢◌, ◌⊎◌, ℕ, zero, suc, ◌+◌, ◌-◌, ◌<◌, ◌≤◌, List, [], ◌∷◌, ◌++◌, length, get_or, take, drop, Option, Some, None, is_some, MatchOption, true≢false, false, refl, sym, ap, ◌∙◌, subst, arith, inl, inr}
 use Rattle.std.specs.Prelude.{slice_get}
 use Rattle.std.specs.List.{slice_range}
@@ -41,14 +41,14 @@ same_files (b ∷ before) (n ∷ now) many h =
     let fewer : length before ≡ length now = omega (arith, many) in
     λ i. h 0 (omega arith) i ∷ same_files before now fewer (λ j low. h (suc j) (omega arith)) i
 
--- what is said where no file was found
+-- the statement if no file was found
 pub where_none : {X : Type 0} (P : Type 0) (Q : X → Type 0) (o : Option X) → is_some o ≡ false → MatchOption o P Q → P
 where_none P Q None none h = h
 where_none P Q (Some x) none h = absurd (true≢false none)
 
 -- Tokens
 
--- what is the same in front is the same in a part of it
+-- a front that is the same is the same in a part of it
 front_less : (m n : ℕ) (xs ys : List Token) → m ≤ n → kinds (take n xs) ≡ kinds (take n ys) → kinds (take m xs) ≡ kinds (take m ys)
 front_less m n xs ys less same =
     let kind = λ (t : Token). t.kind in
@@ -94,7 +94,7 @@ module _ (slice runs : List Run) (file front back many_old many_new number : ℕ
   pub number_within : number < length runs
   number_within = slice_get_within runs number around.run number_there
 
--- what is known of the run that is read there
+-- facts about the run that is read there
 module _ (before : List Lexed) (slice runs : List Run) (run : Run) (file front back many_new number : ℕ) (xs : List Token)
     (value : slice ≡ runs) (is : runs ≡ bounds_of 0 before) (read : run ≡ get_or runs number run) (old : file_tokens before file ≡ xs)
     (around : IsAround slice file front back (length xs) many_new number) where
@@ -155,7 +155,7 @@ module _ (before now : List Lexed) (slice runs : List Run) (run : Run) (file fro
   wide : run.start + length xs ≤ length ys + run.end
   wide = apart before slice runs run file front back (length ys) number xs value is read old around
 
-  -- where the run ends now
+  -- the position where the run ends now
   abbrev pub end : ℕ
   end = length ys + run.end - length xs
 
@@ -199,7 +199,7 @@ module _ (before now : List Lexed) (slice runs : List Run) (run : Run) (file fro
       by (inl less) = first.same k (omega arith) less
       by (inr more) = let past : file + 1 ≤ k = omega (arith, more, not_it) in last k past
 
-  -- files that are the same outside one run differ in its feature alone
+  -- files that are the same outside one run differ only in its feature
   pub differ_in_feature : DifferInFeature before now number (record { file = run.file; start = run.start; end = end })
   differ_in_feature = record {
     old = run;

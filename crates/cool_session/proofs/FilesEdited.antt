@@ -1,5 +1,5 @@
--- Files whose tokens are those of files that came to be typed, places aside, but for one feature at most that declares what it declared,
--- come to be typed.
+-- If the tokens of files are those of files that come to be typed, except for places and for at most one feature that declares the same as before, these
+-- files come to be typed, too.
 use Rattle.std.proofs.Common.{◌≡◌, ℕ, ◌+◌, ◌≤◌, List, [], map, length, get_or, take, drop, Some, refl, sym, ap, ◌∙◌, subst, arith}
 use Rattle.std.specs.Prelude.{slice_get, slice_set}
 use Rattle.std.specs.List.{slice_range}
@@ -47,7 +47,7 @@ module _ (files files' : List (List ℕ)) (ls ls' : List Lexed) (p : List Class)
         signed = signed ∙ (h.signed ∙ sym (signatures_kept ds es same));
       }
 
-  -- files that differ in places alone
+  -- files that differ only in places
   pub read_moved : SameTokens ls ls' → IsRead files' ls' p
   read_moved same =
       let moved = trees_moved 0 files ls ls' h.trees (all_found IsLexed IsLexical h.lexed refl) parsed_before same in

@@ -68,7 +68,7 @@ room_enough ns fs few h =
 refused : (e : SetError) → ◌≡◌ {A = Result (Unit {0}) SetError} (Err e) (Ok tt) → ⊥
 refused e h = true≢false (sym (ap is_ok h))
 
--- where there is room, so few files have so few bytes
+-- if there is room, so few files have so few bytes
 room_within : (ns fs : List (List ℕ)) → room ns fs ≡ Ok tt → (length ns ≤ MOST_FILES) × (total fs ≤ MOST_SOURCE_BYTES)
 room_within ns fs e =
     let many : MOST_FILES < length ns → ⊥ = λ h. refused TooMany (sym (room_many ns fs h) ∙ e) in
@@ -138,7 +138,7 @@ held ns name j e =
     let there : k ≡ j = omega (arith, at) in
     subst (λ (m : ℕ). slice_set ns m name ≡ ns) there same
 
--- Whether there is room is seen by the number of bytes alone
+-- Whether there is room depends only on the number of bytes
 
 set_size : (fs : List (List ℕ)) (k : ℕ) (a b : List ℕ) → length a ≡ length b → total (slice_set fs k a) ≡ total (slice_set fs k b)
 set_size [] zero a b e = refl

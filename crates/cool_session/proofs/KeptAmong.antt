@@ -1,4 +1,4 @@
--- What is kept of features of tokens: as many as there are features, and each fault at one of their tokens.
+-- The stored results of features of tokens: as many as there are features, and each fault at one of their tokens.
 use Rattle.std.proofs.Common.{◌≡◌, ℕ, ◌<◌, List, [], length, get_or, Option, Some}
 use Rattle.std.proofs.Math.Logic.{∥∥₁_elim, ∥∥₁_map}
 use Rattle.std.proofs.Props.{props}
@@ -12,7 +12,7 @@ use Rattle.cool_session.specs.KeptChecks.{AreKeptAmong, IsBase, results_of}
 use Rattle.cool_session.specs.KeptFaults.{AreKeptOf}
 use Rattle.cool_session.proofs.FeaturesKept.{many_kept, kept_within}
 
--- of some results, this is kept
+-- this is stored for some results
 abbrev Among : List Lexed → List (Option KeptFault) → Type 0
 Among ls kept = (rs : List (Checked (Unit {0}))) × AreKeptOf (runs_of (tokens_of ls)) rs kept
 
@@ -24,6 +24,6 @@ pub within_among : (ls : List Lexed) (kept : List (Option KeptFault)) → AreKep
 within_among ls kept h i d fault less is =
     ∥∥₁_elim h (hlevel props) (λ (a : Among ls kept). kept_within (runs_of (tokens_of ls)) a.0 kept i d fault a.1 less is)
 
--- what a base keeps
+-- the results in a base
 pub kept_among : (u : Untyped) (kept : List (Option KeptFault)) → ∥ IsBase u kept ∥₁ → AreKeptAmong u.lexed.items kept
 kept_among u kept h = ∥∥₁_map h (λ (b : IsBase u kept). (results_of b.base.read.trees, b.base.kept))

@@ -1,4 +1,4 @@
--- What is kept of a feature is a fact with one proof at most.
+-- The fact that a result is the stored one of a feature has at most one proof.
 use Rattle.std.proofs.Common.{List, Option}
 use Rattle.std.proofs.Props.{props}
 use Rattle.cool_syntax.specs.declared.token.Token.{Token}

@@ -1,4 +1,4 @@
--- Of two tokens, and of two signatures, it is known whether they are the same. So lists that are equally long differ in so many items.
+-- Equality of tokens and of signatures is decidable. So two lists of equal length differ in some number of items.
 use Rattle.std.proofs.Common.{◌≡◌, ◌≢◌, ◌⊎◌, inl, inr, ℕ, zero, suc, List, [], ◌∷◌, length, get_or, refl, sym, ap, ◌∙◌, subst, arith}
 use Rattle.cool_syntax.specs.declared.token.TokenKind.{TokenKind}
 use Rattle.cool_syntax.specs.declared.token.TokenKind.TheVariants as kind
@@ -51,7 +51,7 @@ known_pairs {A} {B} first second (x, u) (y, v) = by (first x y) (second u v)
 known_names : Known (List ℕ)
 known_names = known_lists known_numbers
 
--- what has a code is known where codes are
+-- equality is decidable if it is for codes
 by_code : {A B : Type 0} → Known B → (code : A → B) (from : B → A) → ((x : A) → from (code x) ≡ x) → Known A
 by_code {A} {B} known code from back x y = by (known (code x) (code y))
   where

@@ -10,14 +10,14 @@ use Rattle.cool_session.specs.declared.ending.Interruption.{Interruption}
 use Rattle.cool_session.specs.declared.ending.Interruption.TheVariants.{ReadFault, WriteFault, Memory}
 use Rattle.cool_session.specs.Obeying.{PutLines}
 
--- what stands in place of a fault that is not there
+-- a stand-in for a fault that is not there
 abbrev pub any_fault : Fault
 any_fault = Lex (record { kind = L1; at = record { file = 0; line = 0; byte = 0 } })
 
 at_drop : (faults : List Fault) (i : ℕ) → i < length faults → drop i faults ≡ get_or faults i any_fault ∷ drop (i + 1) faults
 at_drop faults i less = rw (add-one i) (drop-cons faults i any_fault less)
 
--- of the first line a part was put
+-- a part of the first line was put
 pub first_cut : (e : Interruption) (line : List ℕ) (lines : List (List ℕ)) (before after : SinkSeen) → PutLines (line ∷ []) (Err e) before after
     → PutLines (line ∷ lines) (Err e) before after
 first_cut ReadFault line lines before after h = absurd h
@@ -37,14 +37,14 @@ pub line_at : (line : Fault → List ℕ) (faults : List Fault) (i : ℕ) (bytes
     → map line (drop i faults) ≡ bytes ∷ map line (drop (i + 1) faults)
 line_at line faults i bytes less is = ap (map line) (at_drop faults i less) ∙ ap (λ (b : List ℕ). b ∷ map line (drop (i + 1) faults)) (sym is)
 
--- of the line that comes next a part was put
+-- a part of the line that comes next was put
 pub line_cut : (e : Interruption) (first mid after : SinkSeen) (lines rest later : List (List ℕ)) (piece : List ℕ) → SeenUpTo first lines rest mid
     → rest ≡ piece ∷ later → PutLines (piece ∷ []) (Err e) mid after → PutLines lines (Err e) first after
 line_cut ReadFault first mid after lines rest later piece got cut h = absurd h
 line_cut WriteFault first mid after lines rest later piece got cut h = some_next first mid after lines later piece (rw cut at got) h
 line_cut Memory first mid after lines rest later piece got cut h = some_next first mid after lines later piece (rw cut at got) h
 
--- where no fault is left, all lines were put
+-- if no fault is left, all lines were put
 no_lines : (line : Fault → List ℕ) (faults : List Fault) (i : ℕ) → length faults ≤ i → map line (drop i faults) ≡ []
 no_lines line [] zero h = refl
 no_lines line [] (suc i) h = refl

@@ -1,4 +1,4 @@
--- How many of the first features are new: with one more that is kept, or one that is new; and no more than of all.
+-- The number of new features among the first ones: how it changes with one more feature, stored or new. It is at most the number among all.
 use Rattle.std.proofs.Common.{◌≡◌, ◌≢◌, inl, inr, ℕ, zero, suc, ◌+◌, ◌<◌, ◌≤◌, List, [], ◌∷◌, map, length, get_or, take, Option, Some, None, refl, sym, ap, ◌∙◌, subst, arith, add-one}
 use Rattle.std.specs.Borrow.{Bor}
 use Rattle.cool_syntax.specs.declared.token.Token.{Token}
@@ -35,7 +35,7 @@ other_next (x ∷ xs) (y ∷ ys) d (suc i) n less more is (inr (here, (m, one, h
     let fewer : i < length xs = omega (arith, less) in
     let few : i < length ys = omega (arith, more) in inr (here, (n, refl, subst (DifferBy _ _) (sym one) (other_next xs ys d i m fewer few is h)))
 
--- of the first there are no more than of all
+-- the number among the first ones is at most that among all
 no_more : {X : Type 0} (xs ys : List X) (i n m : ℕ) → DifferBy (take i xs) (take i ys) n → DifferBy xs ys m → n ≤ m
 no_more xs ys zero n m h all = omega (arith, h)
 no_more [] [] (suc i) n m h all = omega (arith, h, all)
@@ -73,7 +73,7 @@ seen_at (run ∷ runs) zero = refl
 seen_at (run ∷ runs) (suc i) = seen_at runs i
 
 module _ (now : List (List TokenKind)) where
-  -- of the first there are no more than of all
+  -- the number among the first ones is at most that among all
   pub new_bound : (base : Option (Bor Base)) (i n m : ℕ) → i ≤ length now → AreNew base now i n → AreNew base now (length now) m → n ≤ m
   new_bound None i n m le h all = omega (arith, le, h, all)
   new_bound (Some base) i n m le h all =

@@ -19,7 +19,7 @@ use Rattle.cool_session.specs.Replies.{reply_lines}
 use Rattle.cool_session.proofs.ChecksOfFiles.{one_base}
 use Rattle.std.proofs.lemmas.Bool.{cases_lt}
 
--- What is kept of files is one
+-- The data stored for files is unique
 
 one_differ : {X : Type 0} (xs ys xs' ys' : List X) (n m : ℕ) → Differ xs ys n → Differ xs' ys' m → xs ≡ xs' → ys ≡ ys' → n ≡ m
 one_differ xs ys xs' ys' n m fresh.none fresh.none p q = refl
@@ -56,7 +56,7 @@ one_types files base n m b c (fresh.typed now k t f) (fresh.untyped never) = abs
 one_types files base n m b c (fresh.untyped never) (fresh.typed now k t f) = absurd (never now t)
 one_types files base n m b c (fresh.untyped never) (fresh.untyped never') = (refl, refl)
 
--- What stands at the head of an input: nothing, no line, a line that asks nothing, or a command; and what comes after it
+-- The head of an input: nothing, no line, a line that asks nothing, or a command; and the input after it
 data Turn : Type 0 where
   Nothing : Turn
   Broken : List ℕ → Turn
@@ -89,7 +89,7 @@ unfolding turn head_turn
 broken_turn [] rest some e = absurd (some refl)
 broken_turn (b ∷ bs) rest some e = ap head_turn e
 
--- how a session ends at a turn, where it does
+-- the end of a session at a turn, if it ends there
 at_check : ℕ → List (List ℕ) → List ℕ → Option (Ending × List ℕ)
 at_check number [] rest = Some (BadCommand number, rest)
 at_check number (f ∷ fs) rest = None
@@ -165,7 +165,7 @@ module _ (number : ℕ) (h : Held) (input : List ℕ) where
       let same : ◌≡◌ {A = Option (Ending × List ℕ)} (Some (end, left)) None = sym (ends_at end left e) ∙ goes_on lines h' rest d in
       absurd cc
 
--- what is done at a turn
+-- the effect of a turn
 Doing : Held → Turn → List (List ℕ) → Held → List ℕ → Type 0
 Doing h Nothing lines h' left = ⊥
 Doing h (Broken rest) lines h' left = ⊥

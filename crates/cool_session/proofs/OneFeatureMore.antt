@@ -1,4 +1,4 @@
--- The feature at a position of files: its tokens, what is kept of it, and how many features so far are new.
+-- The feature at a position of files: its tokens, its stored result, and the number of new features so far.
 use Rattle.std.proofs.Common.{◌≡◌, ℕ, ◌+◌, ◌<◌, List, [], ◌∷◌, ◌++◌, length, get_or, take, Option, Some, IfSome, sym, ap, ◌∙◌, subst, arith}
 use Rattle.std.specs.List.{AllByRecursion, slice_get}
 use Rattle.std.specs.Borrow.{Bor}

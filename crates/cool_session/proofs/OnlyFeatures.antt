@@ -1,4 +1,4 @@
--- Where tokens between the head of a class and its end are a class of one feature, they are this feature.
+-- If tokens between the head of a class and its end form a class of one feature, they are this feature.
 use Rattle.std.proofs.Common.{◌≡◌, refl, sym, ap, ◌∙◌, arith, List, [], ◌∷◌, ◌++◌, map, length, get_or, drop, Option, Some, None, IfSome}
 use Rattle.std.proofs.lemmas.List.{length-append}
 use Rattle.cool_syntax.specs.declared.token.Token.{Token}
@@ -21,7 +21,7 @@ use Rattle.cool_session.specs.FeatureTokens.{ParsesFeature}
 use Rattle.cool_session.specs.OneFeature.{class_of_one, HaveOnly}
 use Rattle.cool_syntax.specs.Bare.{nowhere}
 
--- a list that ends with an element is this one alone: nothing stands before it
+-- a list that ends with an element is only this one: nothing stands before it
 alone : {X : Type 0} (xs : List X) (x y : X) → xs ++ x ∷ [] ≡ y ∷ [] → (xs ≡ []) × (x ≡ y)
 alone [] x y is = (refl, ap (λ l. get_or l 0 x) is)
 alone (z ∷ zs) x y is = absurd (omega (arith, ap length is, length-append zs (x ∷ [])))
@@ -39,7 +39,7 @@ without_ends (x ∷ xs) (y ∷ ys) a b c d is =
     let first : x ≡ y = ap (λ l. get_or l 0 x) is in
     let rest = without_ends xs ys a b c d (ap (drop 1) is) in λ i. first i ∷ rest i
 
--- One feature alone
+-- A single feature
 
 module _ (tokens : List Token) (x : Feature) where
   -- tokens of features that are one feature
@@ -90,7 +90,7 @@ module _ (tokens : List Token) (x : Feature) where
   only_feature (d ∷ []) (file, shaped, reads, plain) only = of_file d file shaped reads plain only
   only_feature (d ∷ e ∷ ds) parses only = absurd only
 
--- what is found to be the one feature of such a class is the feature
+-- the one feature that is found in such a class is the feature
 pub only_found : (tokens : List Token) (classes : List ClassDef) (o : Option Feature) → Parses (class_of_one tokens) classes
     → IfSome o (HaveOnly classes)
     → IfSome o (ParsesFeature tokens)
@@ -122,6 +122,6 @@ no_feature tokens x p never =
     let (d, parses, features) = class_read tokens x p in
     never (d ∷ []) parses
 
--- a fault is no want of memory
+-- a fault is not the same as running out of memory
 pub fault_or_memory : (e : ParseError) (f : ParseFault) → e ≡ Fault f → e ≡ Memory → ⊥
 fault_or_memory e f is memory = let both : Fault f ≡ Memory = sym is ∙ memory in absurd cc

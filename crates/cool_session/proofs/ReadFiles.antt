@@ -1,5 +1,5 @@
--- Files that come to be typed are read: their tokens and trees, and a table that is theirs but for places, bodies and initial values. And
--- what is kept of the features of their table is kept of those of the exact one.
+-- Files that come to be typed are read: their tokens and trees, and a table that is theirs except for places, bodies and initial values. The stored results
+-- of the features of their table are those of the exact table.
 use Rattle.std.proofs.Common.{◌≡◌, ℕ, List, [], ◌∷◌, map, drop, Option, Some, None, refl, sym, ap, ◌∙◌, subst, codes}
 use Rattle.cool_syntax.specs.declared.type_ref.TypeRef.{TypeRef}
 use Rattle.cool_syntax.specs.declared.file_tree.ClassDef.{ClassDef}
@@ -86,7 +86,7 @@ module _ (files : List (List ℕ)) (u : Untyped) (h : IsUntyped files u) where
       subst (λ (p : List Class). AreFeatures (runs_seen u) (member_features (members p))) (sym meant_of)
       (are_features files u.lexed.items u.classes read_of)
 
-  -- what is kept of them
+  -- the results stored for them
   pub kept_of : (kept : List (Option KeptFault)) → AreKept u kept → AreKeptOf (runs_seen u) (results_of read_of.trees) kept
   kept_of kept are = subst (λ (p : List Class). AreKeptOf (runs_seen u) (results p) kept) meant_of are
 

@@ -32,7 +32,7 @@ abbrev pub renamed_result : {X : Type 0} → (Place → Place) → Checked X →
 renamed_result f (Ok x) = Ok x
 renamed_result f (Err fault) = Err (renamed_fault f fault)
 
--- what names, types and methods mean in the one context they mean in the other
+-- names, types and methods have the same meaning in both contexts
 pub record Agree (s s' : Context) : Type 0 where
   pub class : s'.class ≡ s.class
   pub attributes : s'.attributes ≡ s.attributes

@@ -119,6 +119,6 @@ by_kinds file depth start at (t ∷ ts) =
     ++ by_kinds file (depth_after t.kind depth) (at + 1) (at + 1) ts i
     else by_kinds file (depth_after t.kind depth) start (at + 1) ts i
 
--- which tokens are which feature does not depend on places
+-- the tokens of each feature do not depend on places
 pub bounds_of_kinds : (file : ℕ) (tokens now : List Token) → kinds now ≡ kinds tokens → bounds_in file now ≡ bounds_in file tokens
 bounds_of_kinds file tokens now same = by_kinds file 0 0 0 now ∙ (ap (bounds_by file 0 0 0) same ∙ sym (by_kinds file 0 0 0 tokens))

@@ -22,7 +22,7 @@ use Rattle.std.proofs.lemmas.Bool.{ne_eqb}
 
 -- Walks over tokens
 
--- from this depth and run the tokens lead to that depth and run, and these runs end among them
+-- the tokens lead from this depth and run to that depth and run, and these runs end among them
 abbrev Leads : ℕ → List Token → List Token → ℕ → List Token → List (List Token) → Type 0
 Leads d run ts e now found = (rest : List Token) → runs_from d run (ts ++ rest) ≡ found ++ runs_from e now rest
 

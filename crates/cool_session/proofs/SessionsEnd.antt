@@ -52,7 +52,7 @@ line_takes input line rest is =
     let same : taken_by (head_within 300 input) ≡ suc (length rest) = ap taken_by is in
     let most = within_takes 300 input in omega (arith, same, most)
 
--- What is held stays within the limits
+-- The session's data stays within the limits
 
 record IsKept (h : Held) : Type 0 where
   paired : length h.names ≡ length h.files

@@ -1,4 +1,4 @@
--- How a session goes on over an input and a sink: by its first commands, and by what comes next.
+-- The course of a session over an input and a sink: its first commands, and then the next one.
 use Rattle.std.proofs.Common.{◌≡◌, ℕ, zero, suc, ◌+◌, ◌<◌, ◌≤◌, ◌^◌, List, [], ◌++◌, refl, sym, ◌∙◌, ap, arith, subst, ◌⊎◌, inl, inr}
 use Rattle.std.specs.Prelude.{◌≢◌, Some, None, Result, Ok, Err}
 use Rattle.std.specs.List.{concat}
@@ -25,12 +25,12 @@ pub record SoFar (input : List ℕ) (n : ℕ) (h : Held) (left : List ℕ) (firs
 pub begun : (input : List ℕ) (first : SinkSeen) → SoFar input 0 nothing_held input first first
 begun input first = record { replies = []; did = none; put = sym (after-nil first) }
 
--- How a session went, by the bytes that came and by the puts that brought them.
+-- The course of a session, by the bytes and by the puts that wrote them.
 abbrev pub Went : List ℕ → Result Ending Interruption → List ℕ → SinkSeen → SinkSeen → Type 0
 Went input result left before after = Conversed input result left before.held after.held × LinesPut input result left before.puts after.puts
 
 module _ (input : List ℕ) (n : ℕ) (h : Held) (middle : List ℕ) (first now : SinkSeen) (s : SoFar input n h middle first now) where
-  -- what was put so far, by bytes and by puts
+  -- the output so far, by bytes and by puts
   bytes_put : (after : SinkSeen) → after ≡ now → after.held ≡ appended first.held (concat s.replies)
   bytes_put after same = ap (λ sink. sink.held) (same ∙ s.put)
 

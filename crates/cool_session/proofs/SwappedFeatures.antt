@@ -39,7 +39,7 @@ there_now n k x y [] there = let less : k < 0 = slice_get_within [] k y there in
 there_now zero k x y (d ∷ p) there = changed_there k x y d.features there
 there_now (suc n) k x y (d ∷ p) there = there_now n k x y p there
 
--- What features declare
+-- The declarations of features
 
 declared_in : (k : ℕ) (xs ys : List Feature) (x y : Feature) → AllDeclareSame xs ys → slice_get xs k ≡ Some x → slice_get ys k ≡ Some y
     → DeclareSame x y

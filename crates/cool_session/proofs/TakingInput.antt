@@ -46,7 +46,7 @@ long_within (suc most) (b ∷ bs) byte left long whole other =
     let less : length bs ≡ most = omega (arith, long) in
     rw first.0 (ap (with_first b) (long_within most bs byte left less first.1 other))
 
--- a part alone is no line
+-- a single part is no line
 alone_within : (most : ℕ) (part : List ℕ) → length part ≤ most → list_all (λ b. not (b == 10)) part ≡ true → head_within most part ≡ NoLine []
 alone_within zero [] short whole = refl
 alone_within (suc most) [] short whole = refl
@@ -91,13 +91,13 @@ longer_part input part left byte is short whole other = (
   },
 )
 
--- where the input ended, so much of a file was there
+-- if the input ended, so much of a file was there
 pub short_input : (input part left : List ℕ) (n : ℕ) → input ≡ part ++ left → left ≡ [] → length part < n → length input < n
 short_input input part left n is none short =
     let same : input ≡ part = is ∙ ap (λ xs. part ++ xs) none ∙ append-nil part in
     omega (arith, ap length same, short)
 
--- what is known of the room at first
+-- the bound of the room at first
 pub bound_first : (now first : ℕ) → (now ≡ first) ⊎ (first < 2 ^ 64) → now < 2 ^ 64 → first < 2 ^ 64
 bound_first now first (inl same) h = omega (arith, same, h)
 bound_first now first (inr less) h = less

@@ -1,4 +1,4 @@
--- How often a typer was asked: not at all, or once more; and never more often than there are features that are not kept.
+-- The number of calls of a typer: no call, or one more; and never more than there are features without a stored result.
 use Rattle.std.proofs.Common.{◌≡◌, ℕ, zero, suc, ◌+◌, ◌≤◌, List, length, Option, Result, Ok, Err, sym, ap, ◌∙◌, arith, add-one}
 use Rattle.std.specs.Prelude.{OnErr}
 use Rattle.std.specs.Borrow.{Bor}
@@ -8,7 +8,7 @@ use Rattle.cool_session.specs.declared.base.Base.{Base}
 use Rattle.cool_session.specs.NewFeatures.{AreNew, calls_after, IsAskedAtMost}
 use Rattle.cool_session.proofs.NewFeaturesCounted.{new_bound}
 
--- what holds anyway holds where there is an error
+-- a fact without condition holds if there is an error
 pub on_error : {A E P : Type 0} (r : Result A E) → P → OnErr r P
 on_error (Ok x) h = tt
 on_error (Err e) h = h

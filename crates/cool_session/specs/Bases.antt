@@ -1,4 +1,4 @@
--- What is seen of files that come to be typed: the signatures of the classes of their table, and the tokens of their features.
+-- The data by which files that come to be typed are compared: the signatures of the classes of their table, and the tokens of their features.
 use Rattle.std.specs.Prelude.{ℕ, List, map, drop, codes, Option, Some, None}
 use Rattle.cool_syntax.specs.declared.token.Token.{Token}
 use Rattle.cool_lexer.specs.declared.lexer.Lexed.{Lexed}

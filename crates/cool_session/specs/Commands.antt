@@ -1,4 +1,4 @@
--- What a line of a session's input asks. Words are parted by one space.
+-- The commands that the lines of a session's input give. Words are separated by one space.
 use Rattle.std.specs.Prelude.{◌≡◌, refl, ℕ, ◌&&◌, nat_le, if◌then◌else◌, List, [], ◌∷◌, length, codes, bytes_eq, Bool, Option, Some, None}
 use Rattle.std.specs.List.{list_all}
 use Rattle.cool_syntax.specs.Lexemes.{is_digit, value}
@@ -20,7 +20,7 @@ is_name word = nat_le 1 (length word) && (nat_le (length word) 255 && list_all (
 abbrev pub is_length : List ℕ → Bool
 is_length word = nat_le 1 (length word) && (nat_le (length word) 7 && list_all is_digit word)
 
--- what a word alone asks, and with a name, and with a name and a length
+-- the command of a single word, of one with a name, and of one with a name and a length
 abbrev pub alone : List ℕ → Option Command
 alone word = if bytes_eq word (codes "check") then Some Check else if bytes_eq word (codes "quit") then Some Quit else None
 
@@ -31,14 +31,14 @@ abbrev pub with_length : List ℕ → List ℕ → List ℕ → Option Command
 with_length word name digits =
     if bytes_eq word (codes "file") && (is_name name && is_length digits) then Some (File name (value digits)) else None
 
--- what words ask, where they ask anything
+-- the command of words, if they are one
 abbrev pub asked : List (List ℕ) → Option Command
 asked (word ∷ []) = alone word
 asked (word ∷ name ∷ []) = with_name word name
 asked (word ∷ name ∷ digits ∷ []) = with_length word name digits
 asked words = None
 
--- what a line asks, its newline aside
+-- the command of a line without its newline
 unfoldable pub command : List ℕ → Option Command
 command line = asked (words_in line)
 

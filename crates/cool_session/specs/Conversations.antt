@@ -1,4 +1,4 @@
--- What comes of a session over a source and a sink that may fail.
+-- The result of a session over a source and a sink that may fail.
 use Rattle.std.specs.Prelude.{◌≡◌, ◌⊎◌, ℕ, List, ◌++◌, Option, Result, Ok, Err}
 use Rattle.std.specs.List.{concat}
 use Rattle.cool_ports.specs.Counts.{Rose}
@@ -25,8 +25,8 @@ abbrev pub CutAfterLine : List ℕ → List ℕ → Option (List ℕ) → Option
 CutAfterLine input left before after =
     (replies : List (List ℕ)) × Undone input replies left × (after ≡ appended before (concat replies))
 
--- How a session went with an input, of which this is left, and with a sink that held `before` and holds `after`: it was whole, and all
--- replies were put; or a read, a write or want of memory cut it short.
+-- The result of a session with an input, of which `left` is left, and with a sink that held `before` and holds `after`: it was whole, and all replies were
+-- put; or it was cut short by a read, by a write or because memory ran out.
 abbrev pub Conversed : List ℕ → Result Ending Interruption → List ℕ → Option (List ℕ) → Option (List ℕ) → Type 0
 Conversed input (Ok end) left before after =
     (replies : List (List ℕ)) × Exchange input replies end left × (after ≡ appended before (concat replies))
@@ -35,8 +35,8 @@ Conversed input (Err WriteFault) left before after = CutInWork input left before
 Conversed input (Err Memory) left before after =
     CutInInput input left before after ⊎ CutInWork input left before after ⊎ CutAfterLine input left before after
 
--- The same of the puts: the sink had been given `before`, and was given `after`. Each line of a reply was one put; where a write, or want
--- of memory while lines were written, cut the session short, those of a front of the lines.
+-- The same for the puts: the sink had been given `before`, and was given `after`. Each line of a reply was one put. If the session was cut short by a
+-- write, or because memory ran out while lines were written, these are the puts of a prefix of the lines.
 abbrev pub LinesPut : List ℕ → Result Ending Interruption → List ℕ → List (List ℕ) → List (List ℕ) → Type 0
 LinesPut input (Ok end) left before after = (replies : List (List ℕ)) × Exchange input replies end left × (after ≡ before ++ replies)
 LinesPut input (Err ReadFault) left before after = (replies : List (List ℕ)) × Unread input replies left × (after ≡ before ++ replies)

@@ -1,4 +1,4 @@
--- Which file is the first whose tokens differ from those before an edit, and which run stands around what differs in it.
+-- The first file whose tokens differ from those before an edit, and the run that contains all differences in it.
 use Rattle.std.specs.Prelude.{◌≡◌, ◌≢◌, ℕ, ◌+◌, ◌<◌, ◌≤◌, List, length, slice_get, Some}
 use Rattle.cool_lexer.specs.declared.lexer.Lexed.{Lexed}
 use Rattle.cool_session.specs.declared.runs.Run.{Run}
@@ -16,7 +16,7 @@ pub record IsFirstOther (before now : List Lexed) (from k : ℕ) : Type 0 where
   pub other : kinds (file_tokens now k) ≢ kinds (file_tokens before k)
   pub same : (j : ℕ) → from ≤ j → j < k → IsSameFile before now j
 
--- from a number on each file has the tokens that it had before
+-- each file from a number on has the tokens that it had before
 abbrev pub AreSameFrom : List Lexed → List Lexed → ℕ → Type 0
 AreSameFrom before now from = (j : ℕ) → from ≤ j → IsSameFile before now j
 

@@ -1,4 +1,4 @@
--- How the tokens of files differ from those before an edit, places aside: in nothing, or in one feature.
+-- The difference between the tokens of files and those before an edit, except for places: nothing, or one feature.
 use Rattle.std.specs.Prelude.{◌≡◌, ◌≢◌, ℕ, List, map, length, take, drop, slice_get, Some}
 use Rattle.cool_lexer.specs.declared.lexer.Lexed.{Lexed}
 use Rattle.cool_session.specs.declared.difference.Difference.{Difference}
@@ -12,7 +12,7 @@ use Rattle.cool_session.specs.Runs.{bounds_of, file_tokens, IsWithin, run_tokens
 abbrev pub SameTokens : List Lexed → List Lexed → Type 0
 SameTokens before now = map kinds (tokens_of now) ≡ map kinds (tokens_of before)
 
--- The tokens of a file are those before, places aside, but for one run, which ended at a position and ends at another.
+-- The tokens of a file are those before, places aside, except for one run, which ended at a position and ends at another.
 pub record DifferInRun (before now : List Lexed) (old new : Run) : Type 0 where
   pub file : new.file ≡ old.file
   pub start : new.start ≡ old.start
@@ -20,7 +20,7 @@ pub record DifferInRun (before now : List Lexed) (old new : Run) : Type 0 where
   pub back : kinds (drop new.end (file_tokens now new.file)) ≡ kinds (drop old.end (file_tokens before old.file))
   pub other : kinds (run_tokens now new) ≢ kinds (run_tokens before old)
 
--- Files differ in the feature of this number alone, whose tokens are this run now.
+-- Files differ only in the feature of this number, whose tokens are this run now.
 pub record DifferInFeature (before now : List Lexed) (number : ℕ) (run : Run) : Type 0 where
   pub old : Run
   pub there : slice_get (bounds_of 0 before) number ≡ Some old

@@ -1,4 +1,4 @@
--- What a session does with its input: the lines of its replies, how it ends, and what it leaves of the input.
+-- The exchange of a session: the lines of its replies, its end, and the rest of the input.
 use Rattle.std.specs.Prelude.{◌≡◌, ◌≢◌, ℕ, zero, suc, ◌+◌, ◌<◌, ◌≤◌, ◌==◌, if◌then◌else◌, not, true, List, [], ◌∷◌, ◌++◌, length, codes, Option, Some, None, refl}
 use Rattle.std.specs.List.{list_all}
 use Rattle.std.proofs.Common.{arith}
@@ -12,8 +12,7 @@ use Rattle.cool_session.specs.Fresh.{Base, Types}
 use Rattle.cool_session.specs.Held.{Held, nothing_held, with_file, without_file, with_base, HasRoom}
 use Rattle.cool_session.specs.Replies.{reply_lines}
 
--- What stands at the head of the input: a line and what comes after its newline, or what is left after a line that is too long or has no
--- newline.
+-- The head of the input: a line and the input after its newline, or the rest after a line that is too long or has no newline.
 pub data Head : Type 0 where
   Line : List ℕ → List ℕ → Head
   NoLine : List ℕ → Head
@@ -43,7 +42,7 @@ pub data Does (h : Held) (input : List ℕ) : List (List ℕ) → Held → List 
   checks : (faults : List Fault) (typed : ℕ) (base : Option Base) (rest : List ℕ) → Asks input (Some Check) rest → h.files ≢ []
       → IsFaultList h.files faults → Types h.files h.base typed base → Does h input (reply_lines h.names faults typed) (with_base h base) rest
 
--- How a session ends at the head of an input, where the command of this number stands; and what is left of the input.
+-- The end of a session at the head of an input, where the command of this number is; and the rest of the input.
 pub data EndsAt (number : ℕ) (h : Held) (input : List ℕ) : Ending → List ℕ → Type 0 where
   over : input ≡ [] → EndsAt number h input Over []
   quits : (rest : List ℕ) → Asks input (Some Quit) rest → EndsAt number h input Over rest

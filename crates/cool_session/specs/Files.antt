@@ -52,7 +52,7 @@ abbrev pub IsSetAnswer : Result (Unit {0}) SetError → Result (Unit {0}) SetErr
 IsSetAnswer (Err e) result = result ≡ Err e
 IsSetAnswer (Ok u) result = IfErr result (λ e. e ≡ error.Memory)
 
--- how many bytes the file at a position has
+-- the number of bytes in the file at a position
 abbrev pub length_at : List (List ℕ) → Option ℕ → Option ℕ
 length_at files None = None
 length_at files (Some k) = Some (length (get_or files k []))

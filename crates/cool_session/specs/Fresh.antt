@@ -1,4 +1,4 @@
--- How many features a check types: those that are not kept of the last check that typed. And what is kept of it for the next one.
+-- The number of features that a check types, which are those without a result stored by the last check that typed, and the data stored for the next check.
 use Rattle.std.specs.Prelude.{◌≡◌, ◌≢◌, refl, ℕ, suc, ◌≤◌, List, [], ◌∷◌, ◌++◌, map, length, Option, Some, None}
 use Rattle.cool_syntax.specs.declared.TheConstants.{MOST_FILES, MOST_SOURCE_BYTES}
 use Rattle.cool_syntax.specs.declared.token.Token.{Token}
@@ -11,7 +11,7 @@ use Rattle.cool_faults.specs.Files.{total}
 use Rattle.cool_faults.specs.Verdicts.{AreTrees}
 use Rattle.cool_session.specs.Signatures.{ClassSignature, features_in, signatures}
 
--- What is kept of files: the signatures of their classes, and of each feature, in order, the tokens without their places.
+-- The data stored for files: the signatures of their classes, and of each feature, in order, the tokens without their places.
 pub record Base : Type 0 where
   pub signatures : List ClassSignature
   pub features : List (List TokenKind)

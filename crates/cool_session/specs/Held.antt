@@ -1,4 +1,4 @@
--- What a session holds: its files, and what is kept of the last check that came to typing.
+-- The state of a session: its files, and the data stored from the last check that came to typing.
 use Rattle.std.specs.Prelude.{◌≡◌, ℕ, List, [], Option, None, Ok, replicate}
 use Rattle.cool_faults.specs.Files.{bytes_of}
 use Rattle.cool_session.specs.declared.session.Session.{Session}

@@ -1,4 +1,4 @@
--- What is kept of a check of files, and what is seen of it.
+-- The data stored from a check of files, and how it is seen in contracts.
 use Rattle.std.specs.Prelude.{◌≡◌, ℕ, ◌<◌, ◌^◌, List, [], length, Option}
 use Rattle.std.specs.List.{AllByRecursion}
 use Rattle.cool_syntax.specs.declared.file_tree.FileTree.{FileTree}
@@ -22,8 +22,8 @@ use Rattle.cool_session.specs.Signatures.{signatures}
 abbrev pub HasFewTokens : Lexed → Type 0
 HasFewTokens lexed = length lexed.tokens.items < 2 ^ 32
 
--- Files come to be typed: they have these tokens, no phase before typing finds a fault, and these are the classes of their table, but for
--- places, bodies and initial values.
+-- Files come to be typed: they have these tokens, no phase before typing finds a fault, and these are the classes of their table, except for places, bodies
+-- and initial values.
 pub record IsRead (files : List (List ℕ)) (ls : List Lexed) (p : List Class) : Type 0 where
   pub lexed : AreFound IsLexed IsLexical 0 files ls []
   pub trees : List FileTree

@@ -1,5 +1,5 @@
--- What is kept of the checks of features for a check after edits: that a feature is typed, or else the kind of its fault, at which of its
--- tokens the fault stands, and which types it has.
+-- The results stored for features, for a check after edits: the feature is typed, or else the kind of its fault, the number of the token with the fault,
+-- and its types.
 use Rattle.std.specs.Prelude.{◌≡◌, refl, ℕ, suc, ◌<◌, List, [], ◌∷◌, ◌++◌, map, length, get_or, Option, Some, None, IfSome, Ok, Err, codes}
 use Rattle.std.specs.List.Sorted.{IsPermutation}
 use Rattle.std.proofs.Common.{arith}
@@ -20,7 +20,7 @@ use Rattle.cool_faults.specs.declared.fault.Fault.{Fault}
 use Rattle.cool_faults.specs.declared.fault.Fault.TheVariants.{Typing}
 use Rattle.cool_session.specs.declared.base.KeptFault.{KeptFault}
 
--- where the token at a position stands
+-- the place of the token at a position
 abbrev pub place_of_token : List Token → ℕ → Place
 place_of_token tokens k = get_or (map (λ (t : Token). t.at) tokens) k (record { file = 0; line = 0; byte = 0 })
 

@@ -1,4 +1,4 @@
--- Which features of files are kept of a base, and how many are not.
+-- The features of files with results stored in a base, and the number of the others.
 use Rattle.std.specs.Prelude.{◌≡◌, ◌≢◌, ◌⊎◌, ℕ, zero, suc, ◌≤◌, List, [], ◌∷◌, map, length, take, get_or, Option, Some, None}
 use Rattle.std.specs.Borrow.{Bor}
 use Rattle.std.specs.Option.{option_map}
@@ -21,7 +21,7 @@ runs_seen u = runs_of (tokens_of u.lexed.items)
 abbrev pub kinds_seen : Untyped → List (List TokenKind)
 kinds_seen u = map kinds (runs_seen u)
 
--- what is kept of a base for a feature of these tokens at this position
+-- the result stored in a base for a feature of these tokens at this position
 abbrev pub IsKeptAt : Option (Bor Base) → ℕ → List Token → Option KeptFault → Type 0
 IsKeptAt None i tokens kept = ⊥
 IsKeptAt (Some base) i tokens kept = (kinds tokens ≡ kinds (get_or (runs_seen base.now.untyped) i [])) × (kept ≡ get_or base.now.faults.items i None)
@@ -50,7 +50,7 @@ IsUsed None (Some used) p = ⊥
 IsUsed (Some base) None p = views base.untyped.classes ≢ views p
 IsUsed (Some base) (Some used) p = (used.now ≡ base) × (views base.untyped.classes ≡ views p)
 
--- what is seen of a base
+-- a base as it is seen in contracts
 abbrev pub base_seen : Option Base → Option fresh.Base
 base_seen = option_map (λ (base : Base). seen base.untyped)
 

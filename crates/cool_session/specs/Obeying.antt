@@ -1,4 +1,4 @@
--- What the parts of a conversation answer: lines and files that are taken, commands that are read and done, and replies that are put.
+-- The results of the parts of a conversation: reading lines and files, reading and doing commands, and putting replies.
 use Rattle.std.specs.Prelude.{◌≡◌, ◌≢◌, ℕ, ◌<◌, ◌≤◌, ◌^◌, ◌⊎◌, ◌==◌, not, Bool, true, false, List, [], ◌++◌, length, Option, Some, None, Result, Ok, Err}
 use Rattle.std.specs.Global.{Vec}
 use Rattle.std.specs.List.{list_all}
@@ -73,8 +73,8 @@ PutLines lines (Err ReadFault) before after = ⊥
 PutLines lines (Err WriteFault) before after = PutSome before lines after
 PutLines lines (Err Memory) before after = PutSome before lines after
 
--- The command at the head of an input was done, or ended the session, or was cut short; it had this number. Of the sink `before` was
--- known, and `after` is.
+-- The command at the head of an input was done, or ended the session, or was cut short; it had this number. The sink was seen as `before`, and now as
+-- `after`.
 abbrev pub Obeyed : ℕ → Held → List ℕ → Result (Option Ending) Interruption → Held → List ℕ → SinkSeen → SinkSeen → Type 0
 Obeyed number h input (Ok None) h' left before after =
     (lines : List (List ℕ)) × Does h input lines h' left × (after ≡ after_puts before lines)

@@ -38,7 +38,7 @@ class_signature d = record { name = d.name; parent = parent_name d.parent; featu
 abbrev pub signatures : List ClassDef → List ClassSignature
 signatures = map class_signature
 
--- what a run is that ends with this token: a feature, where that is a semicolon, and else the head of a class
+-- the result of a run that ends with this token: a feature if that is a semicolon, and else the head of a class
 abbrev pub feature_ended : TokenKind → List TokenKind → List (List TokenKind)
 feature_ended (kind.Sign sign.Semi) run = run ∷ []
 feature_ended _ run = []

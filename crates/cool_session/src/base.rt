@@ -1,4 +1,4 @@
-//! What is kept of a check for the next one.
+//! The data stored from a check for the next one.
 
 ghost use Rattle.std.specs.Prelude.{◌<◌, ◌^◌, length};
 ghost use Rattle.std.specs.List.{AllByRecursion};

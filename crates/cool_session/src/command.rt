@@ -1,4 +1,4 @@
-//! What the lines of a session's input ask.
+//! The commands of a session, parsed from the lines of its input.
 
 ghost use Rattle.std.specs.Prelude.{◌≡◌, ◌≤◌, ◌<◌, ◌&&◌, ◌==◌, nat_le, true, length, map, IfOk, IfSome, option_map};
 ghost use Rattle.std.specs.List.{list_all, slice_split};
@@ -8,13 +8,13 @@ ghost use Rattle.cool_session.specs.Obeying.{command_of};
 
 use std::alloc::{AllocError, Global};
 
-/// How many bytes a name has at most.
+/// The largest number of bytes in a name.
 const MOST_NAME: usize = 255;
 
-/// How many digits a length has at most.
+/// The largest number of digits in a length.
 const MOST_DIGITS: usize = 7;
 
-/// What a line asks.
+/// A command.
 #[derive(Clone, Copy)]
 pub(crate) enum Command<'a> {
     /// To set the file of this name to the next so many bytes.
@@ -25,7 +25,7 @@ pub(crate) enum Command<'a> {
     Quit,
 }
 
-/// What a line asks, its newline aside. `None` where it is in no form. `Err` comes only for want of memory.
+/// The command of a line without its newline. `None` if it has no valid form. Returns `Err` only if memory runs out.
 pub(crate) fn read_command<'a>(
     alloc: Global,
     line: &'a [u8],
@@ -36,14 +36,14 @@ pub(crate) fn read_command<'a>(
     Ok(asked(words.as_slice()))
 }
 
-/// The words of a line. `Err` comes only for want of memory.
+/// The words of a line. Returns `Err` only if memory runs out.
 fn words<'a>(alloc: Global, line: &'a [u8]) -> Result<Vec<&'a [u8]>, AllocError>
     ensures { IfOk result (λ words. map (λ word. word.now) words.items ≡ slice_split (λ byte. byte == 32) line.now) }
 {
     line.split(|byte| *byte == b' ').collect(alloc)
 }
 
-/// What the words of a line ask.
+/// The command of the words of a line.
 #[tactic(auto, using(crate::proofs::WordsOfCommands::more_words))]
 fn asked<'a>(words: &[&'a [u8]]) -> Option<Command<'a>>
     ensures { option_map command_of result ≡ asked (map (λ word. word.now) words.now) }
@@ -56,7 +56,7 @@ fn asked<'a>(words: &[&'a [u8]]) -> Option<Command<'a>>
     }
 }
 
-/// What a word alone asks.
+/// The command of a single word.
 fn alone<'a>(word: &[u8]) -> Option<Command<'a>>
     ensures { option_map command_of result ≡ alone word.now }
 {
@@ -69,7 +69,7 @@ fn alone<'a>(word: &[u8]) -> Option<Command<'a>>
     }
 }
 
-/// What a word with a name asks.
+/// The command of a word with a name.
 fn with_name<'a>(word: &[u8], name: &'a [u8]) -> Option<Command<'a>>
     ensures { option_map command_of result ≡ with_name word.now name.now }
 {
@@ -80,7 +80,7 @@ fn with_name<'a>(word: &[u8], name: &'a [u8]) -> Option<Command<'a>>
     }
 }
 
-/// What a word with a name and a length asks.
+/// The command of a word with a name and a length.
 fn with_length<'a>(word: &[u8], name: &'a [u8], digits: &[u8]) -> Option<Command<'a>>
     ensures { option_map command_of result ≡ with_length word.now name.now digits.now }
 {

@@ -22,7 +22,7 @@ use std::alloc::Global;
 
 /// Reads commands from the source and does them one after another, and puts each line of their replies to the sink at once.
 ///
-/// `ReadFault` comes at the first take that fails, and `WriteFault` at the first put that does. `Memory` comes only for want of memory.
+/// Returns `ReadFault` at the first take that fails, and `WriteFault` at the first put that fails. Returns `Memory` only if memory runs out.
 pub fn converse<S: Source, K: Sink>(
     alloc: Global,
     source: &mut S,

@@ -1,4 +1,4 @@
-//! How the tokens of files differ from those before an edit.
+//! The difference between the tokens of files and those before an edit.
 
 ghost use Rattle.std.specs.Prelude.{◌≡◌, ◌<◌, ◌≤◌, ◌^◌, ◌-◌, length, take, drop, IfOk, IfSome, MatchOption};
 ghost use Rattle.std.specs.List.{AllByRecursion};
@@ -13,7 +13,7 @@ use cool_lexer::Lexed;
 use cool_syntax::Token;
 use std::alloc::{AllocError, Global};
 
-/// In what files differ, places aside.
+/// The difference between files, except for places.
 #[derive(Clone, Copy)]
 pub(crate) enum Difference {
     /// In nothing.
@@ -24,7 +24,7 @@ pub(crate) enum Difference {
     More,
 }
 
-/// In what files differ from those before, places aside. `Err` comes only for want of memory.
+/// The difference between files and those before, except for places. Returns `Err` only if memory runs out.
 pub(crate) fn find_difference(
     alloc: Global,
     before: &[Lexed],
@@ -77,7 +77,7 @@ fn first_other(before: &[Lexed], now: &[Lexed], from: usize) -> Option<usize>
     None
 }
 
-/// How many tokens in front are the same, places aside.
+/// The number of tokens at the front that are the same, except for places.
 fn front_of(a: &[Token], b: &[Token]) -> usize
     ensures within_first { result ≤ length a.now }
     ensures within_second { result ≤ length b.now }
@@ -91,7 +91,7 @@ fn front_of(a: &[Token], b: &[Token]) -> usize
     a.len()
 }
 
-/// How many tokens at the end are the same, places aside.
+/// The number of tokens at the end that are the same, except for places.
 fn back_of(a: &[Token], b: &[Token]) -> usize
     ensures within_first { result ≤ length a.now }
     ensures within_second { result ≤ length b.now }

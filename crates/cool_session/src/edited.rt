@@ -1,4 +1,4 @@
-//! Checks of files that differ from those of a base in nothing, places aside, or in one feature that declares what it declared.
+//! Checks of files that differ from those of a base in nothing except places, or in one feature that declares the same as before.
 
 ghost use Rattle.std.specs.Prelude.{◌≡◌, ◌≤◌, ◌<◌, ◌^◌, ℕ, List, [], Option, Some, length, slice_set, IfOk, IfSome, IfNone, OnOk, OnErr};
 ghost use Rattle.std.specs.List.{AllByRecursion, slice_get};
@@ -36,8 +36,8 @@ use cool_lexer::Lexed;
 use cool_syntax::Feature;
 use std::alloc::{AllocError, Global};
 
-/// Checks files over a base, where their tokens, places aside, are those of its files but for those of one feature, which declares what it
-/// declared. `None` comes elsewhere. Then, and where `Err` comes, the base is as it was. `Err` comes only for want of memory.
+/// Checks files over a base, if their tokens, except for places, are those of its files except those of one feature, which declares the same as before.
+/// Else returns `None`. If `None` or `Err` is returned, the base is as it was. Returns `Err` only if memory runs out.
 pub(crate) fn check_edited<K: Typer>(
     alloc: Global,
     typer: &mut K,
@@ -69,8 +69,8 @@ pub(crate) fn check_edited<K: Typer>(
     }
 }
 
-/// Checks files with these tokens, which are those of the files of a base, places aside. `Err` comes only for want of memory, and leaves the
-/// base as it was.
+/// Checks files with these tokens, which are those of the files of a base, places aside. Returns `Err` only if memory runs out, and then leaves the base as
+/// it was.
 fn check_moved(alloc: Global, base: &mut Base, lexed: Vec<Lexed>) -> Result<Reply, AllocError>
     requires lexed { IsLexing lexed.items }
     requires same { SameTokens base.old.untyped.lexed.items lexed.items }
@@ -92,20 +92,19 @@ struct Edit {
     number: usize,
     /// Its tokens.
     run: Run,
-    /// Where it stands in the table.
+    /// Its position in the table.
     id: FeatureId,
 }
 
-/// What is to be kept of files of which one feature was typed anew, and their fault list.
+/// The results to store for files of which one feature was typed again, and their fault list.
 #[derive(Drop)]
 struct Retyped {
     kept: Vec<Option<KeptFault>>,
     faults: Vec<Fault>,
 }
 
-/// Checks files with these tokens, which differ from those of a base in the feature of this number, whose tokens are this run. `None` comes
-/// where the run is no feature or declares something else. Then, and where `Err` comes, the base is as it was. `Err` comes only for want of
-/// memory.
+/// Checks files with these tokens, which differ from those of a base in the feature of this number, whose tokens are this run. Returns `None` if the run is
+/// no feature or declares something else. If `None` or `Err` is returned, the base is as it was. Returns `Err` only if memory runs out.
 fn check_one_feature<K: Typer>(
     alloc: Global,
     typer: &mut K,
@@ -152,8 +151,8 @@ fn check_one_feature<K: Typer>(
     }))
 }
 
-/// Puts a feature that declares the same in the place of one of a table, and types it. `Err` comes only for want of memory, and leaves the
-/// table as it was.
+/// Puts a feature that declares the same in the place of one of a table, and types it. Returns `Err` only if memory runs out, and then leaves the table as
+/// it was.
 fn retype<K: Typer>(
     alloc: Global,
     typer: &mut K,
@@ -185,7 +184,7 @@ fn retype<K: Typer>(
     retyped
 }
 
-/// Types a feature of a table. `Err` comes only for want of memory.
+/// Types a feature of a table. Returns `Err` only if memory runs out.
 fn type_feature<K: Typer>(
     alloc: Global,
     typer: &mut K,

@@ -1,14 +1,14 @@
-//! How a session ends, and what cuts it short.
+//! The ends of a session, and the interruptions that cut it short.
 
 ghost use Rattle.std.specs.Prelude.{◌≡◌};
 ghost use Rattle.cool_session.specs.declared.ending.Interruption.TheVariants as interruption;
 
 use std::alloc::{AllocError, AllocFailed};
 
-/// How a session ends. A number is that of the command at which it ended, the first being 1.
+/// The end of a session. A number is that of the command at which it ended, the first being 1.
 #[derive(Clone, Copy)]
 pub enum Ending {
-    /// By `quit`, or by the end of the input before a line's first byte.
+    /// The command `quit`, or the end of the input before a line's first byte.
     Over,
     /// A line is in no form, has more than 300 bytes or no newline, or is `check` while no file is held.
     BadCommand(u64),
@@ -18,14 +18,14 @@ pub enum Ending {
     TooLarge(u64),
 }
 
-/// What cuts a session short.
+/// An event that cuts a session short.
 #[derive(Clone, Copy)]
 pub enum Interruption {
     /// A take failed.
     ReadFault,
     /// A put failed.
     WriteFault,
-    /// Want of memory.
+    /// Out of memory.
     Memory,
 }
 

@@ -1,4 +1,4 @@
-//! The fault list of files, by what is kept of their features.
+//! The fault list of files, from the stored results of their features.
 
 ghost use Rattle.std.specs.Prelude.{◌≡◌, ◌<◌, ◌^◌, length, map, IfOk};
 ghost use Rattle.std.specs.List.{AllByRecursion};
@@ -18,7 +18,7 @@ use cool_faults::{Fault, of_typing};
 use cool_lexer::Lexed;
 use std::alloc::{AllocError, Global};
 
-/// The typing faults of files, in the order of files, bytes and kinds. `Err` comes only for want of memory.
+/// The typing faults of files, in the order of files, bytes and kinds. Returns `Err` only if memory runs out.
 pub(crate) fn fault_list(
     alloc: Global,
     lexed: &[Lexed],
@@ -33,7 +33,7 @@ pub(crate) fn fault_list(
     of_typing(alloc, faults.as_slice())
 }
 
-/// The faults that are kept, at the present tokens. `Err` comes only for want of memory.
+/// The faults that are kept, at the present tokens. Returns `Err` only if memory runs out.
 fn kept_faults(
     alloc: Global,
     lexed: &[Lexed],

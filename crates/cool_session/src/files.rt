@@ -1,4 +1,4 @@
-//! Files by name.
+//! Looking up files by name, and their numbers of bytes.
 
 ghost use Rattle.std.specs.Prelude.{◌≡◌, ◌≤◌, ◌<◌, length, replicate, unwrap_or, IfSome, IfOk, IfErr, OnOk, Ok, Err};
 ghost use Rattle.cool_syntax.specs.declared.TheConstants.{MOST_FILES, MOST_SOURCE_BYTES};
@@ -23,8 +23,7 @@ pub(crate) fn position(names: &[String], name: &str) -> Option<usize>
 
 /// The position of a name, where there is room for its file with these bytes.
 ///
-/// `Err(TooMany)` comes exactly where more than 64 files would be held, and `Err(TooLarge)` where not and more than 1,048,576 bytes
-/// would.
+/// Returns `Err(TooMany)` exactly if more than 64 files would be held, and `Err(TooLarge)` where not and more than 1,048,576 bytes would.
 pub(crate) fn position_to_set(
     names: &[String],
     files: &[Vec<u8>],
@@ -44,8 +43,7 @@ pub(crate) fn position_to_set(
 
 /// The position of a name, where there is room for its file with so many bytes, whichever they are.
 ///
-/// `Err(TooMany)` comes exactly where more than 64 files would be held, and `Err(TooLarge)` where not and more than 1,048,576 bytes
-/// would.
+/// Returns `Err(TooMany)` exactly if more than 64 files would be held, and `Err(TooLarge)` where not and more than 1,048,576 bytes would.
 pub(crate) fn place_for(
     names: &[String],
     files: &[Vec<u8>],
@@ -71,7 +69,7 @@ pub(crate) fn place_for(
     Ok(place)
 }
 
-/// How many bytes the file at a position has, and 0 where there is no position.
+/// The number of bytes in the file at a position, and 0 if there is no position.
 pub(crate) fn length_at(files: &[Vec<u8>], place: Option<usize>) -> usize
     requires { IfSome place (λ k. k < length files.now) }
     ensures { result ≡ unwrap_or (length_at (bytes_of files.now) place) 0 }
@@ -82,7 +80,7 @@ pub(crate) fn length_at(files: &[Vec<u8>], place: Option<usize>) -> usize
     }
 }
 
-/// How many bytes files have together. There are at most 1,048,576.
+/// The total number of bytes in files. It is at most 1,048,576.
 pub(crate) fn total(files: &[Vec<u8>]) -> u64
     requires { total (bytes_of files.now) ≤ MOST_SOURCE_BYTES }
     ensures { result ≡ total (bytes_of files.now) }

@@ -14,7 +14,7 @@ pub(crate) struct FeatureId {
     pub(crate) index: u32,
 }
 
-/// The features of a table, in order. `Err` comes only for want of memory.
+/// The features of a table, in order. Returns `Err` only if memory runs out.
 pub(crate) fn feature_ids(alloc: Global, t: &ClassTable) -> Result<Vec<FeatureId>, AllocError>
     ensures { IfOk result (λ all. all.items ≡ ids t.now) }
 {
@@ -26,7 +26,7 @@ pub(crate) fn feature_ids(alloc: Global, t: &ClassTable) -> Result<Vec<FeatureId
     Ok(all)
 }
 
-/// Adds the features of a class. `Err` comes only for want of memory.
+/// Adds the features of a class. Returns `Err` only if memory runs out.
 fn add_ids(c: ClassId, features: &[Feature], all: &mut Vec<FeatureId>) -> Result<(), AllocError>
     requires { length features.now < 2 ^ 32 }
     ensures { OnOk result (all.new.items ≡ all.old.items ++ ids_in c 0 features.now) }

@@ -1,4 +1,4 @@
-//! Lines and files that are taken from the input of a session.
+//! Lines and files that are read from the input of a session.
 
 ghost use Rattle.std.specs.Prelude.{◌≡◌, ◌≤◌, ℕ, List, false, IfOk};
 ghost use Rattle.cool_ports.specs.Answers.{Leaves};
@@ -10,10 +10,10 @@ use crate::ending::Interruption;
 use cool_ports::Source;
 use std::alloc::Global;
 
-/// How many bytes a line has at most, its newline aside.
+/// The largest number of bytes in a line without its newline.
 const MOST_LINE: usize = 300;
 
-/// What is taken where a line is asked for.
+/// The result of reading a line.
 #[derive(Drop)]
 pub(crate) enum TakenLine {
     /// A line, without its newline.
@@ -28,7 +28,7 @@ pub(crate) enum TakenLine {
 
 /// Takes a line with its newline, or a byte more than a line may have.
 ///
-/// `ReadFault` comes at the first take that fails.
+/// Returns `ReadFault` at the first take that fails.
 pub(crate) fn take_line<S: Source>(alloc: Global, source: &mut S) -> Result<TakenLine, Interruption>
     ensures took { Took false (line_ended result) (S.past source.old) (S.past source.new) (S.left source.old) (S.left source.new) }
     ensures line { (input left : List ℕ) → Leaves (S.past source.old) (S.past source.new) input left → TookLine result input left }
@@ -59,9 +59,9 @@ pub(crate) fn take_line<S: Source>(alloc: Global, source: &mut S) -> Result<Take
     }
 }
 
-/// Takes so many bytes. `None` comes where the input ends before.
+/// Takes so many bytes. Returns `None` if the input ends before.
 ///
-/// `ReadFault` comes at the first take that fails.
+/// Returns `ReadFault` at the first take that fails.
 pub(crate) fn take_file<S: Source>(
     alloc: Global,
     size: u64,

@@ -1,4 +1,4 @@
-//! Checks of files that a base is of: no feature is typed.
+//! Checks of the same files as those of a base: no feature is typed.
 
 ghost use Rattle.std.specs.Prelude.{◌≡◌, IfOk};
 ghost use Rattle.cool_session.specs.KeptFaults.{AreFaultsOf, faults_kept};
@@ -9,7 +9,7 @@ use crate::fault_list::fault_list;
 use crate::reply::Reply;
 use std::alloc::{AllocError, Global};
 
-/// The reply to a check of the files of a base. `Err` comes only for want of memory.
+/// The reply to a check of the files of a base. Returns `Err` only if memory runs out.
 pub(crate) fn known(alloc: Global, base: &Base) -> Result<Reply, AllocError>
     ensures typed { IfOk result (λ reply. reply.typed ≡ 0) }
     ensures faults { IfOk result (λ reply. AreFaultsOf (faults_kept (runs_seen base.now.untyped) base.now.faults.items) reply.faults.items) }

@@ -1,4 +1,4 @@
-//! Laws on what a session does with its input: there is one such thing, and where it is cut short, a prefix of its replies was put.
+//! Theorems about sessions: their result for an input is unique, and if a session is cut short, a prefix of its replies was put.
 
 ghost use Rattle.std.specs.Prelude.{ℕ, List};
 ghost use Rattle.cool_session.specs.Conversations.{HasPartWhereCut};
@@ -31,7 +31,7 @@ pub fn law_part()
     ensures { (input : List ℕ) → HasFronts input }
 {}
 
-/// Where a session is cut short, a prefix of the replies of a part of it was put.
+/// If a session is cut short, a prefix of the replies of a part of it was put.
 pub fn law_cut_short()
     ensures { (input : List ℕ) → HasPartWhereCut input }
 {}

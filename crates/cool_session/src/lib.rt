@@ -1,10 +1,9 @@
-//! Source files that are held by name and edited, and the conversation about them.
+//! A session: source files that are held by name and edited, and the conversation about them.
 //!
-//! Comes in: files, set and taken away one after another, or a source of commands and a sink. Goes out: the names of the files, how many
-//! bytes they have, and their fault list, for which only those features are typed that are not kept; or the replies to the commands.
-//! `specs/Files.antt` defines which files are held after an edit, and `Fresh.antt` which features are typed. `specs/Commands.antt` defines
-//! what lines ask, `Replies.antt` what is replied to a check, `Exchanges.antt` what a session does with its input, and `Conversations.antt`
-//! what comes of it where a device fails or memory is wanting.
+//! Input: files, set and taken away one after another, or a source of commands and a sink. Output: the names of the files, their numbers of bytes, and
+//! their fault list, for which only the features without a stored result are typed; or the replies to the commands. `specs/Files.antt` defines which files
+//! are held after an edit, and `Fresh.antt` which features are typed. `specs/Commands.antt` defines the commands of lines, `Replies.antt` the reply to a
+//! check, `Exchanges.antt` the exchange of a session with its input, and `Conversations.antt` its result if a device fails or memory runs out.
 #![tactic(auto)]
 
 mod base;

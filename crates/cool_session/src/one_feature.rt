@@ -12,8 +12,8 @@ use cool_parser::{ParseError, parse};
 use cool_syntax::{ClassDef, Feature, Key, MOST_SOURCE_BYTES, Name, Place, Sign, Token, TokenKind};
 use std::alloc::{AllocError, Global};
 
-/// The feature of these tokens. `None` comes exactly where they are none, or with the five of a class around them are more than a file may
-/// have. `Err` comes only for want of memory.
+/// The feature of these tokens. Returns `None` exactly if they are none, or with the five of a class around them are more than a file may have. Returns
+/// `Err` only if memory runs out.
 pub(crate) fn one_feature(alloc: Global, tokens: &[Token]) -> Result<Option<Feature>, AllocError>
     ensures found { IfOk result (λ found. IfSome found (ParsesFeature tokens.now)) }
     ensures only { (x : syntax.Feature) → ParsesFeature tokens.now x → length tokens.now + 5 ≤ MOST_SOURCE_BYTES → IfOk result (λ found. found ≡ Some x) }
@@ -40,7 +40,7 @@ fn nowhere() -> Place
     }
 }
 
-/// The tokens of a class without a name and of one feature of these tokens. `Err` comes only for want of memory.
+/// The tokens of a class without a name and of one feature of these tokens. Returns `Err` only if memory runs out.
 fn class_tokens(alloc: Global, tokens: &[Token]) -> Result<Vec<Token>, AllocError>
     requires { length tokens.now ≤ MOST_SOURCE_BYTES }
     ensures { IfOk result (λ all. all.items ≡ class_of_one tokens.now) }
@@ -68,7 +68,7 @@ fn unplaced(kind: TokenKind) -> Token
     }
 }
 
-/// A copy of a token. `Err` comes only for want of memory.
+/// A copy of a token. Returns `Err` only if memory runs out.
 fn copied(alloc: Global, token: &Token) -> Result<Token, AllocError>
     ensures { IfOk result (λ copy. copy ≡ token.now) }
 {
@@ -78,7 +78,7 @@ fn copied(alloc: Global, token: &Token) -> Result<Token, AllocError>
     })
 }
 
-/// A copy of a lexeme. `Err` comes only for want of memory.
+/// A copy of a lexeme. Returns `Err` only if memory runs out.
 fn copied_kind(alloc: Global, kind: &TokenKind) -> Result<TokenKind, AllocError>
     ensures { IfOk result (λ copy. copy ≡ kind.now) }
 {

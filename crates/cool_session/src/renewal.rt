@@ -1,4 +1,4 @@
-//! Typing anew the features of files that are not kept.
+//! Typing the features of files that have no stored result.
 
 ghost use Rattle.std.specs.Prelude.{◌≡◌, ◌<◌, ◌^◌, length, IfSome, IfNone, IfOk, OnErr};
 ghost use Rattle.std.specs.List.{AllByRecursion};
@@ -19,7 +19,7 @@ use cool_faults::Untyped;
 use cool_syntax::Token;
 use std::alloc::{AllocError, Global};
 
-/// What is to be kept of the features of files, and how often the typer was asked.
+/// The results to store for the features of files, and the number of calls of the typer.
 #[derive(Drop)]
 pub(crate) struct Renewed {
     pub(crate) faults: Vec<Option<KeptFault>>,
@@ -42,7 +42,7 @@ pub(crate) fn used<'a>(base: &'a Option<Base>, t: &ClassTable) -> Option<&'a Bas
     }
 }
 
-/// The features of a base. `Err` comes only for want of memory.
+/// The features of a base. Returns `Err` only if memory runs out.
 fn runs_before(alloc: Global, base: Option<&Base>) -> Result<Vec<Run>, AllocError>
     ensures { IfOk result (λ runs. IfSome base.entry (λ b. runs.items ≡ bounds_of 0 b.now.untyped.lexed.items)) }
 {
@@ -52,7 +52,7 @@ fn runs_before(alloc: Global, base: Option<&Base>) -> Result<Vec<Run>, AllocErro
     }
 }
 
-/// What is kept of a base for the feature at a position, where it has these tokens.
+/// The result stored in a base for the feature at a position, if it has these tokens.
 fn kept_at(
     base: Option<&Base>,
     before: &[Run],
@@ -72,7 +72,7 @@ fn kept_at(
     }
 }
 
-/// Asks the typer for the features that are not kept of a base, whose table has the same classes. `Err` comes only for want of memory.
+/// Asks the typer for the features that are not kept of a base, whose table has the same classes. Returns `Err` only if memory runs out.
 pub(crate) fn renew<K: Typer>(
     alloc: Global,
     typer: &mut K,

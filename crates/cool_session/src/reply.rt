@@ -21,13 +21,13 @@ use std::alloc::{AllocError, Global};
 pub struct Reply {
     /// The faults of the first phase that finds any, in the order of files, bytes and kinds.
     pub faults: Vec<Fault>,
-    /// How many features were typed anew.
+    /// The number of features that were typed again.
     pub typed: u64,
 }
 
 /// Puts the lines of a reply, each at once. The names are those of the files.
 ///
-/// `WriteFault` comes at the first put that fails, and `Memory` only for want of memory; then a prefix of the lines was put.
+/// Returns `WriteFault` at the first put that fails, and `Memory` only if memory runs out; then a prefix of the lines was put.
 pub(crate) fn put_reply<K: Sink>(
     alloc: Global,
     names: &[String],
@@ -56,7 +56,7 @@ fn put_first<K: Sink>(
     put_line(line.as_str().as_bytes(), sink)
 }
 
-/// The first line of a reply, by the numbers of its faults and of the features that were typed. `Err` comes only for want of memory.
+/// The first line of a reply, by the numbers of its faults and of the features that were typed. Returns `Err` only if memory runs out.
 fn first_line(alloc: Global, faults: usize, typed: u64) -> Result<String, AllocError>
     ensures { IfOk result (λ line. string_bytes line ≡ first_line faults typed) }
 {

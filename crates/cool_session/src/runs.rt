@@ -1,4 +1,4 @@
-//! Which tokens of files are which feature.
+//! The features of files as runs of tokens.
 
 ghost use Rattle.std.specs.Prelude.{◌≡◌, ◌+◌, ◌<◌, ◌^◌, ◌++◌, length, IfOk, OnOk};
 ghost use Rattle.std.specs.List.{AllByRecursion};
@@ -18,7 +18,7 @@ pub(crate) struct Run {
     pub(crate) end: u32,
 }
 
-/// The features of files, in order. `Err` comes only for want of memory.
+/// The features of files, in order. Returns `Err` only if memory runs out.
 pub(crate) fn runs(alloc: Global, lexed: &[Lexed]) -> Result<Vec<Run>, AllocError>
     requires files { length lexed.now < 2 ^ 32 }
     requires tokens { AllByRecursion HasFewTokens lexed.now }
@@ -31,7 +31,7 @@ pub(crate) fn runs(alloc: Global, lexed: &[Lexed]) -> Result<Vec<Run>, AllocErro
     Ok(runs)
 }
 
-/// Adds the features of a file. `Err` comes only for want of memory.
+/// Adds the features of a file. Returns `Err` only if memory runs out.
 fn add_runs(file: u32, tokens: &[Token], runs: &mut Vec<Run>) -> Result<(), AllocError>
     requires { length tokens.now < 2 ^ 32 }
     ensures { OnOk result (runs.new.items ≡ runs.old.items ++ bounds_in file tokens.now) }
@@ -50,7 +50,7 @@ fn add_runs(file: u32, tokens: &[Token], runs: &mut Vec<Run>) -> Result<(), Allo
     Ok(())
 }
 
-/// Adds a run that ends with this token, where that is a semicolon. `Err` comes only for want of memory.
+/// Adds a run that ends with this token, where that is a semicolon. Returns `Err` only if memory runs out.
 fn add_ended(kind: &TokenKind, run: Run, runs: &mut Vec<Run>) -> Result<(), AllocError>
     ensures { OnOk result (runs.new.items ≡ runs.old.items ++ bounds_ended kind.now run) }
 {

@@ -60,7 +60,7 @@ impl Session {
         self.names.as_slice()
     }
 
-    /// How many bytes the file of this name has. `None` comes exactly where the name is not held. It takes no memory.
+    /// The number of bytes in the file of this name. Returns `None` exactly if the name is not held. It takes no memory.
     pub fn held(&self, name: &str) -> Option<u64>
         ensures { result ≡ length_at (bytes_of self.now.files.items) (position (names_of self.now.names.items) name.now) }
     {
@@ -72,8 +72,8 @@ impl Session {
 
     /// Sets the file of this name: a name that is held keeps its position, and another goes last.
     ///
-    /// `Err(TooMany)` comes exactly where more than 64 files would be held, and `Err(TooLarge)` where not and more than 1,048,576 bytes
-    /// would. `Err(Memory)` comes only for want of memory. Any `Err` leaves the files as they are, and the base stays in any case.
+    /// Returns `Err(TooMany)` exactly if more than 64 files would be held, and `Err(TooLarge)` where not and more than 1,048,576 bytes would. Returns
+    /// `Err(Memory)` only if memory runs out. Any `Err` leaves the files as they are, and the base stays in any case.
     pub fn set_file(&mut self, name: &str, bytes: &[u8]) -> Result<(), SetError>
         ensures names { OnOk result (names_of self.new.names.items ≡ names_set (names_of self.old.names.items) name.now) }
         ensures files { OnOk result (bytes_of self.new.files.items ≡ files_set (names_of self.old.names.items) (bytes_of self.old.files.items) name.now bytes.now) }
@@ -114,8 +114,8 @@ impl Session {
         }
     }
 
-    /// Whether there is room for a file of this name with so many bytes: the answer that `set_file` gives for any bytes of that number, want
-    /// of memory aside.
+    /// Whether there is room for a file of this name with so many bytes: the result that `set_file` returns for any bytes of that number, unless memory
+    /// runs out.
     pub fn has_room(&self, name: &str, size: u64) -> Result<(), SetError>
         ensures { result ≡ set_room (names_of self.now.names.items) (bytes_of self.now.files.items) name.now (replicate size 0) }
     {
@@ -125,9 +125,8 @@ impl Session {
 
     /// Checks the files as they are, of which there is one at least: their fault list, and how many features were typed anew.
     ///
-    /// Only features are typed that are not kept of the last check that came to type any: one is kept where the signatures of all
-    /// classes are those of that check, and its tokens are those of the feature at the same position there. `Err` comes only for want of
-    /// memory, and changes nothing.
+    /// Only features are typed that are not kept of the last check that came to type any: one is kept where the signatures of all classes are those of that
+    /// check, and its tokens are those of the feature at the same position there. Returns `Err` only if memory runs out, and then changes nothing.
     pub fn check<K: Typer>(&mut self, typer: &mut K) -> Result<Reply, AllocError>
         requires { 0 < length self.old.files.items }
         ensures names { self.new.names.items ≡ self.old.names.items }
@@ -145,8 +144,8 @@ impl Session {
         }
     }
 
-    /// Checks the files where no more than one feature, which declares what it declared, was edited since the last check that came to type
-    /// any. `None` comes elsewhere, and changes nothing. `Err` comes only for want of memory, and changes nothing.
+    /// Checks the files where no more than one feature, which declares what it declared, was edited since the last check that came to type any. `None`
+    /// comes elsewhere, and changes nothing. Returns `Err` only if memory runs out, and then changes nothing.
     fn check_by_base<K: Typer>(&mut self, typer: &mut K) -> Result<Option<Reply>, AllocError>
         requires { 0 < length self.old.files.items }
         ensures names { self.new.names.items ≡ self.old.names.items }

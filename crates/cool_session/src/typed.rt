@@ -1,4 +1,4 @@
-//! Typing a feature, to be kept.
+//! Typing a feature, to store its result.
 
 ghost use Rattle.std.specs.Prelude.{◌≡◌, ◌<◌, ◌^◌, ◌↔◌, ℕ, length, IfOk, IsTrue, Some};
 ghost use Rattle.std.specs.List.{slice_get};
@@ -16,7 +16,7 @@ use cool_classes::ClassTable;
 use cool_syntax::{Place, Token};
 use std::alloc::{AllocError, Global};
 
-/// Asks the typer for a feature of these tokens, and gives what is to be kept of it. `Err` comes only for want of memory.
+/// Asks the typer for a feature of these tokens, and gives what is to be kept of it. Returns `Err` only if memory runs out.
 pub(crate) fn typed<K: Typer>(
     alloc: Global,
     typer: &mut K,

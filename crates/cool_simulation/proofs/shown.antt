@@ -1,4 +1,4 @@
--- What is shown on the way: from where an expression begins, the machine comes to where each expression that it begins does.
+-- Proofs of `Shown`: from the beginning of an expression, the machine reaches the beginning of each expression that evaluation begins.
 pub mod AllCalls
 pub mod Arguments
 pub mod Blocks

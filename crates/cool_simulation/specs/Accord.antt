@@ -1,5 +1,5 @@
--- How the end of a machine's run accords with the runs of the source, within limits of heap, stack and instructions; and that an image
--- means a program.
+-- Compiler correctness: the end of a machine's run accords with the runs of the source, within limits of heap, stack and instructions; and an image means a
+-- program.
 use Rattle.std.specs.Prelude.{◌≡◌, ℕ, ◌+◌, ◌*◌, ◌%◌, ◌^◌, ◌<◌, ◌≤◌, ◌⊎◌, List}
 use Rattle.mips_isa.specs.ImageBounds.{ImageParts}
 use Rattle.mips_isa.specs.Calls.{Outcome, Running, Exited, Trapped}
@@ -38,8 +38,8 @@ IsFailed (Failed e) = Unit {0}
 IsFailed GoesOn = ⊥
 IsFailed IsStuck = ⊥
 
--- A machine ended with a code, or goes on with status 6. What it wrote and left accords with the runs of the source, one for each number
--- of steps.
+-- A machine ended with a code, or goes on with status 6. Its output and the input that it left accord with the runs of the source, one for each number of
+-- steps.
 pub record Accord (runs : ℕ → Run) (limits : Limits) (status : ℕ) (output left : List ℕ) : Type 0 where
   -- it wrote no more than the run with a step more than instructions, and took no more
   pub written : IsPrefix output (runs (limits.budget + 1)).output
@@ -56,7 +56,7 @@ pub record Accord (runs : ℕ → Run) (limits : Limits) (status : ℕ) (output 
   pub budget : status ≡ 6 → limits.budget < 64 * (runs (limits.budget + 1)).work
   pub known : (status ≡ 0) ⊎ ((status ≡ 3) ⊎ ((status ≡ 4) ⊎ ((status ≡ 5) ⊎ (status ≡ 6))))
 
--- a machine after its instructions: it never traps, exits with 0, 3, 4 or 5 alone, and accords
+-- a machine after its instructions: it never traps, exits only with 0, 3, 4 or 5, and accords
 abbrev pub Accords : (ℕ → Run) → Limits → Outcome → Type 0
 Accords runs limits (Running s) = Accord runs limits 6 s.output s.input
 Accords runs limits (Exited code s) = (code < 6) × Accord runs limits code s.output s.input

@@ -1,4 +1,4 @@
--- A program in a machine: what stands in text and data once its image is loaded.
+-- A program in a machine: the contents of text and data once its image is loaded.
 use Rattle.std.specs.Prelude.{◌≡◌, ℕ, ◌+◌, ◌*◌, ◌^◌, ◌%◌, ◌<◌, ◌≤◌, List, [], length, map, codes, slice_get, Option, Some, None, Contains, Bool as Truth, true, false}
 use Rattle.mips_isa.specs.declared.address_map.TheConstants.{DATA_START, HEAP_START, TEXT_START}
 use Rattle.mips_isa.specs.Assembly.{start_name}
@@ -68,12 +68,12 @@ whole_text l = watched_text l.watch
 abbrev pub whole : Loading → World
 whole l = record l.world { text = whole_text l }
 
--- where a span begins that is watched
+-- the addresses at which a watched span begins
 abbrev pub marks : {table : List Class} {files : List (List ℕ)} {world : World} → Option (Watch table files world) → ℕ → Truth
 marks None = λ a. false
 marks (Some h) = h.marked
 
--- what the watched run begins; anything, where none is watched
+-- the visits of the watched run; anything, if none is watched
 abbrev pub Watched : {table : List Class} {files : List (List ℕ)} {world : World} → Option (Watch table files world) → Visit → Type 0
 Watched None x = Unit {0}
 Watched {table = p} (Some h) x = program_begun p h.input h.steps x
@@ -81,7 +81,7 @@ Watched {table = p} (Some h) x = program_begun p h.input h.steps x
 abbrev pub constants : Loading → Constants
 constants l = program_constants l.table l.files
 
--- where a feature stands
+-- the context of a feature
 abbrev pub context : Loading → ClassId → ℕ → Context
 context l c k = record { table = l.table; class = c; feature = k; files = l.files }
 

@@ -1,4 +1,4 @@
--- What the run of a whole program in a machine comes to, for a run of the source with so many steps.
+-- Relation between the machine's run of a whole program and a source run with so many steps.
 use Rattle.std.specs.Prelude.{◌≡◌, ℕ, ◌+◌, ◌-◌, ◌*◌, ◌^◌, ◌<◌, ◌≤◌, false, List, None}
 use Rattle.mips_isa.specs.declared.address_map.TheConstants.{HEAP_START, STACK_END}
 use Rattle.mips_isa.specs.Assembly.{start_name}
@@ -32,8 +32,8 @@ pub record Leaves (output left : List ℕ) (s : Machine) : Type 0 where
   pub wrote : s.output ≡ output
   pub leaves : s.input ≡ left
 
--- From s the machine comes to the end of a run with n steps; where the run goes on, it goes on too, after at least n instructions. Where no
--- rule applies, nothing is said.
+-- From s the machine comes to the end of a run with n steps. If that run goes on, the machine goes on, too, after at least n instructions. Nothing is
+-- stated if no rule applies.
 abbrev pub ComesTo : World → Machine → ℕ → ℕ → List ℕ → List ℕ → End → Type 0
 ComesTo w s n most output left Done = Reaches w s 0 most (exits 0 (Leaves output left))
 ComesTo w s n most output left (Failed e) = Reaches w s 0 most (exits 3 (Leaves output left))

@@ -1,4 +1,4 @@
--- How memory pictures a state of the source: where objects and variables are, and which words may change.
+-- The simulation relation between machine memory and a state of the source: where objects and variables are, and which words may change.
 use Rattle.std.specs.Prelude.{◌≡◌, ℕ, ◌+◌, ◌*◌, ◌/◌, ◌%◌, ◌<◌, ◌≤◌, ◌⊎◌, Bool as Truth, true, false, List, [], length, get_or, slice_get, Some}
 use Rattle.mips_isa.specs.declared.address_map.TheConstants.{HEAP_START, STACK_END}
 use Rattle.mips_isa.specs.Bytes.{Bytes, word}
@@ -15,8 +15,8 @@ use Rattle.cool_meaning.specs.Lookups.{attributes}
 use Rattle.cool_meaning.specs.Numbers.{fits, word_of}
 use Rattle.lists.specs.Bytes.{AreBytes}
 
--- Where a run's objects and variables are. An identity has the address, the class and the locations of its object; a location has a
--- home, the address of its word, or 0 where no name reaches it any more; the words that are homes are marked (by their address over 4).
+-- The addresses of a run's objects and variables. An identity has the address, the class and the locations of its object. A location has a home, the
+-- address of its word, or 0 if no name reaches it any more. The words that are homes are marked (by their address over 4).
 pub record Map : Type 0 where
   pub address : ℕ → ℕ
   pub class : ℕ → ClassId
@@ -74,7 +74,7 @@ pub record Pictures (p : List Class) (w : World) (loaded : Bytes) (m : Bytes) (m
   pub unmarked_data : (k : ℕ) → 4 * k < HEAP_START → map.marked k ≡ false
   pub unmarked_room : (k : ℕ) → gp ≤ 4 * k → 4 * k < sp → map.marked k ≡ false
 
--- what is neither a home nor between heap and stack is the same
+-- all memory that is neither a home nor between heap and stack is the same
 pub record Kept (m m' : Bytes) (marked : ℕ → Truth) (gp sp : ℕ) : Type 0 where
   pub below : (q : ℕ) → q < gp → marked (q / 4) ≡ false → m' q ≡ m q
   pub over : (q : ℕ) → sp ≤ q → marked (q / 4) ≡ false → m' q ≡ m q

@@ -1,5 +1,5 @@
--- That a debugger shows what the rules say: the machine comes to the first word of the code of each expression that is begun, and there each
--- name in scope is at home in the word that its span tells, which pictures the name's value.
+-- A debugger shows what the rules say (`Shown`): the machine comes to the first word of the code of each expression that is begun. There each name in scope
+-- is at home in the word that its span tells, which pictures the name's value.
 use Rattle.std.specs.Prelude.{◌≡◌, ℕ, ◌+◌, ◌*◌, ◌<◌, ◌≤◌, ◌⊎◌, List, [], length, map as each, Contains, None}
 use Rattle.mips_isa.specs.declared.address_map.TheConstants.{TEXT_START}
 use Rattle.mips_isa.specs.Assembly.{image_of}
@@ -42,7 +42,7 @@ use Rattle.cool_simulation.specs.Visits.{Visit, Visits, begun, program_begun}
 use Rattle.cool_simulation.specs.WrittenPrograms.{IsWritten}
 use Rattle.lists.specs.Bytes.{AreBytes}
 
--- from s the machine comes to such a state after some number of instructions, where heap and stack hold what the run is to reach
+-- the machine comes from s to such a state after some number of instructions, if heap and stack suffice for the run
 abbrev pub Comes : World → Machine → (Machine → Type 0) → Type 0
 Comes w s P = (most : ℕ) × Reaches w s 0 most (stands P)
 
@@ -54,7 +54,7 @@ pub record AllShown (l : Loading) (calls : Calls) (begun_in : Call → Visits) (
       → ((span : Span) → Contains (spans sizes (context l c f) (constants l) vs d first q.pc t) span → IsSpan l c f span)
       → begun l.table calls begun_in c f self env first t st n x → Comes l.world s (Shown l x)
 
--- What calls with at most b steps begin is shown.
+-- `Shown` for calls with at most b steps.
 pub record CallsShown (l : Loading) (calls : Calls) (begun_in : Call → Visits) (b : ℕ) : Type 0 where
   pub body : (owner : ClassId) (i : ℕ) (self : Value) (k : ClassId) (vs : List Value) (made : fitting.World) (q : Pointers) (m : Bytes) (map : Map) (console : Console) (st : State) (s : Machine) (n : ℕ) (x : Visit) → n ≤ b
       → HasMethod l.table (User owner i) → Below l.table k owner → Called l k self vs made q m map console st s → q.pc ≡ l.world.place (method_label l.table (User owner i))
@@ -65,11 +65,11 @@ pub record CallsShown (l : Loading) (calls : Calls) (begun_in : Call → Visits)
       → Room l q (12 * length (chain l.table c)) (calls (Initials c self) st n) → ((calls (Initials c self) st n).outcome ≡ Stuck → ⊥) → begun_in (Initials c self) st n x
       → Comes l.world s (Shown l x)
 
--- what expressions may count on: calls with fewer steps
+-- the assumption for expressions: calls with fewer steps
 abbrev pub AllCallsShown : Loading → Calls → (Call → Visits) → ℕ → Type 0
 AllCallsShown l calls begun_in b = (m : ℕ) → m < b → CallsShown l calls begun_in m
 
--- What the run of a loaded program begins is shown, for any number of steps, as far as heap and stack hold what the run needs.
+-- `Shown` for the run of a loaded program, for any number of steps, as long as heap and stack suffice for the run.
 abbrev pub ProgramShown : Loading → Type 0
 ProgramShown l =
     (input : List ℕ) (q : Pointers) (map : Map) (console : Console) (s : Machine) (n : ℕ) (x : Visit) → Starts l input q map console s → RunRoom l.world (run l.table l.files input n) → program_begun l.table input n x
@@ -105,7 +105,7 @@ pub record EndsByLimit (image : ImageParts) (limits : Limits) (input : List ℕ)
   pub ended : run_image image limits.heap limits.stack input count ≡ Exited code machine
   pub why : ((code ≡ 4) × (limits.heap < 4 * r.words + 64)) ⊎ ((code ≡ 5) × (limits.stack < 16 * r.peak + 256))
 
--- What a run of the source begins is shown by the machine of the program's image, but where that ends by a limit which the run passes.
+-- The machine of a program's image reaches each expression that a run of the source begins, unless it ends by a limit that the run exceeds.
 abbrev pub VisitsShown : Type 0
 VisitsShown =
     (p : List Class) (names : List (List ℕ)) (input : List ℕ) (limits : Limits) (n : ℕ) (x : Visit) → IsCompilable p names → AreBytes input → AreLimits limits → program_begun p input n x

@@ -1,5 +1,5 @@
--- What the code of an expression, of a call and of a run is to do: it leads from a state of the machine that pictures the source's to one
--- that pictures what evaluation comes to, within so many instructions, heap and stack for its meters.
+-- The simulation lemmas' statements for the code of an expression, of a call and of a run. The code leads from a machine state that pictures the source's
+-- state to one that pictures the outcome of evaluation, within so many instructions, heap and stack for its meters.
 use Rattle.std.specs.Prelude.{◌≡◌, ℕ, ◌+◌, ◌-◌, ◌*◌, ◌^◌, ◌<◌, ◌≤◌, ◌⊎◌, ℤ, pos, negsuc, suc, true, false, List, [], ◌++◌, length, map as each, slice_get, Some, Contains}
 use Rattle.mips_isa.specs.declared.address_map.TheConstants.{STACK_END}
 use Rattle.mips_isa.specs.Bytes.{Bytes, word}
@@ -41,7 +41,7 @@ use Rattle.cool_simulation.specs.Pictures.{Map, Pic, Pictures, Kept, Grown, Show
 use Rattle.cool_simulation.specs.Quiet.{ArePushesFree, IsQuiet}
 use Rattle.cool_simulation.specs.Visits.{Visit, Visits, all_begun, begun}
 
--- Where a run stands
+-- The state of a run
 
 -- a word at an offset from a base, which an instruction can hold
 abbrev pub IsWordAt : ℤ → ℕ → ℕ → Type 0
@@ -97,15 +97,15 @@ pub record Shown (l : Loading) (x : Visit) (s : Machine) : Type 0 where
 
 -- Runs
 
--- From s the machine comes to the goal in lo to hi instructions, or within hi to an exit by a limit. Wherever it stands on the way at a word that
--- is watched, it pictures a visit of the watched run. Where nothing is watched, this is Reaches.
+-- From s the machine comes to the goal in lo to hi instructions, or within hi to an exit by a limit. Wherever it stands on the way at a word that is
+-- watched, it pictures a visit of the watched run. If nothing is watched, this is Reaches.
 pub record Passes (l : Loading) (s : Machine) (lo hi : ℕ) (goal : Goal) : Type 0 where
   pub reaches : Reaches (whole l) s lo hi goal
   pub visits : (m : ℕ) (t : Machine) → m < reaches.count → run (whole_text l) l.world.segments m s ≡ Running t → marks l.watch t.core.pc ≡ true → (x : Visit) × Watched l.watch x × Shown l x t
 
--- What evaluation comes to
+-- The outcome of evaluation
 
--- The machine stands behind code or a call: with these pointers but for the heap's next address, the value in $a0, and $ra.
+-- The machine stands behind code or a call: with these pointers except for the heap's next address, the value in $a0, and $ra.
 pub record Done (l : Loading) (q : Pointers) (m : Bytes) (map : Map) (st : State) (words : ℕ) (v : Value) (t : State) (s : Machine) : Type 0 where
   pub gp : ℕ
   pub acc : ℕ
@@ -155,15 +155,15 @@ pub record Paused (t : State) (s : Machine) : Type 0 where
   pub output : s.output ≡ t.output
   pub input : s.input ≡ t.input
 
--- From s, with n steps, the machine comes to what an evaluation comes to, within so many instructions; each step takes one at least.
--- Where no rule applies, nothing is said.
+-- From s, with n steps, the machine comes to the outcome of an evaluation, within so many instructions; each step takes at least one. Nothing is stated if
+-- no rule applies.
 abbrev pub Runs : {A : Type 0} → Loading → Machine → ℕ → ℕ → (A → State → Machine → Type 0) → Outcome A → Type 0
 Runs l s n most K (Val v t left) = Passes l s (n - left) most (stands (K v t))
 Runs l s n most K (Stop e t) = Passes l s 0 most (exits 3 (Stopped l e t))
 Runs l s n most K (On t) = Passes l s n most (stands (Paused t))
 Runs l s n most K Stuck = Unit {0}
 
--- what is written and taken up to there is on the way of the whole run
+-- the output and the input up to there are on the way of the whole run
 abbrev pub Way : {A : Type 0} → Loading → Outcome A → Type 0
 Way l (Val v t left) = OnTheWay l.world t.output t.input
 Way l (Stop e t) = OnTheWay l.world (t.output ++ error_text l.table l.files e) t.input
@@ -257,6 +257,6 @@ pub record CallsCorrect (l : Loading) (calls : Calls) (begun_in : Call → Visit
       → Runs l s n (64 * (calls (Initials c self) st n).work + 20 * length (chain l.table c))
       (λ v. Done l (record q { pc = q.ra }) m map st (calls (Initials c self) st n).words self) (calls (Initials c self) st n).outcome
 
--- what expressions may count on: calls with fewer steps
+-- the assumption for expressions: calls with fewer steps
 abbrev pub AllCallsCorrect : Loading → Calls → (Call → Visits) → ℕ → Type 0
 AllCallsCorrect l calls begun_in b = (m : ℕ) → m < b → CallsCorrect l calls begun_in m

@@ -1,5 +1,5 @@
--- Which expressions an evaluation begins: by the rules of evaluation, its own expression, then the parts that its rule names, in that order,
--- each where what comes before it came to a value; and what is begun in the methods and initial values that it calls.
+-- The visits of an evaluation: the expressions that it begins. By the rules of evaluation these are its own expression, then the parts that its rule names,
+-- in that order, each if all parts before it came to a value; and the expressions begun in the methods and initial values that it calls.
 use Rattle.std.proofs.Common.{inl, inr, ap, arith}
 use Rattle.std.specs.Prelude.{◌≡◌, refl, ℕ, zero, suc, ◌+◌, Bool as Truth, true, false, ◌==◌, ◌⊎◌, List, [], ◌∷◌, ◌++◌, Option, Some, None, codes, bytes_eq, if◌then◌else◌}
 use Rattle.cool_syntax.specs.declared.file_tree.MethodDef.{MethodDef}
@@ -32,7 +32,7 @@ pub record Visit : Type 0 where
   pub state : State
   pub left : ℕ
 
--- what is begun from a state on, with so many steps
+-- the visits from a state on, with so many steps
 abbrev pub Visits : Type 1
 Visits = State → ℕ → Visit → Type 0
 
@@ -48,11 +48,11 @@ abbrev pub ◌or◌ : Visits → Visits → Visits
 abbrev pub provided : Type 0 → Visits → Visits
 provided A V st n x = A × V st n x
 
--- behind a computation that comes to a value
+-- the visits after a computation that comes to a value
 abbrev pub behind : {A : Type 0} → Computation A → (A → Visits) → Visits
 behind {A} d V st n x = (v : A) × (t : State) × (left : ℕ) × ((d st n).outcome ≡ Val v t left) × V v t left x
 
--- behind a step, where one is left
+-- the visits after a step, if one is left
 abbrev pub behind_step : Visits → Visits
 behind_step V st zero x = ⊥
 behind_step V st (suc n) x = V st n x
@@ -96,7 +96,7 @@ module _ (p : List Class) (calls : Calls) (begun_in : Call → Visits) where
     here env k t st n x = x ≡ record { class = c; feature = f; first = k; tree = t; self = self; environment = env; state = st; left = n }
 
     abbrev mutual
-      -- what an expression with so many nodes before it begins
+      -- the visits of an expression with so many nodes before it
       pub begun : Environment → ℕ → Tree → Visits
       begun env k (trees.Id at name) = here env k (trees.Id at name)
       begun env k (trees.Int at n) = here env k (trees.Int at n)
@@ -172,12 +172,12 @@ module _ (p : List Class) (calls : Calls) (begun_in : Call → Visits) where
   call_begun (Body owner i self vs) = method_begun owner i self vs (method_at p owner i)
   call_begun (Initials c self) = initials_begun self (attributes p c) (locations_of self)
 
--- what calls begin with at most so many steps left
+-- the visits of calls with at most so many steps left
 abbrev pub begun_within : List Class → ℕ → Call → Visits
 begun_within p zero call = nothing
 begun_within p (suc n) call = call_begun p (calls_within p n) (begun_within p n) call
 
--- What the run of a program with so many steps begins on an input: what `new Main` begins, and what `main` of the new object does.
+-- The visits of a program's run with so many steps on an input: those of `new Main`, and those of `main` of the new object.
 abbrev pub program_begun : List Class → List ℕ → ℕ → Visit → Type 0
 program_begun p input n =
     (made p (calls_within p n) (begun_within p n) (class_named p (codes "Main"))

@@ -33,7 +33,7 @@ files_more (f ∷ files) file h k = (h.0, files_more files file h.1 k)
 pub bytes_turn : (contents more : List (Vec ℕ)) (file : Vec ℕ) → more ≡ contents ++ file ∷ [] → AllByRecursion AreBytes (bytes_of contents) → AreBytes file.items → AllByRecursion AreBytes (bytes_of more)
 bytes_turn contents more file pushed so_far are = rw (bytes_more contents more file pushed) (files_more (bytes_of contents) file.items so_far are)
 
--- what they have together
+-- the total of their bytes
 pub total_turn : (contents more : List (Vec ℕ)) (file : Vec ℕ) → more ≡ contents ++ file ∷ [] → total (bytes_of more) ≡ total (bytes_of contents) + length file.items
 total_turn contents more file pushed = ap total (bytes_more contents more file pushed) ∙ total-push (bytes_of contents) file.items
 

@@ -1,4 +1,4 @@
--- What came of a shelf that was asked for nothing before.
+-- The results of a shelf that had not been asked for any file before.
 use Rattle.std.proofs.Common.{◌≡◌, ℕ, ◌⊎◌, inl, inr, List, [], ◌∷◌, ◌++◌, length, refl, sym, ◌∙◌, ap, arith}
 use Rattle.std.proofs.lemmas.List.{length_push}
 use Rattle.std.specs.Prelude.{Option, Some}
@@ -21,7 +21,7 @@ held_each files (name ∷ names) [] held = absurd held
 held_each files (name ∷ names) (bytes ∷ contents) held = omega (arith, held_each files names contents held.1)
 
 module _ (shelf : ShelfUse) (names : List (List ℕ)) (asked_none : shelf.asked_before ≡ []) (gave_none : shelf.gave_before ≡ []) where
-  -- what was read is what it gave
+  -- the files that were read are those that the shelf gave
   pub given : (contents : List (List ℕ)) → AreRead shelf names contents → contents ≡ shelf.gave_after
   given contents read = sym (read.gave ∙ ap (λ (xs : List (List ℕ)). xs ++ contents) gave_none)
 

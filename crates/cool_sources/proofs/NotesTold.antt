@@ -1,9 +1,9 @@
--- The note of a status that was told.
+-- The note of a status that was written.
 use Rattle.std.proofs.Common.{◌≡◌, ◌≢◌, ◌⊎◌, inl, inr, ap, ◌∙◌, sym}
 use Rattle.cool_sources.specs.declared.status.Status.{Status}
 use Rattle.cool_sources.specs.declared.status.Status.TheVariants.{WriteFault}
 
--- where no write failed, the status is the one that was told, and so what is due for it
+-- if no write failed, the status is the one that was noted, and so is the result that is due for it
 pub told : {X : Type 0} (due : Status → X) (status result : Status) → (result ≡ status) ⊎ (result ≡ WriteFault) → result ≢ WriteFault → due status ≡ due result
 told due status result (inl same) other = ap due (sym same)
 told due status result (inr failed) other = absurd (other failed)

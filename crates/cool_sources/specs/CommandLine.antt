@@ -1,4 +1,4 @@
--- What the words of a command line ask for: which of two forms, and the names of files.
+-- The meaning of the arguments: which of two forms is requested, and the names of files.
 use Rattle.std.specs.Prelude.{◌≡◌, refl, ℕ, List, [], ◌∷◌, map, string_bytes, codes, Bool, true, false, Option, Some, None, nat_eq, if◌then◌else◌}
 use Rattle.std.specs.List.{list_any}
 use Rattle.std.specs.Str.{bytes_eq}
@@ -10,7 +10,7 @@ use Rattle.cool_sources.specs.declared.command_line.Call.{Call}
 abbrev pub words_of : List (String Global) → List (List ℕ)
 words_of = map string_bytes
 
--- a word that begins with - is an option, but for - alone
+-- a word that begins with - is an option, except - itself
 abbrev pub is_option : List ℕ → Bool
 is_option [] = false
 is_option (b ∷ []) = false

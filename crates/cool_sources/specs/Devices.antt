@@ -1,8 +1,8 @@
--- How the devices of a call fared: its shelf, and a sink. Each is told by what stood before the call and after it.
+-- The use of a call's devices, a shelf and a sink: the state of each before the call and after it.
 use Rattle.std.specs.Prelude.{◌≡◌, ℕ, List, ◌++◌, Option}
 use Rattle.cool_ports.specs.ShelfFiles.{FileMap, AreHeld}
 
--- What a shelf tells, its count of faults, the names that it was asked for, and the bytes of each file that it gave.
+-- The use of a shelf: its files if it tells them, its count of faults, the names that it was asked for, and the bytes of each file that it gave.
 pub record ShelfUse : Type 0 where
   pub files : Option FileMap
   pub faults_before : ℕ
@@ -35,7 +35,7 @@ pub record AreRead (shelf : ShelfUse) (names contents : List (List ℕ)) : Type 
   pub asked : shelf.asked_after ≡ shelf.asked_before ++ names
   pub gave : shelf.gave_after ≡ shelf.gave_before ++ contents
 
--- What a sink holds, where it tells that, its count of faults, and what it was given to put.
+-- The use of a sink: the bytes that it holds if it tells them, its count of faults, and the bytes that it was given to put.
 pub record SinkUse : Type 0 where
   pub held_before : Option (List ℕ)
   pub held_after : Option (List ℕ)

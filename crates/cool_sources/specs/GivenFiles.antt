@@ -1,4 +1,4 @@
--- What a shelf gave that was asked for nothing before.
+-- The files that were given by a shelf that had not been asked for any before.
 use Rattle.std.specs.Prelude.{◌≡◌, ℕ, ◌+◌, ◌<◌, ◌⊎◌, List, [], length}
 use Rattle.cool_syntax.specs.declared.TheConstants.{MOST_FILES}
 

@@ -1,4 +1,4 @@
--- Why files are not read: they are too many, or the shelf refuses one of them.
+-- The reasons why files are not read: they are too many, or the shelf refuses one of them.
 use Rattle.std.specs.Prelude.{◌≡◌, ℕ, ◌-◌, ◌<◌, ◌≤◌, ◌⊎◌, List, [], ◌∷◌, ◌++◌, length, Option}
 use Rattle.cool_syntax.specs.declared.TheConstants.{MOST_FILES, MOST_SOURCE_BYTES}
 use Rattle.cool_faults.specs.Files.{total}
@@ -31,7 +31,7 @@ pub record IsRefusedAt (shelf : ShelfUse) (names : List (List ℕ)) (most : ℕ)
   pub within : total contents ≤ most
   pub cause : IsCause shelf.files shelf.faults_before shelf.faults_after name (most - total contents) fault
 
--- where the reading of files stops
+-- the file at which reading stops, and the reason
 abbrev pub IsStop : ShelfUse → List (List ℕ) → ℕ → ReadError → Type 0
 IsStop shelf names most Memory = Unit {0}
 IsStop shelf names most (Refused name fault) = IsRefusedAt shelf names most name.now fault

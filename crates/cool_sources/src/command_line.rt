@@ -1,10 +1,10 @@
-//! The command line of a program that writes one of two forms: which form is asked for, and of which files.
+//! The command line of a program that writes one of two forms: the requested form, and the names of files.
 
 ghost use Rattle.std.specs.Prelude.{◌≡◌};
 ghost use Rattle.std.specs.List.{list_any};
 ghost use Rattle.cool_sources.specs.CommandLine.{IsCall, call_of, is_option, names_of, words_of};
 
-/// What a command line asks for.
+/// A parsed command line.
 #[derive(Drop)]
 pub struct Call<'a> {
     /// Whether its first word is the option that chooses the other form.
@@ -13,8 +13,8 @@ pub struct Call<'a> {
     pub names: &'a [String],
 }
 
-/// What these words ask for: a first word that is this option chooses the other form, and all words after `--` are names. `None` where another word
-/// begins with `-`, but for `-` alone.
+/// Parses these arguments. If the first is this option, the other form is requested; all arguments after `--` are names. `None` if another argument begins
+/// with `-`, except `-` itself.
 pub fn call_of<'a>(option: &str, words: &'a [String]) -> Option<Call<'a>>
     ensures { IsCall (call_of option.now (words_of words.now)) result }
 {
@@ -55,7 +55,7 @@ fn has_option(words: &[String]) -> bool
     false
 }
 
-/// Whether a word is an option: it begins with `-`, and is not `-` alone.
+/// Whether a word is an option: it begins with `-`, and is not `-` itself.
 fn is_option(word: &str) -> bool
     ensures { result ≡ is_option word.now }
 {

@@ -1,6 +1,6 @@
-//! Source files as a call reads them by their names, and how the call ends and notes that.
+//! Reading the source files of a call by their names, and the call's exit status and its note.
 //!
-//! Comes in: the names of files, a shelf, and a sink for a note. Goes out: the bytes of the files, or a status. `specs/Devices.antt` defines how
+//! Input: the names of files, a shelf, and a sink for a note. Output: the bytes of the files, or a status. `specs/Devices.antt` defines how
 //! shelf and sink fare, `specs/Reading.antt` why files are not read, `specs/Statuses.antt` the statuses, and `specs/GivenFiles.antt` what a fresh
 //! shelf gave.
 #![tactic(auto)]

@@ -1,4 +1,4 @@
-//! Reading the files.
+//! Reading the source files of a call.
 
 ghost use Rattle.std.specs.Prelude.{◌≡◌, ◌≤◌, ◌<◌, ◌^◌, ◌⊎◌, length, map, string_bytes, IfOk, IfErr, OnOk, OnErr};
 ghost use Rattle.std.specs.List.{AllByRecursion};
@@ -17,7 +17,7 @@ use std::alloc::{AllocError, AllocFailed, Global};
 /// Why not all files were read.
 #[derive(Clone, Copy)]
 pub enum ReadError<'a> {
-    /// Want of memory.
+    /// Out of memory.
     Memory,
     /// The shelf refused the file of this name.
     Refused(&'a str, ShelfFault),

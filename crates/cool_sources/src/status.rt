@@ -1,4 +1,4 @@
-//! How a call ends, and its note.
+//! The exit status of a call, and its note.
 
 ghost use Rattle.std.specs.Prelude.{◌≡◌, ◌≢◌, ◌<◌, ◌≤◌, ◌⊎◌, [], ◌∷◌, ◌++◌, length};
 ghost use Rattle.cool_ports.specs.Counts.{Rose};
@@ -8,10 +8,10 @@ ghost use Rattle.cool_sources.specs.Statuses.{code_of};
 use cool_ports::{Failed, Sink};
 use std::alloc::{AllocError, AllocFailed};
 
-/// How a call ends, as for `cool`.
+/// The exit status of a call, as for `cool`.
 #[derive(Clone, Copy)]
 pub enum Status {
-    /// What was asked for was written.
+    /// The requested output was written.
     Done = 0,
     /// The files have faults.
     Refused = 1,

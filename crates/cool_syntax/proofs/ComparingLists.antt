@@ -16,7 +16,7 @@ same_length f [] (v ∷ vs) h = absurd cc
 same_length f (u ∷ us) [] h = absurd cc
 same_length f (u ∷ us) (v ∷ vs) h = omega (arith, same_length f us vs cc)
 
--- what holds of all places holds of the lists
+-- a property of all places holds of the lists
 pub same_whole : {A B : Type 0} (f : A → B) (xs ys : List A) (i : ℕ) → length xs ≤ i → length xs ≡ length ys → map f (take i xs) ≡ map f (take i ys) → map f xs ≡ map f ys
 same_whole f xs ys i p e h =
     let a : take i xs ≡ xs = take_all i xs p in

@@ -1,4 +1,4 @@
--- What the grammar makes of tokens can be written: no block and no case in it is empty.
+-- The tree that the grammar makes of tokens can be written: no block and no case in it is empty.
 use Rattle.std.proofs.Common.{List, [], ◌∷◌, subst}
 use Rattle.std.specs.List.{AllByRecursion}
 use Rattle.std.proofs.ByRecursion.{All-append}

@@ -1,4 +1,4 @@
--- In the list of a tree the parts of each node stand before it.
+-- In the list of a tree, the parts of each node come before it.
 use Rattle.std.proofs.Common.{◌≡◌, ℕ, ◌+◌, ◌≤◌, ◌<◌, List, [], ◌∷◌, ◌++◌, IfSome, length, subst, length-append, arith}
 use Rattle.std.specs.List.{AllByRecursion}
 use Rattle.cool_syntax.specs.declared.place.Place.{Place}
@@ -35,7 +35,7 @@ ordered_node h = record { all = (h, tt) }
 root_below : (t : Tree) (base k : ℕ) → base + tree_size t ≤ k → (root base t).0 < k
 root_below t base k h = omega (arith, one_le_size t)
 
--- those of trees in order
+-- the roots of trees in order
 roots_below : (ts : Trees) (base k : ℕ) → base + trees_size ts ≤ k → AllByRecursion (λ c. c.0 < k) (roots base ts)
 roots_below Last base k h = tt
 roots_below (More t ts) base k h = (root_below t base k (omega arith), roots_below ts (base + tree_size t) k (omega arith))
@@ -45,7 +45,7 @@ maybe_below : (o : MaybeTree) (base k : ℕ) → base + maybe_size o ≤ k → I
 maybe_below Without base k h = tt
 maybe_below (With t) base k h = root_below t base k h
 
--- those of the branches of a case
+-- the roots of the branches of a case
 branch_roots_below : (cs : Cases) (base k : ℕ) → base + cases_size cs ≤ k → AllByRecursion (λ b. b.body.0 < k) (branch_roots base cs)
 branch_roots_below NoCase base k h = tt
 branch_roots_below (CaseOf at name declared t cs) base k h =

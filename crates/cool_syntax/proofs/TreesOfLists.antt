@@ -94,7 +94,7 @@ parts_end (trees.Block at ts) = (parts_of_all ts, refl)
 parts_end (trees.Let at name declared o a) = (parts_of_maybe o ++ parts a, refl)
 parts_end (trees.Case at a cs) = (parts a ++ parts_of_cases cs, refl)
 
--- what comes before a tree and its nodes, in number
+-- the number of trees before a tree and its nodes
 next : (ts us : List Tree) (base n : ℕ) → base ≡ length ts → length us ≡ n → base + n ≡ length (ts ++ us)
 next ts us base n e p = omega (arith, length-append ts us)
 
@@ -118,7 +118,7 @@ at_roots (More t ts) ws front back base e p =
     let b = at_roots ts ws (front ++ parts t) back (base + tree_size t) (next front (parts t) base _ e (length-parts t)) (p ∙ s) in
     λ i. More (a i) (b i)
 
--- of a tree or none
+-- for a tree or none
 at_root_of_maybe : (o : MaybeTree) (ws front back : List Tree) (base : ℕ) → base ≡ length front → ws ≡ front ++ (parts_of_maybe o ++ back) → of_option (option_map (at_id ws) (root_of_maybe base o)) ≡ o
 at_root_of_maybe Without ws front back base e p = refl
 at_root_of_maybe (With t) ws front back base e p = ap With (at_root t ws front back base e p)

@@ -1,5 +1,5 @@
--- What a file writes, by the forms of the grammar (Cool manual, section 11 and its figure 1): a concrete tree keeps parentheses, and the
--- place of each of its tokens. Lists of parts grow at their end.
+-- Concrete trees: the source text of a file, by the forms of the grammar (Cool manual, section 11 and its figure 1). A concrete tree keeps parentheses, and
+-- the place of each of its tokens. Lists of parts grow at their end.
 use Rattle.std.specs.Prelude.{ℕ, Bool, List}
 use Rattle.cool_syntax.specs.declared.place.Place.{Place}
 use Rattle.cool_syntax.specs.declared.type_ref.TypeRef.{TypeRef}
@@ -54,7 +54,7 @@ mutual
     -- prefix operand
     Before : (prefix : Prefix) (operand : Concrete) → Concrete
 
-  -- what is called
+  -- the object and class of a call
   pub data Callee : Type 0 where
     -- name
     OfSelf : (name : List ℕ) (at : Place) → Callee

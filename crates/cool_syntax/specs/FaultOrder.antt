@@ -3,12 +3,12 @@
 use Rattle.std.specs.Prelude.{◌≡◌, ◌⊎◌, ℕ, ◌<◌, ◌≤◌, List, [], ◌∷◌}
 use Rattle.cool_syntax.specs.declared.place.Place.{Place}
 
--- where a fault stands, and the rank of its kind
+-- the place of a fault, and the rank of its kind
 pub record Standing : Type 0 where
   pub at : Place
   pub rank : ℕ
 
--- the first number is less, or they are equal and what follows decides
+-- the first number is less, or they are equal and the rest decides
 abbrev pub IsLessOr : ℕ → ℕ → Type 0 → Type 0
 IsLessOr m n Follows = (m < n) ⊎ ((m ≡ n) × Follows)
 

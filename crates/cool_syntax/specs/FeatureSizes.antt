@@ -1,5 +1,5 @@
--- How large a feature is: its formals, and the nodes and the branches of its expression, together. A bounded class has no feature
--- larger than a run of tokens may be long.
+-- The size of a feature: its formals, and the nodes and the branches of its expression, together. A bounded class has no feature larger than a run of
+-- tokens may be long.
 use Rattle.std.specs.Prelude.{◌≡◌, ℕ, ◌+◌, ◌≤◌, [], ◌∷◌, length, codes, Option, Some, None, refl}
 use Rattle.std.specs.List.{AllByRecursion}
 use Rattle.cool_syntax.specs.declared.TheConstants.{MOST_TOKENS}
@@ -12,7 +12,7 @@ use Rattle.cool_syntax.specs.Tree.{Tree, Trees, MaybeTree, Cases, NoCase, CaseOf
 use Rattle.cool_syntax.specs.Tree as trees
 use Rattle.cool_syntax.specs.Gatherings.{Gathering, gathered, gathered_all, gathered_maybe, gathered_cases}
 
--- how many branches the cases of a tree have
+-- the number of branches of the cases of a tree
 abbrev branches : Gathering ℕ
 branches = record { none = 0; both = ◌+◌; form = λ form. 0; branch = λ body. 1 + body }
 

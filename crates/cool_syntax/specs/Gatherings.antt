@@ -1,9 +1,9 @@
--- What is gathered over a tree from its forms without parts and the branches of its cases, as a number or a fact of each. The other forms
--- add nothing of their own: they come to what their parts come to together.
+-- Folds over trees, from a number or a fact of each form without parts and of each branch of a case. The other forms add nothing of their own: their result
+-- is that of their parts together.
 use Rattle.cool_syntax.specs.Tree.{Leaf, Tree, Trees, MaybeTree, Cases, Last, More, Without, With, NoCase, CaseOf}
 use Rattle.cool_syntax.specs.Tree.{leaf, unary, binary, call, If, Block, Let, Case}
 
--- what no part comes to, what two come to together, and what a form without parts does, and a branch whose body comes to something
+-- the results for no part, for two parts together, for a form without parts, and for a branch from that of its body
 pub record Gathering {ℓ} (R : Type ℓ) : Type ℓ where
   pub none : R
   pub both : R → R → R

@@ -36,7 +36,7 @@ is_in_word b = is_capital b || (is_small b || (is_digit b || b == 95))
 abbrev pub is_white : ℕ → Bool
 is_white b = b == 32 || (b == 10 || (b == 12 || (b == 13 || (b == 9 || b == 11))))
 
--- what the first byte of a form is
+-- the class of the first byte of a form
 pub data Class : Type 0 where
   Capital : Class
   Small : Class
@@ -134,7 +134,7 @@ value = fold (λ n b. 10 * n + (b - 48)) 0
 
 -- Strings
 
--- what a byte of a string is
+-- the meaning of a byte of a string
 pub data Piece : Type 0 where
   Ends : Piece
   Newline : Piece
@@ -164,7 +164,7 @@ denoted Backslash bs rest = rest
 denoted Newline bs rest = None
 denoted Null bs rest = None
 
--- The constant of a string, by what stands after its opening quote, the closing one included. It stands after a backslash or not.
+-- The constant of a string, from the text after its opening quote, the closing one included. The flag says whether a backslash comes before.
 abbrev pub constant : Bool → List ℕ → Option (List ℕ)
 constant escaped [] = None
 constant escaped (b ∷ bs) = denoted (piece escaped b) bs (constant (is_backslash (piece escaped b)) bs)
@@ -176,7 +176,7 @@ pub data Mark : Type 0 where
   Closes : Mark
   Plain : Mark
 
--- what a text begins with
+-- the mark that a text begins with
 abbrev pub mark : List ℕ → Mark
 mark (b ∷ c ∷ bs) = if b == 40 && c == 42 then Opens else (if b == 42 && c == 41 then Closes else Plain)
 mark (b ∷ []) = Plain
@@ -187,7 +187,7 @@ depth_after Opens d = d + 1
 depth_after Closes d = d - 1
 depth_after Plain d = d
 
--- how many bytes of a mark stand after its first
+-- the number of bytes of a mark after its first
 abbrev pub more_bytes : Mark → ℕ
 more_bytes Plain = 0
 more_bytes _ = 1
@@ -196,7 +196,7 @@ abbrev pub ended : Mark → ℕ → Option ℕ → Option ℕ
 ended Closes (suc zero) rest = Some 2
 ended _ d rest = option_map (λ n. n + 1) rest
 
--- How many bytes there are up to where d comments that are open are closed, k bytes passed over first. Comments nest.
+-- The number of bytes up to the point where d open comments are closed, after k bytes passed over. Comments nest.
 abbrev pub comment_size : ℕ → ℕ → List ℕ → Option ℕ
 comment_size d k [] = None
 comment_size d (suc k) (b ∷ bs) = option_map (λ n. n + 1) (comment_size d k bs)

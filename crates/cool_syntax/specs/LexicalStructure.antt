@@ -1,5 +1,4 @@
--- Cool's lexical structure (manual, section 10), with this compiler's limits: which bytes are which tokens, and what the first fault of
--- a text is and where it stands.
+-- Cool's lexical structure (manual, section 10), with this compiler's limits: which bytes are which tokens, and the first fault of a text with its place.
 use Rattle.std.specs.Prelude.{◌≡◌, ◌⊎◌, ℕ, ◌+◌, ◌-◌, ◌≤◌, ◌<◌, Bool, false, ◌&&◌, ◌==◌, nat_lt, if◌then◌else◌, List, [], ◌∷◌, ◌++◌, length, take, drop, codes, Option, Some, None, refl}
 use Rattle.std.specs.List.{count_by, take_while}
 use Rattle.std.specs.Option.{is_none}
@@ -32,7 +31,7 @@ fault_at k offset = Some (record { kind = k; offset = offset })
 abbrev pub fault_if : Bool → LexKind → Option Fault
 fault_if holds k = if holds then fault_at k 0 else None
 
--- The fault that a piece of a string shows, where its constant has `held` bytes so far; `rest` is that of what follows.
+-- The fault that a piece of a string shows, where its constant has `held` bytes so far; `rest` is that of the bytes that follow.
 abbrev pub shown : Piece → ℕ → ℕ → Option Fault → Option Fault
 shown lexemes.Ends offset held rest = None
 shown lexemes.Newline offset held rest = fault_at L2 0
@@ -86,7 +85,7 @@ pub record Item : Type 0 where
   pub offset : ℕ
   pub size : ℕ
 
--- These items, one after the other, are what stands from one place to another; `rest` stands at the first, `left` at the second.
+-- These items, one after the other, are the text from one place to another; `rest` stands at the first, `left` at the second.
 abbrev pub Leads : ℕ → List ℕ → List Item → ℕ → List ℕ → Type 0
 Leads at rest [] to left = (at ≡ to) × (rest ≡ left)
 Leads at rest (i ∷ is) to left = (i.offset ≡ at) × IsItem rest i.form i.size × Leads (at + i.size) (drop i.size rest) is to left
@@ -102,7 +101,7 @@ tokens_of file bytes (i ∷ is) = token_of i.form (place_at file bytes i.offset)
 
 -- Runs
 
--- how deep the tokens so far stand in braces and cases, and how many of them are in the run that goes on
+-- the depth of the tokens so far in braces and cases, and the number of those in the current run
 pub record Run : Type 0 where
   pub depth : ℕ
   pub length : ℕ
@@ -144,7 +143,7 @@ pub record Lexes (file : ℕ) (bytes : List ℕ) (tokens : List Token) : Type 0 
   pub lexemes : tokens ≡ tokens_of file bytes items
   pub runs : FitsRuns first_run tokens
 
--- What stands at the place shows a fault, or is a token one too many for its run.
+-- The item at the place shows a fault, or is a token one too many for its run.
 abbrev pub Shows : ℕ → List ℕ → ℕ → List ℕ → Run → LexKind → Place → Type 0
 Shows file bytes at left r k place =
     ((offset : ℕ) × (fault left ≡ fault_at k offset) × (place ≡ place_at file bytes (at + offset)))

@@ -1,5 +1,5 @@
--- The limits of a program's source, each by its value: how many files there may be, how many bytes they may have together, how
--- many bytes a string may have, and how many tokens may stand in a run.
+-- The limits of a program's source, each by its value: the number of files, the number of their bytes together, the number of bytes of a string, and the
+-- number of tokens in a run.
 use Rattle.std.specs.Prelude.{◌≡◌, refl}
 use Rattle.cool_syntax.specs.declared.TheConstants.{MOST_FILES, MOST_SOURCE_BYTES, MOST_BYTES, MOST_TOKENS}
 

@@ -166,7 +166,7 @@ HasPartsBelow k (node.Int at value) = Unit {0}
 HasPartsBelow k (node.Str at bytes) = Unit {0}
 HasPartsBelow k (node.Bool at value) = Unit {0}
 
--- from this number on the parts of each node stand before it
+-- from this number on, the parts of each node come before it
 abbrev pub Ordered : ℕ → List Node → Type 0
 Ordered k [] = Unit {0}
 Ordered k (n ∷ ns) = HasPartsBelow k n × Ordered (k + 1) ns

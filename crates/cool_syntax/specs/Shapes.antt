@@ -1,7 +1,6 @@
--- Which concrete trees are shaped: every operand binds as tightly as the operator beside it asks. The levels (Cool manual, section 11.1)
--- are, from low to high, 0 `let`, 1 `<-`, 2 `not`, 3 comparisons, 4 `+ -`, 5 `* /`, 6 `isvoid`, 7 `~`; dispatches and atoms bind more
--- tightly than all of them. Arithmetic associates to the left, an assignment to the right, and comparisons do not associate. A let
--- extends as far to the right as it can (section 7.8).
+-- Shaped concrete trees: every operand binds as tightly as the operator beside it asks. The levels (Cool manual, section 11.1) are, from low to high, 0
+-- `let`, 1 `<-`, 2 `not`, 3 comparisons, 4 `+ -`, 5 `* /`, 6 `isvoid`, 7 `~`; dispatches and atoms bind more tightly than all of them. Arithmetic
+-- associates to the left, an assignment to the right, and comparisons do not associate. A let extends as far to the right as it can (section 7.8).
 use Rattle.std.specs.Prelude.{ℕ, ◌<◌, ◌≤◌, codes}
 use Rattle.std.proofs.Common.{arith}
 use Rattle.cool_syntax.specs.declared.place.Place.{Place}
@@ -127,7 +126,7 @@ IsShapedFile (Class before heading features rbrace semi) = IsShapedFile before �
 
 -- Worked examples
 
--- of `a < b < c` neither grouping is shaped
+-- neither grouping of `a < b < c` is shaped
 abbrev less : Place → Concrete → Concrete → Concrete
 less p left right = Binary left (Compare compare_op.Less) p right
 

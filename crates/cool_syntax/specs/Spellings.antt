@@ -1,4 +1,4 @@
--- How a name is kept.
+-- The spelling of a name, from how the code stores it.
 use Rattle.std.specs.Prelude.{◌≡◌, ℕ, ◌-◌, ◌≤◌, List, length, take, drop, replicate}
 use Rattle.cool_syntax.specs.declared.text.Spelling as declared
 use Rattle.cool_syntax.specs.declared.text.Spelling.TheVariants.{Short, Long}

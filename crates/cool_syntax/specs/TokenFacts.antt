@@ -1,5 +1,5 @@
--- What the layers above the lexer may count on: each token is its lexeme within the limits, the tokens stand in rising places of their
--- file, and they take no more bytes than the file has.
+-- The properties of tokens that the layers above the lexer may rely on: each token is its lexeme within the limits, the tokens stand in rising places of
+-- their file, and they take no more bytes than the file has.
 use Rattle.std.specs.Prelude.{◌≡◌, ℕ, ◌+◌, ◌<◌, ◌≤◌, List, [], ◌∷◌, length, codes, Some, refl}
 use Rattle.std.specs.List.{AllByRecursion}
 use Rattle.cool_syntax.specs.declared.TheConstants.{MOST_BYTES, MOST_SOURCE_BYTES}

@@ -26,7 +26,7 @@ pub data Binary : Type 0 where
   compare : (op : CompareOp) → Binary
   while : Binary
 
--- what a dispatch names beside its receiver: a method of the object's own class, or of a named one
+-- the method of a dispatch: one of the object's own class, or of a named one
 pub data Call : Type 0 where
   dynamic : (name : List ℕ) → Call
   static : (class : TypeRef) (name : List ℕ) → Call
@@ -105,7 +105,7 @@ pub record Twig : Type 0 where
   pub declared : TypeRef
   pub body : Tree
 
--- what a form without parts comes to by its integer, and by its string; none where it has no such constant
+-- the result for a form without parts by its integer, and by its string; a default if it has no such constant
 abbrev pub integer_or {ℓ} : {R : Type ℓ} → R → (ℕ → R) → Leaf → R
 integer_or none f (new class) = none
 integer_or none f (id name) = none
@@ -131,7 +131,7 @@ place_of (Block at ts) = at
 place_of (Let at name declared o t) = at
 place_of (Case at t cs) = at
 
--- how many nodes a tree has: itself, and those of its parts
+-- the number of nodes of a tree: itself, and those of its parts
 abbrev mutual
   pub tree_size : Tree → ℕ
   tree_size (leaf at form) = 1

@@ -1,5 +1,5 @@
--- What the lexer says of its tokens, said of the tree that they make: each name is its own lexeme and no keyword, each string keeps its
--- limit, and each place is in one of so many files. An integer is any word: a source has those below 2 ^ 31, and folding makes the others.
+-- The lexer's promises about its tokens, as properties of the tree that they make: each name is its own lexeme and no keyword, each string keeps its limit,
+-- and each place is in one of so many files. An integer is any word: a source has those below 2 ^ 31, and folding makes the others.
 use Rattle.std.specs.Prelude.{ℕ, ◌<◌, ◌^◌, List, IfSome, codes, refl}
 use Rattle.std.specs.List.{AllByRecursion}
 use Rattle.cool_syntax.specs.declared.token.TokenKind.TheVariants as kind

@@ -1,4 +1,4 @@
--- How much a text holds: the names of its classes, and the formals, nodes, branches and bytes of string constants of its features.
+-- The weight of a text: the names of its classes, and the formals, nodes, branches and bytes of string constants of its features.
 use Rattle.std.specs.Prelude.{◌≡◌, ℕ, ◌+◌, List, [], ◌∷◌, length, codes, Option, Some, None, refl}
 use Rattle.cool_syntax.specs.declared.place.Place.{Place}
 use Rattle.cool_syntax.specs.declared.type_ref.TypeRef.{TypeRef}
@@ -10,7 +10,7 @@ use Rattle.cool_syntax.specs.Tree as trees
 use Rattle.cool_syntax.specs.Gatherings.{Gathering, gathered, gathered_all, gathered_maybe, gathered_cases}
 use Rattle.cool_syntax.specs.FeatureSizes.{feature_size}
 
--- how many bytes the string constants of a tree have
+-- the number of bytes of the string constants of a tree
 abbrev texts : Gathering ℕ
 texts = record { none = 0; both = ◌+◌; form = string_or 0 (λ bytes. length bytes); branch = λ body. body }
 

@@ -42,7 +42,7 @@ impl Body {
         Body { nodes }
     }
 
-    /// How many nodes there are.
+    /// The number of nodes.
     pub fn len(&self) -> u32
         ensures { result ≡ tree_size self.now }
     {

@@ -1,4 +1,4 @@
-//! What a source file says: its classes with their features (the Cool manual, section 11).
+//! The classes of a source file with their features (the Cool manual, section 11).
 
 use crate::body::Body;
 use crate::listed::Listed;

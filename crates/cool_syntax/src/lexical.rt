@@ -1,6 +1,6 @@
 //! The kinds of lexical faults.
 
-/// Why a text has no list of tokens.
+/// The reason why a text has no list of tokens.
 #[derive(Clone, Copy)]
 pub enum LexKind {
     /// A byte begins no lexeme. Its place is the byte.

@@ -36,7 +36,7 @@ impl<T: Drop> Listed<T> {
         items
     }
 
-    /// Adds an item at the end. `Err` comes only for want of memory, leaves the list as it is, and lets the item go.
+    /// Adds an item at the end. Returns `Err` only if memory runs out; then the list stays as it is, and the item is dropped.
     pub fn push(&mut self, item: T) -> Result<(), AllocError>
         ensures { self.new ≡ (if is_ok result then self.old ++ item ∷ [] else self.old) }
     {

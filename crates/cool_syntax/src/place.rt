@@ -1,4 +1,4 @@
-//! Where something stands in the source files.
+//! Source locations: file, line and byte.
 
 /// A place in the files of one command.
 ///

@@ -22,7 +22,7 @@ impl Model for Bytes {
 }
 
 impl Bytes {
-    /// A copy of the bytes. `Err` comes only for want of memory.
+    /// A copy of the bytes. Returns `Err` only if memory runs out.
     pub fn new(alloc: Global, bytes: &[u8]) -> Result<Self, AllocError>
         ensures copied { IfOk result (λ copy. copy ≡ bytes.now) }
     {
@@ -38,7 +38,7 @@ impl Bytes {
         Bytes { bytes }
     }
 
-    /// A copy. `Err` comes only for want of memory.
+    /// A copy. Returns `Err` only if memory runs out.
     pub fn copy(&self, alloc: Global) -> Result<Self, AllocError>
         ensures copied { IfOk result (λ copy. copy ≡ self.now) }
     {
@@ -56,7 +56,7 @@ impl Bytes {
 /// The most bytes of a name that takes no memory of its own.
 pub const MOST_SHORT_NAME: usize = 14;
 
-/// A name takes 16 bytes, and what a long one is boxed in.
+/// A name takes 16 bytes, plus the box of a long one.
 const _: () = prove!(size_of::<Name>() == 16);
 
 /// The name of a class, a feature, a formal or a variable, in 16 bytes: a name of up to `MOST_SHORT_NAME` bytes stands in them, and a longer
@@ -91,7 +91,7 @@ impl Model for Name {
 }
 
 impl Name {
-    /// A copy of the bytes of the name. `Err` comes only for want of memory.
+    /// A copy of the bytes of the name. Returns `Err` only if memory runs out.
     pub fn new(alloc: Global, bytes: &[u8]) -> Result<Self, AllocError>
         ensures copied { IfOk result (λ name. name ≡ bytes.now) }
     {
@@ -103,7 +103,7 @@ impl Name {
         Ok(Name { spelling })
     }
 
-    /// A copy. `Err` comes only for want of memory.
+    /// A copy. Returns `Err` only if memory runs out.
     pub fn copy(&self, alloc: Global) -> Result<Self, AllocError>
         ensures copied { IfOk result (λ copy. copy ≡ self.now) }
     {

@@ -17,7 +17,7 @@ pub struct TypeRef {
 }
 
 impl TypeRef {
-    /// A copy. `Err` comes only for want of memory.
+    /// A copy. Returns `Err` only if memory runs out.
     pub fn copy(&self, alloc: Global) -> Result<TypeRef, AllocError>
         ensures copied { IfOk result (λ copy. copy ≡ self.now) }
     {

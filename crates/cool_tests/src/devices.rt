@@ -1,5 +1,5 @@
-//! Calls over objects in memory of which one call fails: what is written then, and in how many puts, which clauses of `cool` tell for
-//! notes and images alone. What else a command does is shown by the cases of `conformance/`.
+//! Tests of calls over objects in memory of which one call fails: the bytes written then, and the number of puts, for which clauses of `cool` specify only
+//! notes and images. The cases of `conformance/` show everything else that commands do.
 
 use cool_driver::cool;
 use cool_ports::{MemShelf, MemSink, MemSource};
@@ -67,7 +67,7 @@ static FILES: [(&str, &[u8]); 9] = [
     ("script", b"step 1\nstep 2\n"),
 ];
 
-/// Which read, put, take and note are to fail, from 1, or 0 for none.
+/// The numbers of the read, put, take and note that are to fail, from 1, or 0 for none.
 type Failing = (u64, u64, u64, u64);
 
 /// A call: its words, its input and what is to fail; and its status, its output and its notes.
@@ -80,7 +80,7 @@ type Row = (
     &'static [u8],
 );
 
-/// What a call reads and writes.
+/// The devices of a call, which it reads and writes.
 #[derive(Drop)]
 struct Devices {
     files: MemShelf,
@@ -285,7 +285,7 @@ static ROWS: [Row; 35] = [
         b"aaaaaaaaaaaaaaaaaaaaaaaaaaaaaaaaaaaaaaaaaaaaaaaaaaaaaaaaaaaaaaaaaaaaaaCOOL program successfully executed\n",
         b"",
     ),
-    // What came before a read or a write that fails stands.
+    // All that came before a read or a write that fails is kept.
     (
         &["run", "question.cl"],
         b"x",

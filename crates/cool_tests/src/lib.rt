@@ -1,5 +1,5 @@
-//! Tests of the crates below, of what no clause says: devices that fail at a given call, and calls that no command makes, once each
-//! with memory enough. They stand apart, since a crate that has tests is proved once more with them.
+//! Tests of the crates below, for cases that no clause covers: devices that fail at a given call, and calls that no command makes, once each with enough
+//! memory. They are a crate of their own, since a crate that has tests is proved once more with them.
 #![tactic(auto)]
 
 #[cfg(test)]

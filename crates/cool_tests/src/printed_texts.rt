@@ -1,5 +1,4 @@
-//! Lines as they are printed, after a text was read: no command writes the lines of a text. What a text is, and the faults of one, is
-//! shown by the cases of `conformance/`.
+//! Tests of printing the lines of a text that was read, which no command does. The cases of `conformance/` show the syntax of texts and their faults.
 
 use mips_text::{print_asm, read_asm};
 use std::test::Fail;

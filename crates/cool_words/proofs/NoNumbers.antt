@@ -29,7 +29,7 @@ no_plus c cs e =
 past_bounds : (b : Bool) (low high n : ℕ) → high < n → (b && is_within low high n) ≡ false
 past_bounds b low high n past = grind arith
 
--- what is not below 2^64 is past a bound that is
+-- a number that is not below 2^64 exceeds a bound that is
 past_64 : (n high : ℕ) → high < 2 ^ 64 → (n < 2 ^ 64 → ⊥) → high < n
 past_64 n high fits fails = grind (arith, fails)
 

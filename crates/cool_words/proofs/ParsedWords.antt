@@ -1,4 +1,4 @@
--- What clap's contract says of a command's words.
+-- The consequences of clap's contract for a command's words.
 use Rattle.std.proofs.Common.{◌≡◌, ◌∙◌, sym, ap, refl, inl, inr, arith, true, false, List, [], ◌∷◌, None}
 use Rattle.std.specs.Prelude.{if◌then◌else◌}
 use Rattle.clap.specs.Walk.{is_empty}

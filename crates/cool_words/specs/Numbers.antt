@@ -1,4 +1,4 @@
--- Which texts are numbers within bounds.
+-- The texts that are numbers within bounds.
 use Rattle.std.specs.Prelude.{◌&&◌, ◌≡◌, ◌≤◌, ℕ, Bool, List, length, nat_le, nat_lt, if◌then◌else◌, Option, Some, None, codes, refl}
 use Rattle.std.specs.List.{list_all}
 use Rattle.std.specs.Char.{is_ascii_digit}

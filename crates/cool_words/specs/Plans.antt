@@ -1,4 +1,4 @@
--- What a command line asks for, if anything: clap takes its words, and its numbers and names are in bounds.
+-- The plan that a command line asks for, if any: clap takes its words, and its numbers and names are in bounds.
 use Rattle.std.specs.Prelude.{◌≡◌, ◌&&◌, ◌==◌, ℕ, Bool, true, false, not, List, [], ◌∷◌, length, map, nat_le, nat_lt, if◌then◌else◌, Option, Some, None, option_map, option_and_then, bytes_eq, codes, String, string_bytes, Result, MatchResult, ⊤, refl}
 use Rattle.std.specs.List.{list_all, list_any, repeat}
 use Rattle.std.specs.Global.{Global}
@@ -24,7 +24,7 @@ use Rattle.cool_words.specs.declared.words_error.WordsError.TheVariants.{Usage}
 abbrev pub words_of : List (String Global) → List Text
 words_of = map string_bytes
 
--- what `run` is asked, where names are lists of bytes: the names of the files, the limits, and whether the folded program is compiled
+-- the plan of `run`, in which names are lists of bytes: the names of the files, the limits, and whether the folded program is compiled
 pub record RunAsked : Type 0 where
   pub names : List Text
   pub limits : RunLimits
@@ -33,7 +33,7 @@ pub record RunAsked : Type 0 where
 abbrev pub run_asked : RunPlan → RunAsked
 run_asked p = record { names = words_of p.files.items; limits = p.limits; fold = p.fold }
 
--- what a command line asks for, where names are lists of bytes
+-- the plan that a command line asks for, in which names are lists of bytes
 pub data Asked : Type 0 where
   check : List Text → Asked
   asm : List Text → Asked
@@ -119,7 +119,7 @@ is_set flag rows = option_map_or (λ value. bytes_eq value (codes "true")) (firs
 
 -- ---- plans
 
--- what the command asks for, by what clap found
+-- the plan of the command, by what clap found
 abbrev pub asked_of : CommandWord → List Row → Option Asked
 asked_of Check rows = option_map check (files_in rows)
 asked_of Asm rows = option_map asm (files_in rows)
@@ -140,12 +140,12 @@ is_accepted command words = is_empty (fault_of (app_for command) words)
 abbrev pub plan_by : List Text → CommandWord → Option Asked
 plan_by words command = if is_accepted command words then asked_of command (matches_of (app_for command) words) else None
 
--- what the words after the program's name ask for
+-- the plan that the words after the program's name ask for
 abbrev pub plan_of : List Text → Option Asked
 plan_of [] = None
 plan_of (word ∷ rest) = option_and_then (plan_by (word ∷ rest)) (command_of word)
 
--- what computes clap's answer at words that are written out
+-- computes clap's answer at words that are written out
 unfoldable on_literals : ⊤
 unfolding walked bundle_met chars encode_utf8 flags_fault walk_fault defaults_fault
 on_literals = tt
@@ -275,7 +275,7 @@ help = refl
 
 -- ---- what an answer says
 
--- an Ok is what is wanted, Usage comes only where nothing is, and want of memory says nothing
+-- an Ok is the wanted value, Usage comes only if there is none, and Memory says nothing
 abbrev pub Answers : {T X : Type 0} → (T → X) → Option X → Result T WordsError → Type 0
 Answers view wanted result = MatchResult result (λ t. wanted ≡ Some (view t)) (λ e. e ≡ Usage → wanted ≡ None)
 

@@ -1,7 +1,6 @@
-//! The words of a command line as a plan.
+//! The words of a command line, read as a plan.
 //!
-//! Comes in: the words after the program's name. Goes out: what they ask for, or that they are no command line. It meets
-//! `specs/Plans.antt`.
+//! Input: the words after the program's name. Output: the plan that they ask for, or that they are no command line. It implements `specs/Plans.antt`.
 #![tactic(auto)]
 
 mod command_word;

@@ -16,7 +16,7 @@ pub(crate) fn are_file_names(names: &[&str]) -> bool
     !names.is_empty() && names.iter().all(|name| is_file_name(name))
 }
 
-/// The names, each in memory of its own. `Err` comes only for want of memory.
+/// The names, each in memory of its own. Returns `Err` only if memory runs out.
 pub(crate) fn copy_names(alloc: Global, names: &[&str]) -> Result<Vec<String>, AllocError>
     ensures { IfOk result (λ copies. words_of copies.items ≡ texts names.now) }
 {

@@ -8,7 +8,7 @@ ghost use Rattle.cool_words.specs.Numbers.{IsWithin, number_in};
 /// The most digits of a number.
 const MOST_DIGITS: usize = 19;
 
-/// The number that the text is: 1 to 19 decimal digits, from `low` to `high`. `None` where it is no such number.
+/// The number that the text is: 1 to 19 decimal digits, from `low` to `high`. `None` if it is no such number.
 pub(crate) fn read_number(text: &str, low: u64, high: u64) -> Option<u64>
     ensures value { result ≡ number_in low high text.now }
     ensures bounds { IfSome result (IsWithin low high) }

@@ -1,4 +1,4 @@
-//! What a command line asks for.
+//! The plan that a command line asks for.
 
 /// The limits of a run.
 #[derive(Clone, Copy)]
@@ -11,14 +11,14 @@ pub struct RunLimits {
     pub steps: u64,
 }
 
-/// The limits of a run where the words do not say.
+/// The limits of a run if the words do not say.
 pub const USUAL_LIMITS: RunLimits = RunLimits {
     heap_kib: 32_768,
     stack_kib: 8_192,
     steps: 1_000_000_000,
 };
 
-/// What `run` is asked. Names are those of files, as the words have them.
+/// The plan of `run`. Names are those of files, as the words have them.
 #[derive(Drop)]
 pub struct RunPlan {
     /// The files of the program.
@@ -29,7 +29,7 @@ pub struct RunPlan {
     pub fold: bool,
 }
 
-/// What a command line asks for. Names are those of files, as the words have them.
+/// The plan that a command line asks for. Names are those of files, as the words have them.
 #[derive(Drop)]
 pub enum Plan {
     /// To say whether the files are a program.

@@ -1,4 +1,4 @@
-//! From the words of a command line to a plan.
+//! Reading the words of a command line as a plan.
 
 ghost use Rattle.std.specs.Prelude.{◌≡◌, IfOk, IfSome, Err, Some, None, codes, string_bytes, true};
 ghost use Rattle.clap.specs.Words.{found_of, matches_of, rows_of, fault_of};
@@ -28,13 +28,12 @@ const MOST_STEPS: u64 = 4_611_686_018_427_387_904;
 /// The most that the size of a big program may be.
 const MOST_SIZE: u64 = 300;
 
-/// What the words after the program's name ask for.
+/// The plan that the words after the program's name ask for.
 ///
-/// `Usage` comes exactly where they are no command line: the first word is no command, clap refuses the words, a number
-/// is out of its bounds, or a file's name is longer than 4,096 bytes or holds a byte 0. `Memory` comes only for want of
-/// memory.
+/// Returns `Usage` only if they are no command line: the first word is no command, clap refuses the words, a number is out of its bounds, or a file's
+/// name is longer than 4,096 bytes or holds a byte 0. Returns `Memory` only if memory runs out.
 pub fn read_words(alloc: Global, words: &[String]) -> Result<Plan, WordsError>
-    // A plan is what the words ask for, and Usage comes only where they ask for nothing.
+    // A plan is the one that the words ask for, and Usage comes only if they ask for none.
     ensures plan { IfOk result (λ p. plan_of (words_of words.now) ≡ Some (asked_by p)) }
     ensures usage { result ≡ Err WordsError.Usage → plan_of (words_of words.now) ≡ None }
 
@@ -51,7 +50,7 @@ pub fn read_words(alloc: Global, words: &[String]) -> Result<Plan, WordsError>
     }
 }
 
-/// What the words ask for, of which the first is the command's.
+/// The plan that the words ask for. The first word is the command's.
 fn read_command(alloc: Global, command: CommandWord, words: &[String]) -> Result<Plan, WordsError>
     ensures value { Answers asked_by (plan_by (words_of words.now) command) result }
     ensures bounds { IfOk result IsWithinBounds }
@@ -66,7 +65,7 @@ fn read_command(alloc: Global, command: CommandWord, words: &[String]) -> Result
     }
 }
 
-/// What the command asks for, by what clap found.
+/// The plan of the command, by what clap found.
 fn read_matches(
     alloc: Global,
     command: CommandWord,
@@ -166,7 +165,7 @@ fn steps_of(matches: &ArgMatches<'_>) -> Result<u64, WordsError>
     value_of(matches, "steps", 1, MOST_STEPS, Some(USUAL_LIMITS.steps))
 }
 
-/// Whether the flag is set. clap gives it the value `true` where the words have it, and else `false`.
+/// Whether the flag is set. clap gives it the value `true` if the words have it, and otherwise `false`.
 fn is_set(matches: &ArgMatches<'_>, flag: &str) -> bool
     ensures { result ≡ is_set flag.now (rows_of (found_of matches.now)) }
 {
@@ -184,7 +183,7 @@ fn size_of(matches: &ArgMatches<'_>) -> Result<u32, WordsError>
     Ok(value_of(matches, "N", 1, MOST_SIZE, None)? as u32)
 }
 
-/// The value of an argument from `low` to `high`, and the default where it is not used.
+/// The value of an argument from `low` to `high`, and the default if it is not used.
 fn value_of(
     matches: &ArgMatches<'_>,
     name: &str,

@@ -1,4 +1,4 @@
-//! Why words are no plan.
+//! The errors of reading a command line: why words are no plan.
 
 ghost use Rattle.std.specs.Prelude.{◌≡◌};
 ghost use Rattle.cool_words.specs.declared.words_error.WordsError.TheVariants.{Memory};

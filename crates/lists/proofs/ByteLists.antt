@@ -2,7 +2,7 @@
 use Rattle.std.proofs.Common.{ℕ, zero, suc, List, [], ◌∷◌, drop}
 use Rattle.lists.specs.Bytes.{AreBytes}
 
--- what is left after some bytes
+-- the bytes left after some bytes are bytes
 pub bytes_left : (n : ℕ) (bytes : List ℕ) → AreBytes bytes → AreBytes (drop n bytes)
 bytes_left zero bytes h = h
 bytes_left (suc n) [] h = tt

@@ -1,4 +1,4 @@
--- The longest front of a list whose bytes all pass a test.
+-- The longest prefix of a list whose bytes all pass a test.
 use Rattle.std.proofs.Common.{◌≡◌, ℕ, suc, List, ◌∷◌, Bool, true, false, refl, arith}
 use Rattle.std.specs.List.{prefix_len}
 

@@ -10,7 +10,7 @@ there_is [] k less = absurd (omega arith)
 there_is (x ∷ xs) zero less = (x, refl)
 there_is (x ∷ xs) (suc k) less = there_is xs k (omega arith)
 
--- what comes after a list changes none of its items
+-- appending a list changes none of the items before
 pub front_get : {X : Type 0} (xs ys : List X) (k : ℕ) → k < length xs → slice_get (xs ++ ys) k ≡ slice_get xs k
 front_get [] ys k h = absurd (omega arith)
 front_get (x ∷ xs) ys zero h = refl
@@ -26,7 +26,7 @@ pub seam_get : {X : Type 0} (xs : List X) (x : X) (ys : List X) → slice_get (x
 seam_get [] x ys = refl
 seam_get (z ∷ xs) x ys = seam_get xs x ys
 
--- what is known stays known where a value is set
+-- known values stay known if a value is set
 pub known_set : (known : List (Option ℕ)) (k d j : ℕ) → k < length known → IsSome (get_or known j None) → IsSome (get_or (set known k (Some d)) j None)
 known_set known k d j within some =
     elim (cases_eq j k) [
@@ -38,6 +38,6 @@ known_set known k d j within some =
 pub get_zeros : (n i : ℕ) → get_or {A = ℕ} (replicate n 0) i 0 ≡ 0
 get_zeros n i = grind (arith, get_or-replicate, get_or-eq_default, length-replicate)
 
--- what stands in a list after a write
+-- the items of a list after a write
 pub get_set : (l : List ℕ) (i x j : ℕ) → i < length l → get_or (slice_set l i x) j 0 ≡ cond (j == i) x (get_or l j 0)
 get_set l i x j h = grind (arith, get_or-set_same, get_or-set_other)

@@ -1,4 +1,4 @@
--- What is left of a list from a position on.
+-- The items of a list from a position on.
 use Rattle.std.proofs.Common.{◌≡◌, ℕ, zero, suc, ◌+◌, ◌-◌, ◌<◌, List, [], ◌∷◌, length, take, drop, get_or, ap, sym, subst, take_all, arith}
 use native.Mathlib.Numerals.{add-one}
 

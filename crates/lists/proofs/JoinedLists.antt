@@ -1,4 +1,4 @@
--- Lists put together one after the other.
+-- Concatenated lists.
 use Rattle.std.proofs.Common.{◌≡◌, ℕ, zero, suc, ◌+◌, List, [], ◌∷◌, ◌++◌, flat_map, ap, ◌∙◌, sym, refl, append_assoc, append-nil, arith}
 use Rattle.std.specs.List.{range_with_len}
 
@@ -11,7 +11,7 @@ none_both (x ∷ xs) ys h = absurd (cc)
 pub four_joined : (a b c d : List ℕ) → ((a ++ b) ++ c) ++ d ≡ a ++ (b ++ (c ++ d))
 four_joined a b c d = append_assoc (a ++ b) c d ∙ append_assoc a b (c ++ d)
 
--- those of the numbers from one on, with that of one number more
+-- the lists of one more number: those of the numbers from one on, with that of the last
 pub flat_more : (f : ℕ → List ℕ) (a k : ℕ) → flat_map f (range_with_len a (suc k)) ≡ flat_map f (range_with_len a k) ++ f (a + k)
 flat_more f a zero = append-nil (f a) ∙ ap f (let e : a ≡ a + 0 = omega arith in e)
 flat_more f a (suc k) =

@@ -1,4 +1,4 @@
--- What stands in a list stands first, or among the others.
+-- Membership in a list: an item is the first one, or among the others.
 use Rattle.std.proofs.Common.{◌≡◌, ◌⊎◌, zero, suc, List, ◌∷◌, Contains, inl, inr, refl, arith}
 
 -- a list contains its first item, and those after it

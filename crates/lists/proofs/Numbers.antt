@@ -28,7 +28,7 @@ zero_less n h = grind (arith, nat_tests)
 pub next_or_less : (n k : ℕ) → n ≤ suc k → (n ≡ suc k) ⊎ (n ≤ k)
 next_or_less n k h = grind arith
 
--- what holds of each number below one and of that one
+-- a property of each number below one and of that one
 pub below_next : (P : ℕ → Type 0) (k c : ℕ) → c < k + 1 → ((j : ℕ) → j < k → P j) → P k → P c
 below_next P k c less below here = by (nat_lt c k) refl
   where

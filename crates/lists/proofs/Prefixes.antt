@@ -1,4 +1,4 @@
--- Bytes that end others.
+-- Suffixes of lists of bytes.
 use Rattle.std.proofs.Common.{ℕ, List, [], ◌++◌, refl, sym, ap, ◌∙◌, append_assoc}
 use Rattle.lists.specs.Prefixes.{IsSuffix}
 

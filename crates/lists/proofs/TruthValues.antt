@@ -1,4 +1,4 @@
--- And, or, with a truth value that is known.
+-- And, or, with one truth value that is known.
 use Rattle.std.proofs.Common.{◌≡◌, Bool, true, false, ◌&&◌, ◌||◌, refl}
 
 pub or_true : (b : Bool) → (b || true) ≡ true
@@ -13,7 +13,7 @@ pub and_false : (b : Bool) → (b && false) ≡ false
 and_false true = refl
 and_false false = refl
 
--- where both hold, the second does
+-- if both hold, the second does
 pub and_second : (a b : Bool) → (a && b) ≡ true → b ≡ true
 and_second true b e = e
 and_second false b e = cc

@@ -1,4 +1,4 @@
--- Bytes before others, and bytes after others.
+-- Prefixes and suffixes of lists of bytes.
 use Rattle.std.specs.Prelude.{◌≡◌, ℕ, List, ◌++◌}
 
 -- the whole begins with these

@@ -1,5 +1,5 @@
-//! Lists, numbers and truth values: the definitions and lemmas that several crates need, and that speak of no crate's notions.
+//! Lists, numbers and truth values: the definitions and lemmas that several crates need, and that use no crate's definitions.
 //!
-//! Comes in: nothing that runs. Goes out: words for lists in `specs/`, and facts of lists, bytes, numbers, truth values and results in
-//! `proofs/`, beside those of the library.
+//! Input: no code. Output: definitions about lists in `specs/`, and facts about lists, bytes, numbers, truth values and results in `proofs/`, beside those
+//! of the library.
 #![tactic(auto)]

@@ -1,4 +1,4 @@
--- What the second pass answers after the last line, or at a line with a fault.
+-- The result of the second pass after the last line, or at a line with a fault.
 use Rattle.std.proofs.Common.{◌≡◌, sym, ◌∙◌, ap, subst, ℕ, suc, ◌+◌, List, [], ◌∷◌, ◌<◌, add-one, length, Bool, true, false, Option, Some, None, Result, Ok, Err, if◌then◌else◌, arith}
 use Rattle.std.proofs.lemmas.List.{append-nil}
 use Rattle.std.specs.Result.{OnOk, IfOk, IfErr}
@@ -76,7 +76,7 @@ image_at_end place all number text bytes g image are left none is =
     let same : image ≡ parts place = is ∙ ap (λ list. record { entry = address_or_zero (place start_name); text = list; bytes = bytes }) text_is ∙ ap (λ list. record { entry = address_or_zero (place start_name); text = text_from (λ name. address_or_zero (place name)) start_position all; bytes = list }) bytes_is in
     (passed, same ∙ ap parts are)
 
--- what the second pass answers after the last line
+-- the result of the second pass after the last line
 pub answer_at_end : (place : Name → Option Place) (all : List Line) (number : ℕ) (text bytes : List ℕ) (g : Segment) (result : Result ImageParts AsmError) → place ≡ place_of all → Assembled place all [] number text bytes g → OnOk result (last_fault place (length text) ≡ None) → IfOk result (λ image. image ≡ record { entry = address_or_zero (place start_name); text = text; bytes = bytes }) → IfErr result (IsError number (last_fault place (length text))) → IsImageOrFault all result
 answer_at_end place all number text bytes g (Ok image) are left none is error = image_at_end place all number text bytes g image are left none is
 answer_at_end place all number text bytes g (Err e) are left none is error = fault_at_end place all number text bytes g e are left error

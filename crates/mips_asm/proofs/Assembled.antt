@@ -1,4 +1,4 @@
--- What lines are assembled to, one line after another.
+-- The text and data that lines are assembled to, line by line.
 use Rattle.std.proofs.Common.{◌≡◌, refl, sym, ◌∙◌, ap, ℕ, suc, ◌+◌, ◌-◌, ◌*◌, ◌/◌, ◌%◌, ◌≤◌, ◌||◌, not, is_some, ℤ, nat_lt, List, [], ◌∷◌, ◌++◌, length, flat_map, replicate, Bool, true, false, Option, Some, None, if◌then◌else◌, arith, lit≤}
 use Rattle.std.proofs.lemmas.List.{append_assoc, length-append, length-map, length-replicate}
 use Rattle.std.proofs.Math.Nat.{mul_comm}
@@ -23,7 +23,7 @@ use Rattle.mips_asm.specs.SecondPasses.{Assembled, filled}
 use Rattle.mips_asm.specs.Parts.{instruction_fault, statement_fault, target_fault, found, words_of_statement, bytes_of_statement, zeros}
 use Rattle.std.proofs.lemmas.Bool.{or_parts, ltb-false}
 
--- How much a statement adds
+-- The words and bytes that a statement adds
 
 abbrev pub bytes_needed : Need → ℕ
 bytes_needed assembly.Nothing = 0
@@ -171,7 +171,7 @@ using_is place words (Instruction i) = instruction_using place (TEXT_START + 4 *
 using_is place words (statements.Data item) = refl
 using_is place words (Directive directive) = refl
 
--- What no fault means
+-- The absence of a fault
 
 no_kind : (n : ℕ) (kind : Option AsmKind) (other : Option AsmFault) → fault_or n kind other ≡ None → kind ≡ None
 no_kind n None other e = refl

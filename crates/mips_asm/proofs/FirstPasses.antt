@@ -144,7 +144,7 @@ passed_fits pass taken d =
     let most_bytes = fits.bytes_fit in
     record { words_fit = omega arith; bytes_fit = omega arith }
 
--- Of lines that are taken one after another, those from an index on are left.
+-- Lines are taken one by one, and those from an index on are left.
 abbrev pub Taking : FirstPass → List Line → List Line → List Line → Type 0
 Taking pass taken lines rest = (so_far : List Line) × (HasTaken pass so_far × (so_far ++ rest ≡ taken ++ lines))
 
@@ -163,7 +163,7 @@ taking_more old new taken lines rest line t step =
 pub taking_end : (pass : FirstPass) (taken lines : List Line) → Taking pass taken lines [] → HasTaken pass (taken ++ lines)
 taking_end pass taken lines t = subst (HasTaken pass) (sym (append-nil t.0) ∙ t.1.1) t.1.0
 
--- What a line makes of the pass
+-- The first pass after one more line
 
 -- lines without a fault were passed
 pub passed : (pass : FirstPass) (taken : List Line) → pass.fault ≡ None → HasTaken pass taken → Passed pass taken

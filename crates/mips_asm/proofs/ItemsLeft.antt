@@ -10,7 +10,7 @@ use Rattle.mips_asm.specs.Parts.{items_fault}
 abbrev pub bytes_of_items : (Name → Option Place) → List WordItem → List ℕ
 bytes_of_items place = flat_map (λ item. four_bytes (item_value (λ name. address_or_zero (place name)) item))
 
--- Of all items these are left. The bytes so far and those of the items that are left are those of all after what stood there.
+-- The items that are left of all. The bytes so far and those of the items that are left are the bytes of all items, after the bytes that stood there before.
 pub record ItemsLeft (place : Name → Option Place) (all : List WordItem) (before : List ℕ) (rest : List WordItem) (so_far : List ℕ) : Type 0 where
   pub ranges : AllByRecursion IsItem rest
   pub fault : items_fault place rest ≡ items_fault place all

@@ -70,13 +70,13 @@ pub defining_end : (old now : List (Name × Mark)) (labels : List Name) (mark : 
     → Defining old now labels [] mark → (any_twice (names_of old) labels ≡ false) × (now ≡ old ++ marked mark labels)
 defining_end old now labels mark d = (sym d.twice, sym (append-nil now) ∙ d.entries)
 
--- what a table has after a new name is put into it
+-- the table after a new name is put into it
 pub shown_after : {S : Type 0} (m : IndexMap (Vec ℕ) Mark S) (key : Vec ℕ) (mark : Mark)
     → get same_key m key ≡ None → shown (insert_entry same_key m.entries key mark) ≡ shown m.entries ++ (key.items, mark) ∷ []
 shown_after m key mark none =
     ap shown (insert_entry-new same_key m key mark none) ∙ map-append (λ (entry : Vec ℕ × Mark). (entry.0.items, entry.1)) m.entries ((key, mark) ∷ [])
 
--- a look-up in the table sees the names alone
+-- a look-up in the table depends only on the names
 pub shown_lookup : (name : Name) (entries : List (Vec ℕ × Mark)) → lookup (λ key. bytes_eq name key.items) entries ≡ lookup (bytes_eq name) (shown entries)
 shown_lookup name [] = refl
 shown_lookup name (entry ∷ rest) = ap (λ (o : Option Mark). cond (bytes_eq name entry.0.items) (Some entry.1) o) (shown_lookup name rest)

@@ -17,7 +17,7 @@ use Rattle.mips_asm.proofs.WordsOfText.{words_after, length_of_text, words_with_
 abbrev pub address_in : Segment → ℕ → ℕ → Option ℕ
 address_in segment end a = if is_text segment && nat_lt a end then Some a else None
 
--- what a name is the label of, by the segment of its label
+-- the label that a name is, by the segment of its label
 abbrev pub label_in : Option ℕ → ℕ → Name → ℕ → Option Segment → Option ℕ
 label_in start end name a None = if bytes_eq name start_name then start else None
 label_in start end name a (Some segment) = address_in segment end a
@@ -53,7 +53,7 @@ label_by_segment start end name p (line ∷ rest) a h = by (has line.labels name
         ∙ later
         (moved a (after_line line p).words p.words (words_needed (need line.statement)) (words_before rest name) (words_after (need line.statement) p) e)
 
--- Where a program is completed
+-- The labels of a completed program
 
 -- the label of the lines that complete it
 added_label : (name : Name) (end a : ℕ) (p : Position) → a ≡ TEXT_START + 4 * p.words → nat_lt a end ≡ true

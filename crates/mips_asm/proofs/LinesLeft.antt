@@ -23,7 +23,7 @@ use Rattle.mips_asm.proofs.AllAssembled.{fault_at_line}
 use Rattle.mips_asm.proofs.PlacesOfMarks.{completed_fault}
 use Rattle.lists.proofs.Options.{none_is}
 
--- what is left without a fault
+-- the lines that are left without a fault
 pub left_here : (place : Name → Option Place) (all rest : List Line) (a : Assembly) → a.fault ≡ None → IsLeft place all rest a
     → Assembled place all rest a.number a.output.text.items a.output.bytes.items a.output.segment
 left_here place all rest a none left = subst (λ (fault : Option AsmFault). LeftBy fault place all rest a) none left.state
@@ -95,7 +95,7 @@ begins pass lines complete own added fine places none number text bytes segment 
     both [] h = added
     both (x ∷ xs) h = (h.0, both xs h.1)
 
--- What the second pass ends with, where lines were completed.
+-- The result of the second pass over completed lines is that of assembling.
 pub ends : (lines all : List Line) (result : Result ImageParts AsmError) → completed lines ≡ all → first_pass [] start_position 1 all ≡ None
     → IsImageOrFault all result → Assembles lines result
 ends lines all result same fine h = by result h
@@ -118,7 +118,7 @@ begins_at_fault pass lines added b added_is taken same (Fault fault) h result is
     (ap (λ (o : Option AsmFault). first_or o (second_pass (place_of (completed lines)) start_position 1 (completed lines)))
     (completed_fault lines added b added_is pass taken same fault h))
 
--- what follows from what holds where a call succeeds
+-- if P implies Q, then `OnOk r P` implies `OnOk r Q`
 pub after_ok : {E P Q : Type 0} (r : Result Unit E) → (P → Q) → OnOk r P → OnOk r Q
 after_ok (Ok done) f h = f h
 after_ok (Err e) f h = tt

@@ -1,4 +1,4 @@
--- The places of labels, by where they stand.
+-- The places of labels, computed from their marks.
 use Rattle.std.specs.Prelude.{◌≡◌, ℕ, ◌+◌, ◌*◌, ◌||◌, ◌&&◌, not, is_some, Bool, true, false, if◌then◌else◌, List, [], ◌∷◌, ◌++◌, length, slice_get, Option, Some, None, refl, bytes_eq}
 use Rattle.std.specs.Map.{lookup}
 use Rattle.std.proofs.Common.{ap, sym, ◌∙◌, append_assoc, append-nil, length-append, cond}
@@ -98,7 +98,7 @@ places_found labels table items bytes lines is named begun filled =
     ∙ ap (λ (n : ℕ). place_at (items_from start_position lines ++ (DATA_START + n) ∷ []) (lookup (bytes_eq name) (table_from start_position 0 lines))) filled
     ∙ table_place name [] start_position lines)
 
--- what is said of marks and of places alike, of a name
+-- a statement about the marks and the places of a name alike
 alike : (F : Option Mark → Bool) (G : Option Place → Bool) → F None ≡ G None
     → ((segment : Segment) (p : Position) (items : ℕ) (lines : List Line) → F (Some (mark_in segment p.words items)) ≡ G (Some (place_in segment p lines)))
     → (name : Name) (p : Position) (items : ℕ) (lines : List Line) → F (lookup (bytes_eq name) (table_from p items lines)) ≡ G (place_from p lines name)

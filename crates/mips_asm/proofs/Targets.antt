@@ -88,7 +88,7 @@ instruction_in_range place at (BranchOrder op rs rt target) r e h =
     orders op rs rt (offset (at + 4) (target_address (found (place target)))) r.0 r.1 (near at (at + 4) (BranchOrder op rs rt target) (place target) (λ p. refl) e)
 instruction_in_range place at (Mul rd rs rt) r e h = ((r.1, r.2), (r.0, tt))
 
--- what is expanded with the address of the target is in range
+-- the instructions expanded with the address of the target are in range
 pub expansion_in_range : (place : Name → Option Place) (at : ℕ) (s : AsmInstr) (a : ℕ) (list : List Instr) → IsInstructionInRange s → instruction_fault place at s ≡ None → a ≡ target_address (target_in place s) → a < 4294967296 → list ≡ expansion (λ name. a) at s → AllByRecursion InRange list
 expansion_in_range place at s a list r e is h same =
     let P : ℕ → Type 0 = λ n. n < 4294967296 in

@@ -1,4 +1,4 @@
--- How many words of text lines are assembled to, and that they fit.
+-- The number of words of text that lines are assembled to, and that they fit.
 use Rattle.std.proofs.Common.{◌≡◌, refl, ◌∙◌, ap, ℕ, suc, ◌+◌, ◌*◌, ◌≤◌, ◌&&◌, not, is_some, List, [], ◌∷◌, ◌++◌, length, map, Bool, true, false, Option, Some, None, if◌then◌else◌, arith, lit≤, subst}
 use Rattle.std.proofs.lemmas.List.{length-append, length-map}
 use Rattle.mips_isa.specs.declared.place.Segment.{Segment}

@@ -1,4 +1,4 @@
--- What the first pass knows after lines.
+-- The state of the first pass after lines: their labels, items and position, or their first fault.
 use Rattle.std.specs.Prelude.{◌≡◌, List, [], ◌++◌, length, Option, None, Some}
 use Rattle.mips_isa.specs.declared.asm_fault.AsmFault.{AsmFault}
 use Rattle.mips_isa.specs.Lines.{Line}

@@ -1,4 +1,4 @@
--- The parts of which a line is assembled.
+-- Assembling one line: its target, its faults, its words and bytes.
 use Rattle.std.specs.Prelude.{◌≡◌, ℕ, ◌+◌, ◌*◌, ◌%◌, ◌≤◌, true, if◌then◌else◌, List, [], ◌∷◌, ◌++◌, map, replicate, Option, Some, None, Result, Ok, Err}
 use Rattle.mips_isa.specs.declared.instr.Instr.{Instr}
 use Rattle.mips_isa.specs.declared.place.Place.{Place}
@@ -20,7 +20,7 @@ use Rattle.mips_asm.specs.declared.target.Target.TheVariants.{Unused, Missing, F
 use Rattle.mips_asm.specs.declared.expansion.Expansion.{Expansion}
 use Rattle.mips_asm.specs.declared.expansion.Expansion.TheVariants.{One, Two}
 
--- where the label of an instruction is
+-- the place of the label that an instruction uses
 
 abbrev pub found : Option Place → Target
 found None = Missing
@@ -46,7 +46,7 @@ abbrev pub expanded : Expansion → List Instr
 expanded (One i) = i ∷ []
 expanded (Two i j) = i ∷ j ∷ []
 
--- what is wrong with the target of an instruction
+-- the fault of an instruction's target
 
 abbrev pub target_fault : ℕ → AsmInstr → Target → Option AsmKind
 target_fault at instruction Unused = None
@@ -77,7 +77,7 @@ abbrev pub word_in : (Name → Option Place) → WordItem → Option ℕ
 word_in place (Number n) = Some (bits_of n)
 word_in place (Address label) = address_if (place label)
 
--- what is wrong with the items of `.word`, and with an item of data
+-- the fault of the items of `.word`, and of an item of data
 
 abbrev pub items_fault : (Name → Option Place) → List WordItem → Option AsmKind
 items_fault place items = if any_without_place place (names_of_items items) then Some A6 else None
@@ -93,14 +93,14 @@ zeros (assembly.Item unit size) segment n = padding_to Data unit n
 zeros (assembly.Switch other) segment n = 0
 zeros (assembly.Padding unit) segment n = padding_to segment unit n
 
--- what is wrong with a statement after so many words
+-- the fault of a statement after so many words
 abbrev pub statement_fault : (Name → Option Place) → ℕ → Statement → Option AsmKind
 statement_fault place words Empty = None
 statement_fault place words (Instruction i) = instruction_fault place (TEXT_START + 4 * words) i
 statement_fault place words (statements.Data item) = item_fault place item
 statement_fault place words (Directive directive) = None
 
--- what a statement is assembled to after so many words, and after so many bytes
+-- the words and bytes that a statement is assembled to, after so many words and so many bytes
 
 abbrev pub words_of_statement : (Name → Option Place) → ℕ → Statement → List ℕ
 words_of_statement place words statement = map word_of (instructions (λ name. address_or_zero (place name)) (TEXT_START + 4 * words) statement)
@@ -109,7 +109,7 @@ abbrev pub bytes_of_statement : (Name → Option Place) → Segment → ℕ → 
 bytes_of_statement place segment n statement =
     replicate (zeros (need statement) segment n) 0 ++ item_bytes (λ name. address_or_zero (place name)) statement
 
--- what is wrong after the last line, where there are so many words
+-- the fault after the last line, if there are so many words
 abbrev pub last_fault : (Name → Option Place) → ℕ → Option AsmKind
 last_fault place words = start_fault (place start_name) (record { words = words; bytes = 0; segment = Text })
 
@@ -118,7 +118,7 @@ abbrev pub IsWordPlace : Option Place → Type 0
 IsWordPlace None = Unit {0}
 IsWordPlace (Some place) = is_text place.segment ≡ true → (place.address % 4 ≡ 0) × (TEXT_START ≤ place.address)
 
--- What the second pass answers for lines with no fault in the first.
+-- The result of the second pass for lines without a fault in the first.
 abbrev pub IsImageOrFault : List Line → Result ImageParts AsmError → Type 0
 IsImageOrFault lines (Ok image) = (second_pass (place_of lines) start_position 1 lines ≡ None) × (image ≡ image_of_all lines)
 IsImageOrFault lines (Err Memory) = Unit {0}

@@ -1,4 +1,4 @@
--- What the first pass of the assembler finds: positions, items of data, and the table of labels.
+-- The results of the assembler's first pass: positions, items of data, and the table of labels.
 use Rattle.std.specs.Prelude.{◌≡◌, ℕ, zero, suc, ◌+◌, ◌*◌, ◌<◌, ◌≤◌, ◌&&◌, not, is_some, bytes_eq, Bool, true, false, List, [], ◌∷◌, ◌++◌, length, map, Option, None, Some, Result, Ok, Err}
 use Rattle.std.specs.Global.{Vec}
 use Rattle.std.specs.Map.{lookup}
@@ -71,7 +71,7 @@ abbrev pub items_from : Position → List Line → List ℕ
 items_from p [] = []
 items_from p (line ∷ rest) = item_in (need line.statement) p.bytes ++ items_from (after_line line p) rest
 
--- where a label stands in a segment, after so many words of text and so many items of data
+-- the mark of a label in a segment, after so many words of text and so many items of data
 abbrev pub mark_in : Segment → ℕ → ℕ → Mark
 mark_in Text words items = InText (TEXT_START + 4 * words)
 mark_in Data words items = BeforeItem items

@@ -1,4 +1,4 @@
--- What the second pass has left of all lines.
+-- The state of the second pass: the lines that are left, and the text and data assembled from the others.
 use Rattle.std.specs.Prelude.{◌≡◌, ℕ, ◌≤◌, List, [], ◌++◌, length, Option, None, Some, Result, Ok, Err}
 use Rattle.mips_isa.specs.declared.place.Place.{Place}
 use Rattle.mips_isa.specs.declared.place.Segment.{Segment}
@@ -15,7 +15,7 @@ use Rattle.mips_asm.specs.Places.{places_of}
 abbrev pub filled : ℕ → ℕ → Segment → Position
 filled words bytes segment = record { words = words; bytes = bytes; segment = segment }
 
--- Of all lines these are left, the first of them with this number, and the others were assembled to this text and these bytes.
+-- These lines of all are left, the first of them with this number; the others were assembled to this text and these bytes.
 pub record Assembled (place : Name → Option Place) (all : List Line) (rest : List Line) (number : ℕ) (text bytes : List ℕ) (segment : Segment) : Type 0 where
   pub ranges : AreInRange rest
   pub seen : List Name
@@ -32,7 +32,7 @@ abbrev pub LeftBy : Option AsmFault → (Name → Option Place) → List Line �
 LeftBy None place all rest a = Assembled place all rest a.number a.output.text.items a.output.bytes.items a.output.segment
 LeftBy (Some fault) place all rest a = second_pass (place_of all) start_position 1 all ≡ Some fault
 
--- of all lines, whose labels have these places, these are left
+-- these lines are left of all lines, whose labels have these places
 pub record IsLeft (place : Name → Option Place) (all rest : List Line) (a : Assembly) : Type 0 where
   pub places : place ≡ place_of all
   pub state : LeftBy a.fault place all rest a
@@ -41,7 +41,7 @@ pub record IsLeft (place : Name → Option Place) (all rest : List Line) (a : As
 abbrev pub IsNext : (Name → Option Place) → Assembly → List Line → Type 0
 IsNext place a lines = (all : List Line) × ((rest : List Line) × IsLeft place all (lines ++ rest) a)
 
--- Of these lines, whose first pass was without a fault, the last ones are to be taken.
+-- The last ones of these lines, whose first pass was without a fault, are to be taken.
 pub record HasLeft (pass : SecondPass) (lines rest : List Line) : Type 0 where
   pub completing : completed lines ≡ lines ++ lines_of pass.added.items
   pub ranges : AreInRange (lines_of pass.added.items)
@@ -52,7 +52,7 @@ pub record HasLeft (pass : SecondPass) (lines rest : List Line) : Type 0 where
 abbrev pub IsDue : SecondPass → List Line → Type 0
 IsDue pass lines = (all : List Line) × ((rest : List Line) × HasLeft pass all (lines ++ rest))
 
--- What the first pass over lines ends with: the second one, which is to take them all, or their first fault.
+-- The result of the first pass over lines: the second pass, which is to take them all, or their first fault.
 abbrev pub Begins : List Line → Result SecondPass AsmError → Type 0
 Begins lines (Ok pass) = HasLeft pass lines lines
 Begins lines (Err Memory) = Unit {0}

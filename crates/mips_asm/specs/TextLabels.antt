@@ -30,7 +30,7 @@ pub record TextLabelParts : Type 0 where
   pub start : Option ℕ
   pub end : ℕ
 
--- what a name is the label of, whose place in lines is this one, where a `__start` may complete them and the text ends at an address
+-- the text label that a name is, whose place in lines is this one, where a `__start` may complete them and the text ends at an address
 abbrev pub address_or_start : Option ℕ → ℕ → Name → Option Place → Option ℕ
 address_or_start start end name None = if bytes_eq name start_name then start else None
 address_or_start start end name (Some place) = address_before end (Some place)

@@ -17,7 +17,7 @@ use mips_isa::{
     ThreeOp, TwoOp, ZeroOp,
 };
 
-/// What the instruction of a line is assembled to.
+/// The expansion of the instruction of a line.
 #[derive(Clone, Copy)]
 pub enum Expansion {
     /// One instruction.

@@ -50,8 +50,8 @@ impl FirstPass {
         }
     }
 
-    /// Takes the next lines. A fault of theirs is kept for `finish`. `Err` comes only for want of memory, and where more than
-    /// 4,294,967,295 lines are taken, since a fault tells its line in 32 bits. After it the pass is of no use, and is dropped.
+    /// Takes the next lines. Their fault, if any, is kept for `finish`. Returns `Err` only if memory runs out, or if more than 4,294,967,295 lines are
+    /// taken, since a fault tells its line in 32 bits. After an `Err` the pass is of no use, and is dropped.
     pub fn take(&mut self, lines: &[Line]) -> Result<(), AllocError>
         requires some { (taken : List statements.Line) × HasTaken self.old taken }
         requires ranges { AreInRange (lines_of lines.now) }
@@ -127,7 +127,7 @@ impl FirstPass {
     /// The second pass over the lines that were taken, or their first fault: a statement in the wrong segment (A8), a label that was
     /// defined before (A5), or a segment that is too large (A9).
     ///
-    /// Where only `main` is defined, a call of it and an exit are added behind the lines. `Memory` comes only as `Err` of `take` does.
+    /// If only `main` is defined, a call of it and an exit are added behind the lines. Returns `Memory` only in the cases in which `take` returns `Err`.
     pub fn finish(mut self) -> Result<SecondPass, AsmError>
         requires some { (taken : List statements.Line) × HasTaken self taken }
         ensures { (taken : List statements.Line) → AreInRange taken → HasTaken self taken → Begins taken result }

@@ -136,7 +136,7 @@ fn add_word(bytes: &mut Vec<u8>, word: u32) -> Result<(), AllocError>
     Ok(())
 }
 
-/// The word of an item. `None` comes only for a label that is not defined.
+/// The word of an item. Returns `None` only for a label that is not defined.
 fn word_of_item(labels: &Labels, item: &WordItem) -> Option<u32>
     requires { IsItem (item_of item.now) }
     ensures { result ≡ word_in (places_of labels.now) (item_of item.now) }
@@ -150,7 +150,7 @@ fn word_of_item(labels: &Labels, item: &WordItem) -> Option<u32>
     }
 }
 
-/// A fault on a line. A number that has no 32 bits is reported as want of memory.
+/// A fault on a line. A number that does not fit into 32 bits is reported as out of memory.
 pub fn fault(kind: AsmKind, number: usize) -> AsmError
     ensures { IsError number (Some kind) result }
 {

@@ -29,7 +29,7 @@ impl Model for Labels {
 }
 
 impl Labels {
-    /// The labels of a table, where these are the addresses of the items of data, and of the end of the data.
+    /// The labels of a table, if these are the addresses of the items of data, and of the end of the data.
     pub fn new(table: Table, items: Vec<u32>) -> Self
         ensures { result ≡ (shown table.entries, items.items) }
     {
@@ -54,7 +54,7 @@ impl Labels {
     }
 }
 
-/// The place of a label, by where it stands.
+/// The place of a label, by its mark.
 fn place_of_mark(items: &[u32], mark: Option<Mark>) -> Option<Place>
     ensures { result ≡ place_at items.now mark }
 {

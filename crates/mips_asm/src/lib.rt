@@ -1,6 +1,6 @@
 //! The assembler.
 //!
-//! Comes in: lines of assembly. Goes out: an image, or the first fault. It meets `Assembly.antt` of `mips_isa`.
+//! Input: lines of assembly. Output: an image, or the first fault. It implements `Assembly.antt` of `mips_isa`.
 #![tactic(auto)]
 
 mod completing;
@@ -29,10 +29,10 @@ pub use text_words::words_of_statement;
 
 /// The image of lines of assembly, in two passes.
 ///
-/// The first pass places the labels and finds, line by line, a statement in the wrong segment (A8), a label that was defined
-/// before (A5), and a segment that is too large (A9). The second one assembles, and finds a name without a place (A6), a target
-/// that is too far or not in text (A7), and, after the last line, that `__start` is no label of a word (A6). Where only `main`
-/// is defined, a call of it and an exit are added. `Memory` comes only for want of memory.
+/// The first pass places the labels and finds, line by line, a statement in the wrong segment (A8), a label that was defined before (A5), and a segment
+/// that is too large (A9). The second one assembles, and finds a name without a place (A6), a target that is too far or not in text (A7), and, after the
+/// last line, that `__start` is no label of a word (A6). If only `main` is defined, a call of it and an exit are added. Returns `Memory` only if memory
+/// runs out.
 ///
 /// Lines that are not at hand at once are assembled in parts by `FirstPass` and `SecondPass`.
 pub fn assemble(alloc: Global, lines: &[Line]) -> Result<Image, AsmError>

@@ -1,4 +1,4 @@
-//! Where labels stand.
+//! Marks: the positions of labels, before the addresses of data are known.
 
 ghost use Rattle.std.specs.Prelude.{◌≡◌, ◌≤◌};
 ghost use Rattle.mips_asm.specs.Passes.{mark_in, marks_text};
@@ -6,7 +6,7 @@ ghost use Rattle.mips_asm.specs.Passes.{mark_in, marks_text};
 use crate::position::Position;
 use mips_isa::{MOST_TEXT_WORDS, Segment, TEXT_START};
 
-/// Where a label stands.
+/// The position of a label: an address of the text, or an item of data.
 #[derive(Clone, Copy)]
 pub enum Mark {
     /// At an address of the text.
@@ -15,7 +15,7 @@ pub enum Mark {
     BeforeItem(usize),
 }
 
-/// Where a label stands at a position, after so many items of data.
+/// The mark of a label at a position, after so many items of data.
 pub fn mark_at(position: Position, items: usize) -> Mark
     requires words { position.words ≤ MOST_TEXT_WORDS }
     ensures { result ≡ mark_in position.segment position.words items }

@@ -1,4 +1,4 @@
-//! How far the segments are filled.
+//! Positions in the segments: how many words and bytes are filled, and the needs of statements.
 
 ghost use Rattle.std.specs.Prelude.{◌≡◌, ◌+◌, ◌-◌, ◌*◌, ◌/◌, ◌<◌, ◌≤◌, MatchOption, true, false};
 ghost use Rattle.mips_isa.specs.Lines.{statement_of, instruction_of, data_item_of, directive_of, IsInRange, IsDirectiveInRange};
@@ -9,7 +9,7 @@ use mips_isa::{
     AsmDirective, AsmInstr, DataItem, MOST_DATA_BYTES, MOST_TEXT_WORDS, Segment, Statement,
 };
 
-/// How far the segments are filled, and which one is open.
+/// The words and bytes filled so far, and the segment that is open.
 #[derive(Clone, Copy)]
 pub struct Position {
     pub words: u32,
@@ -17,7 +17,7 @@ pub struct Position {
     pub segment: Segment,
 }
 
-/// What a statement needs.
+/// The need of a statement.
 #[derive(Clone, Copy)]
 pub enum Need {
     /// Nothing.
@@ -34,7 +34,7 @@ pub enum Need {
     Padding(u32),
 }
 
-/// What a statement needs.
+/// The need of a statement.
 pub fn need_of_statement(statement: &Statement) -> Need
     requires { IsInRange (statement_of statement.now) }
     ensures exact { need_of result ≡ need (statement_of statement.now) }
@@ -70,7 +70,7 @@ pub fn words_of_instruction(instruction: &AsmInstr) -> u32
     }
 }
 
-/// What an item of data needs.
+/// The need of an item of data.
 fn need_of_data(item: &DataItem) -> Need
     ensures exact { need_of result ≡ need_of_data (data_item_of item.now) }
     ensures small { IsSmall result }
@@ -84,7 +84,7 @@ fn need_of_data(item: &DataItem) -> Need
     }
 }
 
-/// What another directive needs.
+/// The need of another directive.
 fn need_of_directive(directive: &AsmDirective) -> Need
     requires { IsDirectiveInRange (directive_of directive.now) }
     ensures exact { need_of result ≡ need_of_directive (directive_of directive.now) }

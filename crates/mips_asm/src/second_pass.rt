@@ -31,7 +31,7 @@ pub struct SecondPass {
     assembly: Assembly,
 }
 
-/// What lines are assembled to so far; the number of the next line, from 1, and the first fault.
+/// The output of the lines so far; the number of the next line, from 1; and the first fault.
 #[derive(Drop)]
 struct Assembly {
     output: Output,
@@ -39,7 +39,7 @@ struct Assembly {
     fault: Option<AsmFault>,
 }
 
-/// What lines are assembled to so far, and the segment that is open.
+/// The text and bytes that lines are assembled to so far, and the segment that is open.
 #[derive(Drop)]
 struct Output {
     text: Vec<u32>,
@@ -73,8 +73,8 @@ impl SecondPass {
         }
     }
 
-    /// Takes the next lines. A fault of theirs is kept for `finish`. `Err` comes only for want of memory, and where more lines are taken
-    /// than a `usize` counts. After it the pass is of no use, and is dropped.
+    /// Takes the next lines. Their fault, if any, is kept for `finish`. Returns `Err` only if memory runs out, or if more lines are taken than a `usize`
+    /// counts. After an `Err` the pass is of no use, and is dropped.
     pub fn take(&mut self, lines: &[Line]) -> Result<(), AllocError>
         requires due { IsDue self.old (lines_of lines.now) }
         requires ranges { AreInRange (lines_of lines.now) }
@@ -83,8 +83,8 @@ impl SecondPass {
         self.assembly.take(&self.labels, lines)
     }
 
-    /// The image, once all lines were taken, or their first fault: a name without a place (A6), or a target that is too far or not in
-    /// text (A7); after the last line, that `__start` is no label of a word (A6). `Memory` comes only as `Err` of `take` does.
+    /// The image, once all lines were taken, or their first fault: a name without a place (A6), or a target that is too far or not in text (A7); after the
+    /// last line, that `__start` is no label of a word (A6). Returns `Memory` only in the cases in which `take` returns `Err`.
     pub fn finish(mut self) -> Result<Image, AsmError>
         requires done { (all : List statements.Line) × HasLeft self all [] }
         ensures { (all : List statements.Line) → HasLeft self all [] → Assembles all result }

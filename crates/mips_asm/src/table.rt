@@ -9,10 +9,10 @@ use indexmap::IndexMap;
 use mips_isa::{AsmError, AsmFault, AsmKind, Label};
 use std::alloc::Global;
 
-/// Each label, with where it stands.
+/// Each label, with its mark.
 pub type Table = IndexMap<Vec<u8>, Mark>;
 
-/// Where the label of this name stands, if it is defined.
+/// The mark of the label of this name, if it is defined.
 pub fn mark_of(table: &Table, name: &[u8]) -> Option<Mark>
     ensures { result ≡ lookup (bytes_eq name.now) (shown table.now.entries) }
 {

@@ -9,7 +9,7 @@ ghost use Rattle.mips_asm.specs.Parts.{target_in, found};
 use crate::labels::Labels;
 use mips_isa::{AsmInstr, DATA_START, Label, Place, Segment};
 
-/// Where the label is that an instruction uses.
+/// The target of an instruction: the place of the label that it uses.
 #[derive(Clone, Copy)]
 pub enum Target {
     /// It uses none.
@@ -20,7 +20,7 @@ pub enum Target {
     Found(Place),
 }
 
-/// Where the label is that an instruction uses.
+/// The place of the label that an instruction uses.
 pub fn target_of(labels: &Labels, instruction: &AsmInstr) -> Target
     ensures { result ≡ target_in (places_of labels.now) (instruction_of instruction.now) }
 {

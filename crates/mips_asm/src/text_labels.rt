@@ -12,8 +12,8 @@ use mips_isa::{AsmError, Line, Segment, TEXT_START};
 use std::alloc::{AllocError, Global};
 use std::marker::Model;
 
-/// The address of the word that a name is the label of, in lines that have an image. `None` comes where the name is no label, that of
-/// data, or that of the text's end.
+/// The address of the word that a name is the label of, in lines that have an image. Returns `None` if the name is no label, or the label of data or of
+/// the text's end.
 ///
 /// The labels of the lines with which `assemble` completes a program count, too. It takes no memory, and goes over the lines for
 /// each call; `TextLabels` has the labels of many names.
@@ -29,7 +29,7 @@ pub fn text_label(lines: &[Line], name: &[u8]) -> Option<u32>
     }
 }
 
-/// Where the text of lines ends.
+/// The end of the text of lines.
 #[derive(Clone, Copy)]
 struct TextEnd {
     /// The address of the `__start` that completes the lines, if one does.
@@ -39,7 +39,7 @@ struct TextEnd {
 }
 
 impl TextEnd {
-    /// Where the text of lines that have an image ends.
+    /// The end of the text of lines that have an image.
     fn find(lines: &[Line]) -> TextEnd
         requires image { fault_of (lines_of lines.now) ≡ None }
         ensures labels { (name : List ℕ) → address_or_start result.start result.end name (place_of (lines_of lines.now) name) ≡ text_label (lines_of lines.now) name }
@@ -56,7 +56,7 @@ impl TextEnd {
         }
     }
 
-    /// The address of the label that completes the lines, where this is its name.
+    /// The address of the label that completes the lines, if this is its name.
     fn added_label(&self, name: &[u8]) -> Option<u32>
         ensures { result ≡ (if bytes_eq name.now start_name then self.now.start else None) }
     {
@@ -75,7 +75,7 @@ impl TextEnd {
     }
 }
 
-/// The labels of words of the text of lines, and where that text ends. A contract sees the address of each name.
+/// The labels of words of the text of lines, and the end of that text. A contract sees the address of each name.
 #[derive(Drop)]
 pub struct TextLabels {
     labels: Labels,
@@ -91,7 +91,7 @@ impl Model for TextLabels {
 }
 
 impl TextLabels {
-    /// The labels of lines that have an image, to look up many names. `Err` comes only for want of memory.
+    /// The labels of lines that have an image, to look up many names. Returns `Err` only if memory runs out.
     pub fn find(alloc: Global, lines: &[Line]) -> Result<Self, AllocError>
         requires few { length lines.now < 2 ^ 32 - 4 }
         requires ranges { AreInRange (lines_of lines.now) }
@@ -107,7 +107,7 @@ impl TextLabels {
         }
     }
 
-    /// The address of the word that a name is the label of, as `text_label` answers it.
+    /// The address of the word that a name is the label of, as `text_label` defines it.
     pub fn address(&self, name: &[u8]) -> Option<u32>
         ensures { result ≡ address_of self.now name.now }
     {

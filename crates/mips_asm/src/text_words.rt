@@ -1,4 +1,4 @@
-//! How many words of text lines are assembled to.
+//! The number of words of text that lines are assembled to.
 
 ghost use Rattle.std.specs.Prelude.{◌≡◌, ◌≤◌};
 ghost use Rattle.mips_isa.specs.Lines.{statement_of, lines_of};

@@ -66,7 +66,7 @@ entry_read v i h = omega arith
 sizes_in_range : (i : ImageParts) → IsImage i → are_sizes (length i.text) (length i.bytes) i.entry ≡ true
 sizes_in_range i h = grind (arith, h.some_text, h.text, h.bytes, h.even, h.from, h.to)
 
--- how long the bytes are
+-- the number of bytes
 length-image_bytes : (v : ℕ) (i : ImageParts) → length (image_bytes v i) ≡ size_of (length i.text) (length i.bytes)
 length-image_bytes v i = omega (arith, length-append (flat_map word_bytes i.text) i.bytes, length-word_bytes i.text)
 

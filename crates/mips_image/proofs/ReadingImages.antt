@@ -1,4 +1,4 @@
--- What reading answers, as the contract of `read_image` says it.
+-- The result of reading, as the contract of `read_image` states it.
 use Rattle.std.proofs.Common.{◌≡◌, ℕ, List, Some, None, sym, ◌∙◌, ap, subst}
 use Rattle.std.specs.Prelude.{Option, Result, Ok, Err, IfOk}
 use Rattle.mips_isa.specs.ImageBounds.{ImageParts, IsImage}
@@ -14,7 +14,7 @@ use Rattle.mips_image.proofs.ReadingIsImage.{AreBytes, bytes_of_image, version_o
 same_bytes : {v w : ℕ} {i j : ImageParts} → v ≡ w → i ≡ j → image_bytes v i ≡ image_bytes w j
 same_bytes e f = cc
 
--- what is read has these bytes
+-- the image that is read has these bytes
 pub found_by_reading : (bytes : List ℕ) (result : Result StoredImage ImageError) → AreBytes bytes → Reads bytes result → IfOk result (λ stored. bytes ≡ image_bytes stored.version stored.image)
 found_by_reading bytes (Ok stored) f h = bytes_of_image bytes f h.0 ∙ same_bytes (sym h.1) (sym h.2)
 found_by_reading bytes (Err fault) f h = tt

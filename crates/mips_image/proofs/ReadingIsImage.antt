@@ -59,7 +59,7 @@ version_known v h = by (v == 1) refl where
   by true e = inl (grind (arith, e))
   by false e = inr (grind (arith, e, h))
 
--- What bytes without a fault have.
+-- The properties of bytes without a fault.
 record Sound (bytes : List ℕ) : Type 0 where
   long : 20 ≤ length bytes
   begins : take 4 bytes ≡ MAGIC
@@ -124,7 +124,7 @@ small_words : (n : ℕ) (bytes : List ℕ) → AreBytes bytes → AllByRecursion
 small_words zero bytes f = tt
 small_words (suc n) bytes f = (small_word bytes 0 f, small_words n (drop 4 bytes) (drop_bytes 4 bytes f))
 
--- what is read from bytes without a fault has the bounds of an image, and words of 32 bits
+-- the image read from bytes without a fault has the bounds of an image, and words of 32 bits
 pub image_in_bounds : (bytes : List ℕ) → AreBytes bytes → first_fault bytes ≡ None → IsImage (parts_of bytes) × HasWords (parts_of bytes)
 image_in_bounds bytes f e =
     let s = sound bytes e in

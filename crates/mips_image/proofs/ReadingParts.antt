@@ -16,7 +16,7 @@ pub length-words_at : (n : ℕ) (bytes : List ℕ) → length (words_at n bytes)
 length-words_at zero bytes = refl
 length-words_at (suc n) bytes = ap suc (length-words_at n (drop 4 bytes))
 
--- what the test of the sizes says
+-- the test of the sizes, as inequalities
 pub sizes_hold : (words data_bytes entry : ℕ) → are_sizes words data_bytes entry ≡ true → (1 ≤ words) × (words ≤ 66060288) × (data_bytes ≤ 268435456) × (entry % 4 ≡ 0) × (TEXT_START ≤ entry) × (entry < TEXT_START + 4 * words)
 sizes_hold words data_bytes entry h =
     (grind arith, grind arith, grind arith, grind arith, grind arith, grind arith)

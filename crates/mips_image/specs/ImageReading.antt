@@ -1,4 +1,4 @@
--- How the bytes of an image are read, and which fault is the first.
+-- Reading an image from bytes, and the first fault of bytes that are none.
 use Rattle.std.specs.Prelude.{◌≡◌, refl, ℕ, zero, suc, ◌+◌, ◌*◌, ◌%◌, ◌&&◌, ◌||◌, ◌==◌, not, nat_lt, nat_le, bytes_eq, if◌then◌else◌, Bool, true, List, [], ◌∷◌, length, take, drop, Option, Some, None, Result, Ok, Err}
 use Rattle.byteorder.specs.Endian.{little_number}
 use Rattle.mips_isa.specs.declared.address_map.TheConstants.{TEXT_START, MOST_TEXT_WORDS, MOST_DATA_BYTES}
@@ -8,7 +8,7 @@ use Rattle.mips_image.specs.declared.stored_image.StoredImage.{StoredImage}
 use Rattle.mips_image.specs.declared.image_error.ImageError.{ImageError}
 use Rattle.mips_image.specs.declared.image_error.ImageError.TheVariants.{Memory, I1, I2, I3, I4, I5}
 
--- where the numbers of the header stand, and its bytes, by their values
+-- the places of the header's numbers, and its bytes, by their values
 version_place : VERSION_PLACE ≡ 4
 version_place = refl
 
@@ -70,7 +70,7 @@ parts_of bytes = record {
   bytes = drop (HEADER_BYTES + 4 * word_at bytes WORDS_PLACE) bytes;
 }
 
--- what reading answers: the image and its version, or the first fault, unless memory runs out
+-- the result of reading: the image and its version, or the first fault, unless memory runs out
 abbrev pub Reads : List ℕ → Result StoredImage ImageError → Type 0
 Reads bytes (Ok stored) = (first_fault bytes ≡ None) × (stored.version ≡ word_at bytes VERSION_PLACE) × (stored.image ≡ parts_of bytes)
 Reads bytes (Err Memory) = Unit {0}

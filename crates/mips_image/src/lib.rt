@@ -1,7 +1,7 @@
 //! Images as bytes.
 //!
-//! Comes in: bytes, or an image and its version. Goes out: the other of the two, or the first fault of the bytes. It
-//! meets `specs/ImageBytes.antt`.
+//! Input: bytes, or an image and its version. Output: the other of the two, or the first fault of the bytes. It
+//! implements `specs/ImageBytes.antt`.
 #![tactic(auto)]
 
 mod image_error;

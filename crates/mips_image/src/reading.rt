@@ -1,4 +1,4 @@
-//! From bytes to an image and its version.
+//! Reading an image and its version from bytes.
 
 ghost use Rattle.std.specs.Prelude.{◌≡◌, ◌+◌, ◌*◌, ◌≤◌, ℕ, length, None, Some, MatchResult, IfOk, IsNone, take, drop, bytes_eq, true};
 ghost use Rattle.mips_isa.specs.ImageBounds.{ImageParts, IsImage};
@@ -15,10 +15,10 @@ use std::alloc::{AllocError, Global};
 
 /// The image of these bytes and its version, or their first fault.
 ///
-/// The tests, in order: fewer bytes than the header has is I3, another magic I1, a version other than the two I2, sizes or an
-/// entry out of range I4, fewer bytes than the sizes say I3, and more I5. `Memory` comes only for want of memory.
+/// The tests, in order: fewer bytes than the header has is I3, another magic I1, a version other than the two I2, sizes or an entry out of range I4, fewer
+/// bytes than the sizes say I3, and more I5. Returns `Memory` only if memory runs out.
 pub fn read_image(alloc: Global, bytes: &[u8]) -> Result<StoredImage, ImageError>
-    // What is read has these bytes, in version 1 or 2.
+    // The result has these bytes, in version 1 or 2.
     ensures found { IfOk result (λ stored. bytes.now ≡ image_bytes stored.version stored.image) }
     ensures version { IfOk result (λ stored. IsVersion stored.version) }
     // It has the bounds of an image, and words of 32 bits.
@@ -27,7 +27,7 @@ pub fn read_image(alloc: Global, bytes: &[u8]) -> Result<StoredImage, ImageError
     // The bytes of an image are read as that image in that version, unless memory runs out.
     ensures only { (version : ℕ) (image : ImageParts) → IsVersion version → IsImage image → HasWords image → bytes.now ≡ image_bytes version image → IsReadAs version image result }
 
-    // Which fault it is.
+    // The fault is the first one.
     ensures exact { Reads bytes.now result }
 {
     read_all(alloc, bytes)
@@ -51,7 +51,7 @@ fn read_all(alloc: Global, bytes: &[u8]) -> Result<StoredImage, ImageError>
     })
 }
 
-/// What the header says.
+/// The contents of the header.
 #[derive(Clone, Copy)]
 struct Header {
     version: u32,

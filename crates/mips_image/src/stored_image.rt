@@ -15,16 +15,16 @@ pub struct StoredImage {
 /// A byte that begins no text, and the letters CMI.
 pub const MAGIC: [u8; 4] = [0x7f, b'C', b'M', b'I'];
 
-/// Where the version stands in the bytes, after the magic.
+/// The place of the version in the bytes, after the magic.
 pub const VERSION_PLACE: usize = 4;
 
-/// Where the number of words of the text stands.
+/// The place of the number of words of the text.
 pub const WORDS_PLACE: usize = 8;
 
-/// Where the number of bytes of the data stands.
+/// The place of the number of bytes of the data.
 pub const DATA_BYTES_PLACE: usize = 12;
 
-/// Where the entry stands.
+/// The place of the entry.
 pub const ENTRY_PLACE: usize = 16;
 
 /// The bytes of the header.

@@ -1,4 +1,4 @@
-//! From an image to bytes.
+//! Writing an image as bytes.
 
 ghost use Rattle.std.specs.Prelude.{◌≡◌, ◌++◌, IfOk, OnOk, flat_map, length, ◌<◌, ◌^◌};
 ghost use Rattle.mips_image.specs.ImageBytes.{word_bytes, image_bytes, IsVersion};
@@ -8,7 +8,7 @@ use byteorder::{ByteOrder, LittleEndian};
 use mips_isa::Image;
 use std::alloc::{AllocError, Global};
 
-/// The bytes of an image in a version, 1 or 2. `Err` comes only for want of memory.
+/// The bytes of an image in a version, 1 or 2. Returns `Err` only if memory runs out.
 pub fn write_image(alloc: Global, image: &Image, version: u32) -> Result<Vec<u8>, AllocError>
     requires version { IsVersion version }
     ensures bytes { IfOk result (λ bytes. bytes.items ≡ image_bytes version image.now) }

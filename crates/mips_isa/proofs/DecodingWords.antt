@@ -1,4 +1,4 @@
--- What is decoded from a word, as the contract of `decode` says it.
+-- The result of `decode`, as its contract states it.
 use Rattle.std.proofs.Common.{◌≡◌, ℕ, ◌<◌, Some, None, sym, ◌∙◌, ap}
 use Rattle.std.specs.Prelude.{Option, IfSome, IfNone}
 use Rattle.mips_isa.specs.declared.instr.Instr.{Instr}
@@ -7,7 +7,7 @@ use Rattle.mips_isa.specs.Decoding.{decoded}
 use Rattle.mips_isa.proofs.WordsAreDecoded.{decoded-word_of, not_a_word}
 use Rattle.mips_isa.proofs.DecodedIsItsWord.{word_of-decoded}
 
--- what is found is in range, and this is its word
+-- the instruction that is found is in range, and this is its word
 pub found_by_word : (word : ℕ) (found : Option Instr) → word < 4294967296 → found ≡ decoded word → IfSome found (λ i. InRange i × (word_of i ≡ word))
 found_by_word word None h e = tt
 found_by_word word (Some i) h e = word_of-decoded word i h (sym e)

@@ -1,4 +1,4 @@
--- What a machine took of the input is gone: the input left is an end of what was left before.
+-- A run only consumes input: the input left is a suffix of the input before.
 use Rattle.std.specs.Prelude.{◌≡◌, ℕ, zero, suc, Bool, true, false, if◌then◌else◌, List, [], ◌∷◌, ◌++◌, length, Option, Some, None, refl, ◌==◌, ◌||◌, nat_le, not, ◌+◌, ◌-◌}
 use Rattle.std.proofs.Common.{ap, sym, ◌∙◌, append_assoc}
 use Rattle.mips_isa.specs.Bytes.{Segments}
@@ -71,7 +71,7 @@ after_shrank b s (On core) = ([], refl)
 after_shrank b s (Call core) = call_shrank b (record s { core = core })
 after_shrank b s (Stop trap) = ([], refl)
 
--- what comes next takes more
+-- the next step takes more
 then_shrank : (s : State) (o : Outcome) (go : State → Outcome) → Shrank s o → ((t : State) → Shrank t (go t)) → Shrank s (and_then o go)
 then_shrank s (Running t) go h k = (h.0 ++ (k t).0, h.1 ∙ (ap (λ xs. h.0 ++ xs) (k t).1 ∙ sym (append_assoc h.0 (k t).0 (input_of (go t)))))
 then_shrank s (Exited code t) go h k = h

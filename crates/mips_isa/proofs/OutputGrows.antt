@@ -1,4 +1,4 @@
--- What a run wrote stays: the output only grows.
+-- The output only grows: everything that a run wrote stays.
 use Rattle.std.specs.Prelude.{◌≡◌, ℕ, zero, suc, Bool, true, false, if◌then◌else◌, List, [], ◌∷◌, ◌++◌, Option, Some, None, refl, ◌%◌, ◌==◌, ◌||◌, nat_le, not, ◌+◌, ◌-◌}
 use Rattle.std.specs.Fmt.{signed_decimal}
 use Rattle.std.proofs.Common.{ap, sym, ◌∙◌, append_assoc, append-nil}
@@ -60,7 +60,7 @@ after_grew b s (On core) = kept s (after b s (On core)) refl
 after_grew b s (Call core) = call_grew b (record s { core = core })
 after_grew b s (Stop trap) = kept s (Trapped trap s) refl
 
--- what comes next grows further
+-- the next step makes the output grow further
 then_grew : (s : State) (o : Outcome) (go : State → Outcome) → Grew s o → ((t : State) → Grew t (go t)) → Grew s (and_then o go)
 then_grew s (Running t) go h k = (h.0 ++ (k t).0, (k t).1 ∙ ap (λ xs. xs ++ (k t).0) h.1 ∙ append_assoc s.output h.0 (k t).0)
 then_grew s (Exited code t) go h k = h

@@ -1,4 +1,4 @@
--- Assembling: where the labels of lines are, what the lines are assembled to, and which of them is at fault.
+-- Definition of assembling: the places of labels, the words and bytes that lines are assembled to, and the first line with a fault.
 use Rattle.std.specs.Prelude.{◌≡◌, refl, ℕ, suc, ◌+◌, ◌-◌, ◌*◌, ◌/◌, ◌%◌, ◌^◌, ◌&&◌, ◌||◌, not, nat_le, nat_lt, ℤ, pos, negsuc, Bool, true, false, if◌then◌else◌, List, [], ◌∷◌, ◌++◌, length, map, flat_map, replicate, codes, bytes_eq, Option, Some, None, is_some, Result, Ok, Err}
 use Rattle.std.specs.List.{list_any}
 use Rattle.mips_isa.specs.declared.instr.Instr.{Instr}
@@ -34,8 +34,8 @@ use Rattle.mips_isa.specs.Lines.{Name, WordItem, Number, Address, AsmInstr, Plai
 
 -- Sizes
 
--- What a statement needs: nothing, words of text, an item of data that begins at a multiple of a unit and has so many bytes, to
--- go on in a segment, or to fill the data up to a multiple of a unit.
+-- The need of a statement: nothing; words of text; an item of data that begins at a multiple of a unit and has so many bytes; to go on in a segment; or to
+-- fill the data up to a multiple of a unit.
 pub data Need : Type 0 where
   Nothing : Need
   Words : ℕ → Need
@@ -78,7 +78,7 @@ need (Instruction i) = Words (words_of_instruction i)
 need (statements.Data item) = need_of_data item
 need (Directive directive) = need_of_directive directive
 
--- How far the segments are filled, and which one is open.
+-- The fill of the segments, and the segment that is open.
 pub record Position : Type 0 where
   pub words : ℕ
   pub bytes : ℕ
@@ -109,7 +109,7 @@ after_line line p = after_need (need line.statement) p
 
 -- Places
 
--- where an item begins, or else another place
+-- the beginning of an item, or else another place
 abbrev pub item_or : Need → Position → ℕ → ℕ
 item_or Nothing p other = other
 item_or (Words n) p other = other
@@ -117,7 +117,7 @@ item_or (Item unit size) p other = up unit p.bytes
 item_or (Switch segment) p other = other
 item_or (Padding unit) p other = other
 
--- where the next item of data begins, after its padding; without one, the end of the data
+-- the beginning of the next item of data, after its padding; without one, the end of the data
 abbrev pub next_item : Position → List Line → ℕ
 next_item p [] = p.bytes
 next_item p (line ∷ rest) = item_or (need line.statement) p (next_item (after_line line p) rest)
@@ -153,7 +153,7 @@ abbrev pub address_or_zero : Option Place → ℕ
 address_or_zero None = 0
 address_or_zero (Some place) = place.address
 
--- Where no `__start` is defined and `main` is a label in text, the call of `main` and an exit are added.
+-- If no `__start` is defined and `main` is a label in text, the call of `main` and an exit are added.
 
 abbrev pub start_name : Name
 start_name = codes "__start"
@@ -181,7 +181,7 @@ added_lines =
 abbrev pub completed : List Line → List Line
 completed lines = if not (is_some (place_of lines start_name)) && in_text (place_of lines main_name) then lines ++ added_lines else lines
 
--- What a statement is assembled to, where names have addresses
+-- The words and bytes that a statement is assembled to, if names have addresses
 
 -- the words from the instruction after an address to a target
 abbrev pub offset : ℕ → ℕ → ℤ
@@ -405,7 +405,7 @@ fault_of_all lines = first_or (first_pass [] start_position 1 lines) (second_pas
 abbrev pub fault_of : List Line → Option AsmFault
 fault_of lines = fault_of_all (completed lines)
 
--- What assembling answers: the image, or the first fault, unless memory ran out.
+-- The result of assembling: the image, or the first fault, unless memory ran out.
 abbrev pub Assembles : List Line → Result ImageParts AsmError → Type 0
 Assembles lines (Ok image) = (fault_of lines ≡ None) × (image ≡ image_of lines)
 Assembles lines (Err Memory) = Unit {0}

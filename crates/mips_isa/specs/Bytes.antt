@@ -22,7 +22,7 @@ unfoldable pub set_word : Bytes → ℕ → ℕ → Bytes
 set_word m a v =
     set_byte (set_byte (set_byte (set_byte m a (v % 256)) (a + 1) (v / 256 % 256)) (a + 2) (v / 65536 % 256)) (a + 3) (v / 16777216 % 256)
 
--- Where the segments begin and end.
+-- The bounds of the segments.
 pub record Segments : Type 0 where
   pub text_end : ℕ
   pub data_end : ℕ

@@ -24,7 +24,7 @@ pub data Outcome : Type 0 where
   Exited : ℕ → State → Outcome
   Trapped : Trap → State → Outcome
 
--- What a call takes of the input, and what is left.
+-- The input that a call takes, and the input that is left.
 pub record Taken : Type 0 where
   pub got : List ℕ
   pub rest : List ℕ
@@ -39,7 +39,7 @@ taken (suc n) (b ∷ rest) =
     else (if b == 10 then record { got = 10 ∷ []; rest = rest; ended = false }
     else (let t : Taken = taken n rest in record t { got = b ∷ t.got }))
 
--- where the end was answered, it is not asked for again
+-- if the end was answered, it is not asked for again
 abbrev pub asked : Bool → ℕ → List ℕ → Taken
 asked ended n input = if ended then record { got = []; rest = input; ended = true } else taken n input
 

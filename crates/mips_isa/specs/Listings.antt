@@ -1,4 +1,4 @@
--- How the labels of a line are kept.
+-- The list of a line's labels, from its representation.
 use Rattle.std.specs.Prelude.{ℕ, List, [], ◌∷◌}
 use Rattle.mips_isa.specs.declared.line_labels.Listing as declared
 use Rattle.mips_isa.specs.declared.line_labels.Listing.TheVariants.{Nothing, One, Many}

@@ -148,7 +148,7 @@ pub record Core : Type 0 where
   pub pc : ℕ
   pub memory : Bytes
 
--- What an instruction does: the next state, the next state and a system call, or a trap.
+-- The result of an instruction: the next state, the next state and a system call, or a trap.
 pub data Next : Type 0 where
   On : Core → Next
   Call : Core → Next

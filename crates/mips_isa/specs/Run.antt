@@ -1,4 +1,4 @@
--- The run of a machine: so many instructions, or the end before.
+-- The run of a machine: n instructions, or the outcome if it ends before.
 use Rattle.std.specs.Prelude.{ℕ, zero, suc, ◌==◌, false, if◌then◌else◌, List, []}
 use Rattle.mips_isa.specs.declared.register.TheConstants.{S6, S7, GP, SP}
 use Rattle.mips_isa.specs.ImageBounds.{ImageParts}

@@ -1,4 +1,4 @@
--- How a name of a place is kept.
+-- The bytes of a label's name, from its representation.
 use Rattle.std.specs.Prelude.{ℕ, ◌≤◌, List, take}
 use Rattle.mips_isa.specs.declared.label.Spelling as declared
 use Rattle.mips_isa.specs.declared.label.Spelling.TheVariants.{Short, Long}

@@ -1,11 +1,11 @@
-//! Why lines of assembly are not read, or not assembled.
+//! The errors of assembly: why lines cannot be read or assembled.
 
 ghost use Rattle.std.specs.Prelude.{◌≡◌};
 ghost use Rattle.mips_isa.specs.declared.asm_fault.AsmError.TheVariants.{Memory};
 
 use std::alloc::{AllocError, AllocFailed};
 
-/// What is wrong with a line. The letter and number are the ones that notes print.
+/// The error of a line. The letter and number are the ones that notes print.
 #[derive(Clone, Copy)]
 pub enum AsmKind {
     /// A word is unknown.

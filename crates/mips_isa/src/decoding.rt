@@ -1,4 +1,4 @@
-//! From words to instructions.
+//! Decoding instruction words.
 
 ghost use Rattle.std.specs.Prelude.{◌≡◌, ◌<◌, ◌==◌, IfSome, IfNone, Some};
 ghost use Rattle.mips_isa.specs.declared.instr.Instr.{Instr};
@@ -10,8 +10,8 @@ use crate::{
     TwoOp,
 };
 
-/// The instruction of a word, by the R2000's table of integer instructions (MIPS I). There is none exactly where the word is
-/// of no row, a field that the row does not name being another than 0 included.
+/// The instruction of a word, by the R2000's table of integer instructions (MIPS I). There is none exactly if the word is of no row, a field that the row
+/// does not name being another than 0 included.
 #[tactic(auto, unfolding(crate::specs::Decoding::decoded))]
 pub fn decode(word: u32) -> Option<Instr>
     ensures found { IfSome result (λ i. InRange i × (word_of i ≡ word)) }

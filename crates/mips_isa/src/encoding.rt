@@ -1,4 +1,4 @@
-//! From instructions to words.
+//! Encoding instructions as words.
 
 ghost use Rattle.std.specs.Prelude.{◌≡◌, ◌<◌, ◌+◌, ◌*◌, ◌%◌};
 ghost use Rattle.mips_isa.specs.Words.{word_of, InRange, fields, special, half_of, three_number, shift_number, shift_reg_number, from_number, to_number, mul_div_number, imm_number, two_number, one_number, one_rt, jump_number, mem_number};
@@ -172,7 +172,7 @@ fn one_code(op: OneOp) -> u32
     }
 }
 
-/// What stands in the field rt of a branch on one register.
+/// The field rt of a branch on one register.
 fn one_register(op: OneOp) -> Reg
     ensures { result ≡ one_rt op }
 {

@@ -1,4 +1,4 @@
-//! Images: what a machine loads.
+//! The image that a machine loads: text, data and entry.
 
 use std::marker::Model;
 

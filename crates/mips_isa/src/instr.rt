@@ -1,4 +1,4 @@
-//! Instructions.
+//! The instructions of the integer R2000, as values.
 
 use crate::Reg;
 

@@ -1,4 +1,4 @@
-//! Names of places.
+//! The names of labels.
 
 ghost use Rattle.std.specs.Prelude.{◌≡◌, ◌≤◌, length, IfOk, IsOk};
 ghost use Rattle.mips_isa.specs.Spellings.{IsSpelled, spelled};
@@ -10,7 +10,7 @@ use std::marker::Model;
 /// The most bytes of a name that takes no memory of its own.
 pub const MOST_SHORT_NAME: usize = 14;
 
-/// A label takes 16 bytes, and what a long name is boxed in.
+/// A label takes 16 bytes, and the box of a long name.
 const _: () = prove!(size_of::<Label>() == 16);
 
 /// The name of a place, in 16 bytes: a name of up to `MOST_SHORT_NAME` bytes stands in them, and a longer one in a box. A contract sees
@@ -45,7 +45,7 @@ impl Model for Label {
 }
 
 impl Label {
-    /// A copy of the bytes of the name. `Err` comes only for want of memory, and never for a name of up to `MOST_SHORT_NAME` bytes.
+    /// A copy of the bytes of the name. Returns `Err` only if memory runs out, and never for a name of up to `MOST_SHORT_NAME` bytes.
     pub fn new(alloc: Global, bytes: &[u8]) -> Result<Self, AllocError>
         ensures copied { IfOk result (λ label. label ≡ bytes.now) }
         ensures short { length bytes.now ≤ MOST_SHORT_NAME → IsOk result }

@@ -1,6 +1,6 @@
 //! The instructions of the integer R2000, as values and as words, and the lines of assembly.
 //!
-//! Comes in: words, or instructions. Goes out: the other of the two. It meets `specs/Words.antt`, the one table that the
+//! Input: words, or instructions. Output: the other of the two. It implements `specs/Words.antt`, the one table that the
 //! encoder, the decoder and everything about emitted code reads.
 #![tactic(auto)]
 

@@ -7,7 +7,7 @@ ghost use Rattle.mips_isa.specs.Lines.{data_item_of, statement_of, Data};
 use crate::{Instr, JumpOp, Label, LineLabels, OneOp, Reg, TwoOp};
 use std::alloc::{AllocError, Global};
 
-/// The bytes of a line, without what its long names, its further labels and its item of data are boxed in.
+/// The bytes of a line, without the boxes of its long names, its further labels and its item of data.
 pub const LINE_BYTES: usize = size_of::<Line>();
 
 /// A line takes 56 bytes.
@@ -117,7 +117,7 @@ pub enum AsmDirective {
     Align(u32),
 }
 
-/// What stands on a line after its labels, in 32 bytes.
+/// The rest of a line after its labels, in 32 bytes.
 #[derive(Drop)]
 pub enum Statement {
     /// Nothing.
@@ -128,7 +128,7 @@ pub enum Statement {
 }
 
 impl Statement {
-    /// The statement that is an item of data. `Err` comes only for want of memory.
+    /// The statement that is an item of data. Returns `Err` only if memory runs out.
     pub fn of_item(alloc: Global, item: DataItem) -> Result<Self, AllocError>
         ensures { IfOk result (λ statement. statement_of statement ≡ Data (data_item_of item)) }
     {

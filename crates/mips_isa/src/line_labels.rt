@@ -50,7 +50,7 @@ impl LineLabels {
         }
     }
 
-    /// These labels, and one more behind them. `Err` comes only for want of memory.
+    /// These labels, and one more behind them. Returns `Err` only if memory runs out.
     pub fn with(self, alloc: Global, label: Label) -> Result<Self, AllocError>
         ensures { IfOk result (λ labels. labels ≡ self ++ label ∷ []) }
     {

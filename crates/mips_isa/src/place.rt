@@ -1,4 +1,4 @@
-//! Where the labels of assembly are.
+//! The places of labels of assembly: segment and address.
 
 /// A segment that assembly fills.
 #[derive(Clone, Copy)]

@@ -45,7 +45,7 @@ impl Reg {
 /// Always 0.
 pub const ZERO: u32 = 0;
 
-/// What the assembler needs for itself.
+/// Reserved for the assembler.
 pub const AT: u32 = 1;
 
 /// The number of a system call, and its answer.
@@ -94,7 +94,7 @@ pub const S5: u32 = 21;
 /// The lowest address of the stack, when a run begins.
 pub const S6: u32 = 22;
 
-/// Where the heap ends, when a run begins.
+/// The end of the heap, when a run begins.
 pub const S7: u32 = 23;
 
 pub const T8: u32 = 24;
@@ -105,13 +105,13 @@ pub const K0: u32 = 26;
 
 pub const K1: u32 = 27;
 
-/// Where the heap begins, when a run begins.
+/// The beginning of the heap, when a run begins.
 pub const GP: u32 = 28;
 
-/// Where the stack ends, when a run begins.
+/// The end of the stack, when a run begins.
 pub const SP: u32 = 29;
 
 pub const FP: u32 = 30;
 
-/// Where a call returns to.
+/// The return address of a call.
 pub const RA: u32 = 31;

@@ -1,4 +1,4 @@
-//! Why a machine stops at an instruction.
+//! Traps: why a machine stops at an instruction.
 
 /// Why a machine stops at an instruction.
 #[derive(Clone, Copy)]

@@ -17,7 +17,7 @@ other_letter letter (b ∷ text) (c ∷ name) some first other =
     let unlike : (b == c) ≡ false = rw first other in
     rw unlike refl
 
--- what a test keeps has the first item of another one, where that holds of no item that is not kept
+-- the first item with a property is the same among the items that a test keeps, if no item that is not kept has the property
 find_kept : {X : Type 0} (test keeps : X → Bool) (x : X) (xs : List X) (kept : Bool) → (kept ≡ false → test x ≡ false) → find test (filter keeps xs) ≡ find test xs
     → find test (cond kept (x ∷ filter keeps xs) (filter keeps xs)) ≡ cond (test x) (Some x) (find test xs)
 find_kept test keeps x xs true fails same = ap (λ found. cond (test x) (Some x) found) same

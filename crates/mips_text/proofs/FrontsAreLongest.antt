@@ -1,4 +1,4 @@
--- What the scanning functions find at a place is the longest word there.
+-- The scanning functions return the longest word at each place.
 use Rattle.std.proofs.Common.{◌≡◌, ◌∙◌, sym, ap, refl, arith, ℕ, zero, suc, ◌-◌, ◌≤◌, ◌<◌, ◌⊎◌, ⊎_elim, Bool, false, List, [], ◌∷◌, take, if◌then◌else◌}
 use Rattle.std.specs.Prelude.{Option, Some, None, option_map}
 use Rattle.std.specs.List.{prefix_len}

@@ -1,4 +1,4 @@
--- The longest form at the front of a list: what it is, and that the definition finds it.
+-- The longest form at the front of a list, and that the definition finds it.
 use Rattle.std.proofs.Common.{◌≡◌, ◌∙◌, sym, ap, arith, ℕ, zero, suc, ◌≤◌, ◌<◌, ◌⊎◌, ⊎_elim, List, [], ◌∷◌, length, take}
 use Rattle.std.specs.Prelude.{Option, Some, None, option_map}
 use Rattle.mips_text.specs.declared.class.Start.{Start}

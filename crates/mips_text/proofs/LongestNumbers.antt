@@ -14,7 +14,7 @@ use Rattle.mips_text.proofs.LongestWords.{none_left, some_longest, some_none}
 use Rattle.lists.proofs.Numbers.{zero_less, none_or_some}
 use Rattle.lists.proofs.TruthValues.{and_false, and_second}
 
--- what is found is the longest of a form, or there is none
+-- the number that is found is the longest of a form, or there is none
 abbrev pub IsFound : (List ℕ → Option ℕ) → List ℕ → Option Magnitude → Type 0
 IsFound form bs (Some m) = IsLongest form bs m.value m.size
 IsFound form bs None = HasNone form bs
@@ -64,7 +64,7 @@ no_decimal z x ds h (suc (suc k)) l =
     let none : some_all is_ascii_digit (z ∷ x ∷ take k ds) ≡ false = ap (λ (t : Bool). nat_lt 0 (length (z ∷ x ∷ take k ds)) && t) not_all ∙ and_false (nat_lt 0 (length (z ∷ x ∷ take k ds))) in
     ap (λ (t : Bool). if t then Some (value 10 (z ∷ x ∷ take k ds)) else None) none
 
--- what is found of a hexadecimal number, which is no decimal one
+-- the result for a hexadecimal number, which is no decimal one
 abbrev IsHexadecimal : List ℕ → Option Magnitude → Type 0
 IsHexadecimal bs (Some m) = IsLongest hexadecimal bs m.value m.size × (2 ≤ m.size) × ((k : ℕ) → 2 ≤ k → decimal (take k bs) ≡ None)
 IsHexadecimal bs None = HasNone hexadecimal bs

@@ -6,7 +6,7 @@ use Rattle.mips_text.specs.Fronts.{closing_quote}
 use Rattle.mips_text.specs.Words.{enclosed}
 use Rattle.mips_text.proofs.Longest.{IsLongest, HasNone}
 
--- what a search for the quote finds, from a place on
+-- the result of a search for the quote, from a place on
 abbrev QuoteAt : Bool → ℕ → List ℕ → Option ℕ → Type 0
 QuoteAt escaped place bs (Some q) = (n : ℕ) × (q ≡ place + n) × IsLongest (enclosed escaped) bs (take n bs) (n + 1)
 QuoteAt escaped place bs None = HasNone (enclosed escaped) bs

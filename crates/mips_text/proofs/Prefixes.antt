@@ -1,4 +1,4 @@
--- Fronts of bytes that pass a test: which are all of a kind, and which are too long.
+-- Prefixes of bytes that pass a test: those whose bytes all do, and those that are too long.
 use Rattle.std.proofs.Common.{◌≡◌, ◌∙◌, ap, refl, arith, ℕ, zero, suc, ◌≤◌, ◌<◌, Bool, true, false, List, [], ◌∷◌, length, take}
 use Rattle.std.specs.Prelude.{◌&&◌}
 use Rattle.std.specs.List.{list_all, prefix_len}

@@ -14,6 +14,6 @@ part_written {A} text out total xs index x h e inv =
 pub seen_below : {A B : Type 0} → (see : A → B) (xs : List A) (index : ℕ) → index < length xs → index < length (map see xs)
 seen_below see xs index h = omega (arith, length-map xs see)
 
--- what the element at an index is seen as
+-- the view of the element at an index
 pub seen_at : {A B : Type 0} → (see : A → B) (xs : List A) (index : ℕ) (x : A) → index < length xs → x ≡ get_or xs index x → see x ≡ get_or (map see xs) index (see x)
 seen_at see xs index x h e = sym (get_or-map see xs index x (see x) h ∙ ap see (sym e))

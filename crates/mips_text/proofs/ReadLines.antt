@@ -10,7 +10,7 @@ use Rattle.mips_text.specs.Words.{words_of}
 abbrev read : List ℕ → Result Line AsmKind
 read line = line_read (words_of line)
 
--- what a text is read as, by its first line and the bytes behind it
+-- the readings of a text, by its first line and the bytes behind it
 pub readings_cut : (rest line behind : List ℕ) → lines_in rest ≡ line ∷ lines_in behind → readings rest ≡ line_read (words_of line) ∷ readings behind
 readings_cut rest line behind e = ap (map read) e
 

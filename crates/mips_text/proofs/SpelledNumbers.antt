@@ -77,7 +77,7 @@ no_hexadecimal (b ∷ c ∷ ds) rest h l g =
     let second = and_parts (is_ascii_digit c) (list_all is_ascii_digit ds) behind.1 in
     second_is_no_x b c (ds ++ rest) (digit_no_x c second.0)
 
--- what is found of digits before a break
+-- the result for digits before a break
 pub magnitude_read : (n : ℕ) (ds rest : List ℕ) → Writes n ds → breaks rest ≡ true → magnitude_found (ds ++ rest) ≡ Some (record { value = n; size = length ds })
 magnitude_read n ds rest h g =
     let size : prefix_len (takes span.Digits) (ds ++ rest) ≡ length ds = prefix_stop is_ascii_digit ds rest h.digits (digits_stop rest g) in

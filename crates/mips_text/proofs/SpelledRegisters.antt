@@ -20,7 +20,7 @@ use Rattle.mips_text.proofs.SpelledWords.{Spells, all_in_line, breaks, in_line, 
 use Rattle.mips_text.proofs.SpelledNumbers.{IsSmall, number_spells}
 use Rattle.std.proofs.lemmas.Bool.{and_from}
 
--- what is known of the name of a register
+-- the facts about the name of a register
 pub record Known (register : ℕ) : Type 0 where
   pub letters : list_all is_ascii_alphanumeric (register_text register) ≡ true
   pub some : nat_lt 0 (length (register_text register)) ≡ true

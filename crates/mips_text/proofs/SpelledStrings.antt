@@ -13,7 +13,7 @@ use Rattle.mips_text.specs.Words.{Text, words_of}
 use Rattle.mips_text.specs.Fronts.{closing_quote, text_front}
 use Rattle.mips_text.proofs.SpelledWords.{Spells, in_line, word_here}
 
--- how a byte is spelled: as an escape, or as itself
+-- the spelling of a byte: as an escape, or as itself
 data Letter (b : ℕ) : Type 0 where
   escape : (c : ℕ) → letter_text b ≡ 92 ∷ c ∷ [] → is_known true c ≡ true → letter true c ≡ b → in_line c ≡ true → Letter b
   itself : letter_text b ≡ b ∷ [] → (b == 34) ≡ false → (b == 92) ≡ false → (b == 10) ≡ false → Letter b

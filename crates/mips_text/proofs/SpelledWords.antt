@@ -34,7 +34,7 @@ pub record Spells (text : List ℕ) (words : List Word) : Type 0 where
   pub reads : (rest : List ℕ) → breaks rest ≡ true → words_of (text ++ rest) ≡ words ++ words_of rest
   pub one_line : list_all in_line text ≡ true
 
--- what passes ends where a text stops
+-- the bytes that pass end where a text stops
 pub prefix_stop : (p : ℕ → Bool) (bs rest : List ℕ) → list_all p bs ≡ true → stops p rest ≡ true → prefix_len p (bs ++ rest) ≡ length bs
 prefix_stop p [] [] h g = refl
 prefix_stop p [] (c ∷ cs) h g = let no : p c ≡ false = not-true (p c) g in prefix_no p c cs no

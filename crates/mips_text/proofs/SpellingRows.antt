@@ -5,7 +5,7 @@ use Rattle.std.proofs.Math.Seq.{drop-cons}
 use Rattle.mips_text.specs.Spelling.{gap_text, operands_text, register_operand}
 use Rattle.lists.proofs.JoinedLists.{four_joined}
 
--- what the operands from an index on are printed as
+-- the text of the operands from an index on
 abbrev pub operands_left : {A : Type 0} → (A → List ℕ) → ℕ → List A → List ℕ
 operands_left text index xs = operands_text index (map text (drop index xs))
 
@@ -50,7 +50,7 @@ pub row_finished : (old named parted out name last registers : List ℕ) (count 
 row_finished old named parted out name last registers count e n p o =
     o ∙ (ap (λ (t : List ℕ). t ++ last) (p ∙ (ap (λ (t : List ℕ). t ++ gap_text count) e ∙ ap (λ (k : ℕ). (old ++ (name ++ operands_text 0 (map register_operand registers))) ++ gap_text k) n)) ∙ row_ended old name last registers)
 
--- what an appending call gave
+-- the result of an appending call
 pub appended : {A E : Type 0} → (r : Result A E) (out old all : List ℕ) → out ≡ (if is_ok r then all else old) → OnOk r (out ≡ all)
 appended (Ok x) out old all h = h
 appended (Err e) out old all h = tt

@@ -1,4 +1,4 @@
--- What the reading functions answer: what the definition says, unless memory ran out.
+-- The results of the reading functions: those of the definition, unless memory ran out.
 use Rattle.std.specs.Prelude.{◌≡◌, ℕ, List, [], ◌∷◌, Result, Ok, Err, Vec}
 use Rattle.mips_isa.specs.declared.asm_fault.AsmKind.{AsmKind}
 use Rattle.mips_isa.specs.declared.asm_fault.AsmError.{AsmError}
@@ -9,7 +9,7 @@ use Rattle.mips_text.specs.declared.flaw.Flaw.{Flaw}
 use Rattle.mips_text.specs.declared.flaw.Flaw.TheVariants as flaw
 use Rattle.mips_text.specs.Reading.{Reads, FirstFault, with_label}
 
--- what a part of a line is read as
+-- the result of reading a part of a line
 abbrev pub Meets : {A B : Type 0} → (A → B) → Result A Flaw → Result B AsmKind → Type 0
 Meets see (Ok x) read = read ≡ Ok (see x)
 Meets see (Err flaw.Memory) read = Unit {0}

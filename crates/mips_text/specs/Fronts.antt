@@ -1,5 +1,5 @@
--- What the scanning functions find at a place: the longest word there, as a function of its first byte and the bytes after. That it is
--- the longest is proved, not said here.
+-- The results of the scanning functions at a place: the longest word there, as a function of its first byte and the bytes after. That it is the longest is
+-- proved, not said here.
 use Rattle.std.specs.Prelude.{ℕ, ◌+◌, ◌-◌, nat_lt, Bool, false, not, ◌&&◌, ◌==◌, if◌then◌else◌, List, [], ◌∷◌, take, Option, Some, None, option_map}
 use Rattle.std.specs.Option.{option_or}
 use Rattle.std.specs.List.{prefix_len}
@@ -12,7 +12,7 @@ use Rattle.mips_text.specs.Letters.{name_rest, hex_digit}
 use Rattle.mips_text.specs.Strings.{closes_string, opens_escape}
 use Rattle.mips_text.specs.Words.{Word, Name, Register, Text, Colon, Open, Close, Front, value, capped, number, number_below_zero}
 
--- which bytes a span takes
+-- whether a span takes a byte
 abbrev pub takes : Span → ℕ → Bool
 takes span.Name b = name_rest b
 takes span.Register b = is_ascii_alphanumeric b
@@ -46,7 +46,7 @@ magnitude_found bytes = option_or (hexadecimal_found bytes) (decimal_found bytes
 abbrev pub capped_magnitude : Magnitude → Magnitude
 capped_magnitude m = record { value = capped m.value; size = m.size }
 
--- where the closing quote stands, in bytes from this place on
+-- the place of the closing quote, in bytes from this place on
 abbrev pub closing_quote : Bool → ℕ → List ℕ → Option ℕ
 closing_quote escaped place [] = None
 closing_quote escaped place (b ∷ bs) =
@@ -70,7 +70,7 @@ text_front bytes size = record { word = Text (take size bytes); after = size + 1
 abbrev pub sign_front : Word → Front
 sign_front word = record { word = word; after = 0 }
 
--- what is found at a first byte of this class
+-- the word at a first byte of this class
 abbrev pub front_found : Start → ℕ → List ℕ → Option Front
 front_found start.Name b bs = Some (name_front b bs (prefix_len (takes span.Name) bs))
 front_found start.Digit b bs = option_map digits_front (magnitude_found (b ∷ bs))

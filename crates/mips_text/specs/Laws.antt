@@ -1,4 +1,4 @@
--- What the laws on the reading of texts say.
+-- The statements of the laws on the reading of texts.
 use Rattle.std.specs.Prelude.{◌≡◌, ◌⊎◌, ◌<◌, ◌==◌, not, true, ℕ, List, [], ◌∷◌, ◌++◌, length, flat_map}
 use Rattle.std.specs.List.{AllByRecursion, list_all}
 use Rattle.mips_isa.specs.declared.asm_fault.AsmKind.{AsmKind}

@@ -23,7 +23,7 @@ name_rest byte = name_start byte || is_ascii_digit byte
 abbrev pub hex_digit : ℕ → Bool
 hex_digit byte = is_ascii_digit byte || is_in_range 65 70 byte || is_in_range 97 102 byte
 
--- what word a byte begins: a name, a number without a sign or below zero, a register, a string, a sign, or none
+-- the kind of word that a byte begins: a name, a number without a sign or below zero, a register, a string, a sign, or none
 abbrev pub start_of : ℕ → Start
 start_of byte =
     if name_start byte then start.Name
@@ -36,6 +36,6 @@ start_of byte =
     else (if byte == 41 then start.Close
     else start.Stray)))))))
 
--- what stands at a byte: a blank, a comment up to the line's end, or a word
+-- the class of a byte: a blank, a comment up to the line's end, or a word
 abbrev pub class_of : ℕ → Class
 class_of byte = if blank byte then class.Blank else (if byte == 35 then class.Comment else class.Word (start_of byte))

@@ -77,7 +77,7 @@ abbrev pub lines_in : List ℕ → List (List ℕ)
 lines_in [] = []
 lines_in (b ∷ bs) = if b == 10 then [] ∷ lines_in bs else with_byte b (lines_in bs)
 
--- what each line is read as
+-- the reading of each line
 abbrev pub readings : List ℕ → List (Result Line AsmKind)
 readings bytes = map (λ line. line_read (words_of line)) (lines_in bytes)
 

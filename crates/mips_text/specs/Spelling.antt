@@ -1,8 +1,8 @@
--- How the parts of a row are printed.
+-- The printed parts of a row.
 use Rattle.std.specs.Prelude.{ℕ, List, [], ◌∷◌, ◌++◌, codes, suc, ◌==◌, if◌then◌else◌}
 use Rattle.mips_text.specs.Names.{register_text}
 
--- what parts the operand of an index, from 0, from the word before
+-- the text between the operand of an index, from 0, and the word before
 abbrev pub gap_text : ℕ → List ℕ
 gap_text index = if index == 0 then codes " " else codes ", "
 

@@ -94,7 +94,7 @@ has_colon words index = is_colon (slice_get words index)
 abbrev pub has_open : List Word → ℕ → Bool
 has_open words index = is_open (slice_get words index)
 
--- What instructions want
+-- The operands that instructions expect
 
 abbrev pub one_register : List Wanted → List Wanted
 one_register last = wanted.Register ∷ last
@@ -114,7 +114,7 @@ imm_range Andi = range.Unsigned
 imm_range Ori = range.Unsigned
 imm_range Xori = range.Unsigned
 
--- one register alone is where the jump goes
+-- if there is only one register, it is the jump's target
 abbrev pub jalr_operands : Bool → List Wanted
 jalr_operands alone = if alone then one_register [] else two_registers []
 
@@ -150,7 +150,7 @@ instruction_operands (mnemonics.BranchZero op) words = one_register (wanted.Name
 instruction_operands (mnemonics.BranchOrder op) words = two_registers (wanted.Name ∷ [])
 instruction_operands mnemonics.Mul words = three_registers
 
--- What they are
+-- The instructions, from their operands
 
 abbrev pub to_two : TwoOp → ℕ → ℕ → Option (List ℕ) → ℤ → lines.AsmInstr
 to_two op rs rt (Some target) value = lines.ToTwo op rs rt target

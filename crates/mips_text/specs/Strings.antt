@@ -1,4 +1,4 @@
--- What a string stands for: each byte for itself, but for a backslash with the byte behind it.
+-- The bytes that a string stands for: each byte for itself, except for a backslash with the byte behind it.
 use Rattle.std.specs.Prelude.{◌≡◌, refl, ℕ, Bool, true, false, not, ◌==◌, ◌&&◌, ◌||◌, if◌then◌else◌, List, [], ◌∷◌, codes}
 
 -- a backslash that begins an escape, where none is open
@@ -9,7 +9,7 @@ opens_escape escaped byte = not escaped && byte == 92
 abbrev pub closes_string : Bool → ℕ → Bool
 closes_string escaped byte = not escaped && byte == 34
 
--- what may stand behind a backslash: n, t, a quote, a backslash
+-- the bytes allowed behind a backslash: n, t, a quote, a backslash
 abbrev pub is_known : Bool → ℕ → Bool
 is_known escaped byte = not escaped || (byte == 110 || (byte == 116 || (byte == 34 || byte == 92)))
 
@@ -22,7 +22,7 @@ all_known escaped (b ∷ bs) = if is_known escaped b then all_known (opens_escap
 abbrev pub letter : Bool → ℕ → ℕ
 letter escaped byte = if escaped && byte == 110 then 10 else (if escaped && byte == 116 then 9 else byte)
 
--- what these bytes stand for, after a backslash or not
+-- the bytes that these stand for, after a backslash or not
 abbrev pub unescaped : Bool → List ℕ → List ℕ
 unescaped escaped [] = []
 unescaped escaped (b ∷ bs) = if opens_escape escaped b then unescaped true bs else letter escaped b ∷ unescaped false bs

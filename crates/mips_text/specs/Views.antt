@@ -1,4 +1,4 @@
--- The code's words and fronts as those of the definition.
+-- The code's words and fronts, seen as those of the definition.
 use Rattle.mips_text.specs.declared.words.Word as declared_word
 use Rattle.mips_text.specs.declared.words.Word.TheVariants as words
 use Rattle.mips_text.specs.declared.fronts.Found as declared_found

@@ -15,9 +15,9 @@ use Rattle.mips_text.specs.Letters.{name_rest, hex_digit, class_of}
 pub data Word : Type 0 where
   Name : (bytes : List ℕ) → Word
   Number : (value : ℤ) → Word
-  -- what stands after the `$`
+  -- the bytes after the `$`
   Register : (name : List ℕ) → Word
-  -- what stands between the quotes
+  -- the bytes between the quotes
   Text : (raw : List ℕ) → Word
   Colon : Word
   Open : Word
@@ -72,7 +72,7 @@ abbrev pub nothing_if_empty : List ℕ → Option (List ℕ)
 nothing_if_empty [] = Some []
 nothing_if_empty (b ∷ bs) = None
 
--- What stands before a closing quote, if that is the last of these bytes. A backslash takes the next byte with it.
+-- The bytes before a closing quote, if that is the last of these bytes. A backslash takes the next byte with it.
 abbrev pub enclosed : Bool → List ℕ → Option (List ℕ)
 enclosed escaped [] = None
 enclosed escaped (b ∷ bs) =

@@ -1,11 +1,11 @@
-//! The classes of bytes: what a byte of a line begins.
+//! The classes of bytes of a line: the kind of word that a byte begins.
 
 ghost use Rattle.std.specs.Prelude.{◌≡◌};
 ghost use Rattle.mips_text.specs.Letters.{class_of, start_of};
 
 use crate::letters::{begins_name, is_blank};
 
-/// What word a byte begins.
+/// The kind of word that a byte begins.
 #[derive(Clone, Copy)]
 pub(crate) enum Start {
     Name,
@@ -22,7 +22,7 @@ pub(crate) enum Start {
     Stray,
 }
 
-/// What stands at a byte.
+/// The class of a byte.
 #[derive(Clone, Copy)]
 pub(crate) enum Class {
     Blank,
@@ -30,7 +30,7 @@ pub(crate) enum Class {
     Word(Start),
 }
 
-/// What stands at this byte.
+/// The class of this byte.
 pub(crate) fn class_of(byte: u8) -> Class
     ensures { result ≡ class_of byte }
 {
@@ -43,7 +43,7 @@ pub(crate) fn class_of(byte: u8) -> Class
     }
 }
 
-/// What word this byte begins.
+/// The kind of word that this byte begins.
 fn start_of(byte: u8) -> Start
     ensures { result ≡ start_of byte }
 {

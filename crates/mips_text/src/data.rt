@@ -1,4 +1,4 @@
-//! Statements that begin with a directive, of the words behind it.
+//! Statements that begin with a directive, made from the words behind it.
 
 ghost use Rattle.std.specs.Prelude.{◌≡◌, IfOk, map};
 ghost use Rattle.mips_isa.specs.Lines.{statement_of, item_of};
@@ -39,7 +39,7 @@ pub(crate) fn directive_fault(directive: Directive, words: &[Word]) -> Option<As
     }
 }
 
-/// The statement of a directive and of the words behind it, which are what it wants. `Err` comes only for want of memory.
+/// The statement of a directive and of the words behind it, which are the operands that it expects. Returns `Err` only if memory runs out.
 pub(crate) fn directive_statement(
     alloc: Global,
     directive: Directive,
@@ -75,7 +75,7 @@ pub(crate) fn directive_statement(
     }
 }
 
-/// The operands of `.word`. `Err` comes only for want of memory.
+/// The operands of `.word`. Returns `Err` only if memory runs out.
 fn items(alloc: Global, words: &[Word]) -> Result<Vec<WordItem>, AllocError>
     ensures { IfOk result (λ items. map item_of items.items ≡ map item_made (map word_seen words.now)) }
 {
@@ -86,7 +86,7 @@ fn items(alloc: Global, words: &[Word]) -> Result<Vec<WordItem>, AllocError>
     Ok(items)
 }
 
-/// The operand of `.word` that is this word. `Err` comes only for want of memory.
+/// The operand of `.word` that is this word. Returns `Err` only if memory runs out.
 fn item(alloc: Global, word: Word) -> Result<WordItem, AllocError>
     ensures { IfOk result (λ item. item_of item ≡ item_made (word_seen word.entry)) }
 {
@@ -97,7 +97,7 @@ fn item(alloc: Global, word: Word) -> Result<WordItem, AllocError>
     }
 }
 
-/// The operands of `.byte`. `Err` comes only for want of memory.
+/// The operands of `.byte`. Returns `Err` only if memory runs out.
 fn bytes(alloc: Global, words: &[Word]) -> Result<Vec<i32>, AllocError>
     ensures { IfOk result (λ bytes. bytes.items ≡ map byte_made (map word_seen words.now)) }
 {

@@ -1,4 +1,4 @@
-//! What may be wrong while a line is read.
+//! The errors while a line is read.
 
 ghost use Rattle.std.specs.Prelude.{◌≡◌};
 ghost use Rattle.mips_text.specs.declared.flaw.Flaw.TheVariants.{Memory};

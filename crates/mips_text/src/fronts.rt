@@ -1,4 +1,4 @@
-//! The word at a place of a line.
+//! Scanning the word at a place of a line.
 
 ghost use Rattle.std.specs.Prelude.{◌≡◌, ◌∷◌, ◌≤◌, ◌<◌, Some, false, IfSome, length, option_map};
 ghost use Rattle.mips_text.specs.declared.class.Start.TheVariants as start;
@@ -12,7 +12,7 @@ use crate::span::{Span, span_len};
 use crate::strings::{closes_string, opens_escape};
 use crate::words::Word;
 
-/// A word, and how many bytes of it stand after the first.
+/// A word, and the number of its bytes after the first.
 #[derive(Clone, Copy)]
 pub(crate) struct Found<'a> {
     pub(crate) word: Word<'a>,
@@ -33,7 +33,7 @@ pub(crate) fn front_at<'a>(
     found_at(start, text, first, tail)
 }
 
-/// What is found at the front of the text, whose first byte begins such a word.
+/// The word at the front of the text, whose first byte begins such a word.
 fn found_at<'a>(start: Start, text: &'a [u8], first: u8, tail: &'a [u8]) -> Option<Found<'a>>
     requires whole { text.now ≡ first ∷ tail.now }
     ensures exact { option_map found_seen result ≡ front_found start first tail.now }
@@ -125,7 +125,7 @@ fn quoted<'a>(first: u8, tail: &'a [u8]) -> Option<Found<'a>>
     })
 }
 
-/// How many bytes stand before the closing quote. A backslash takes the next byte with it.
+/// The number of bytes before the closing quote. A backslash takes the next byte with it.
 fn closing_quote(bytes: &[u8]) -> Option<usize>
     ensures exact { result ≡ closing_quote false 0 bytes.now }
     ensures within { IfSome result (λ n. n < length bytes.now) }

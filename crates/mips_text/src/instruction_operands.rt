@@ -1,4 +1,4 @@
-//! The operands that instructions want.
+//! The operands that instructions expect.
 
 ghost use Rattle.std.specs.Prelude.{◌≡◌, ◌∷◌, [], map};
 ghost use Rattle.mips_text.specs.declared.mnemonics.Mnemonic.TheVariants.{Jalr};
@@ -73,7 +73,7 @@ static ONE_NAME: [Wanted; 2] = [Wanted::Register, Wanted::Name];
 
 static TWO_NAME: [Wanted; 3] = [Wanted::Register, Wanted::Register, Wanted::Name];
 
-/// The operands that a mnemonic wants, where these words stand behind it.
+/// The operands that a mnemonic expects, if these words stand behind it.
 pub(crate) fn instruction_operands(mnemonic: Mnemonic, words: &[Word]) -> &'static [Wanted]
     ensures { result.now ≡ instruction_operands mnemonic (map word_seen words.now) }
 {
@@ -97,7 +97,7 @@ pub(crate) fn instruction_operands(mnemonic: Mnemonic, words: &[Word]) -> &'stat
     }
 }
 
-/// One register alone is where the jump goes.
+/// If there is only one register, it is the jump's target.
 fn jalr_operands(words: &[Word]) -> &'static [Wanted]
     ensures { result.now ≡ instruction_operands Jalr (map word_seen words.now) }
 {

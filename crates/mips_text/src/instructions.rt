@@ -1,4 +1,4 @@
-//! Instructions, of the words behind their mnemonics.
+//! Instructions, made from the words behind their mnemonics.
 
 ghost use Rattle.std.specs.Prelude.{◌≡◌, IfOk, map};
 ghost use Rattle.mips_isa.specs.Lines.{Plain, instruction_of};
@@ -14,7 +14,7 @@ use mips_isa::register::RA;
 use mips_isa::{AsmInstr, ImmOp, Instr, JumpOp, Label, MemOp, OneOp, Reg, TwoOp};
 use std::alloc::{AllocError, Global};
 
-/// The instruction of a mnemonic and of the words behind it, which are what it wants. `Err` comes only for want of memory.
+/// The instruction of a mnemonic and of the words behind it, which are the operands that it expects. Returns `Err` only if memory runs out.
 pub(crate) fn instruction(
     alloc: Global,
     mnemonic: Mnemonic,
@@ -107,7 +107,7 @@ pub(crate) fn instruction(
     }
 }
 
-/// One register alone is where the jump goes; the address after it is then saved in `$ra`.
+/// If there is only one register, it is the jump's target; the address after it is then saved in `$ra`.
 fn jalr(words: &[Word], first: Reg, second: Reg) -> Instr
     requires first { first ≡ register_at (map word_seen words.now) 0 }
     requires second { second ≡ register_at (map word_seen words.now) 1 }

@@ -1,5 +1,4 @@
-//! Laws on the reading of texts: each has one, each word is the longest at its place, and what is printed
-//! is read again.
+//! Laws on the reading of texts: each has one, each word is the longest at its place, and a printed text is read again.
 
 ghost use Rattle.std.specs.Prelude.{◌≡◌, ℕ, List};
 ghost use Rattle.mips_isa.specs.declared.asm_fault.AsmFault.{AsmFault};
@@ -41,7 +40,7 @@ pub fn law_longest_words()
     ensures { (s : Start) (b : ℕ) (bs : List ℕ) → IsWordThere s b bs (front s b bs) }
 {}
 
-/// What is printed of lines is read as these lines.
+/// The printed text of lines is read as these lines.
 pub fn law_printed_is_read()
     ensures { (lines : List Line) → ArePrintable lines → Reads (printed lines) lines }
 {}

@@ -1,7 +1,7 @@
 //! Assembly as text.
 //!
-//! Comes in: the bytes of a text, or lines of assembly. Goes out: the other of the two. Reading finds the first word of the
-//! text that is at fault; `print_asm` has one spelling for each line. What a name and a number are is told alone, too.
+//! Input: the bytes of a text, or lines of assembly. Output: the other of the two. Reading finds the first word of the text that is at fault;
+//! `print_asm` has one spelling for each line. `is_name` and `value_of_digits` read single names and numbers.
 #![tactic(auto)]
 
 mod class;

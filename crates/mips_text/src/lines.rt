@@ -56,7 +56,7 @@ fn has_label(words: &[Word], index: usize) -> bool
     index + 1 < words.len() && has_name(words, index) && has_colon(words, index + 1)
 }
 
-/// The statement of words that begin with no label, or none where there is no word.
+/// The statement of words that begin with no label, or none if there is no word.
 fn read_rest(alloc: Global, words: &[Word]) -> Result<Statement, Flaw>
     ensures { Meets statement_of result (rest_read (map word_seen words.now)) }
 {

@@ -7,7 +7,7 @@ ghost use Rattle.mips_text.specs.Views.{magnitude_seen};
 use crate::numbers::{LARGEST, value_of_digits};
 use crate::span::{Span, span_len};
 
-/// A number without its sign, or one past every range in place of a larger one, and how many bytes it has.
+/// A number without its sign, or one past every range in place of a larger one, and the number of its bytes.
 #[derive(Clone, Copy)]
 pub(crate) struct Magnitude {
     pub(crate) value: u64,

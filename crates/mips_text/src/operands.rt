@@ -52,7 +52,7 @@ pub(crate) fn label_at<'a>(words: &[Word<'a>], index: usize) -> &'a [u8]
     }
 }
 
-/// What stands between the quotes of the string at a place, or nothing for another word.
+/// The bytes between the quotes of the string at a place, or nothing for another word.
 pub(crate) fn raw_at<'a>(words: &[Word<'a>], index: usize) -> &'a [u8]
     ensures { result.now ≡ raw_at (map word_seen words.now) index }
 {

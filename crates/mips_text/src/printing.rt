@@ -1,4 +1,4 @@
-//! The text of lines.
+//! Printing the text of lines.
 
 ghost use Rattle.std.specs.Prelude.{◌≡◌, ◌++◌, IfOk, OnOk, flat_map};
 ghost use Rattle.mips_isa.specs.Lines.{line_of, lines_of, instruction_of, data_item_of, directive_of, statement_of};
@@ -15,8 +15,7 @@ use std::alloc::{AllocError, Global};
 
 /// The text of lines, in the one spelling, which `docs/assembly.md` has under Printing.
 ///
-/// A line is each label as its name and `:`, then a tab and the statement, where there is one, then a newline. `Err` comes only for
-/// want of memory.
+/// A line is each label as its name and `:`, then a tab and the statement, if there is one, then a newline. Returns `Err` only if memory runs out.
 pub fn print_asm(alloc: Global, lines: &[Line]) -> Result<Vec<u8>, AllocError>
     ensures text { IfOk result (λ text. text.items ≡ printed (lines_of lines.now)) }
 {
@@ -27,8 +26,8 @@ pub fn print_asm(alloc: Global, lines: &[Line]) -> Result<Vec<u8>, AllocError>
     Ok(out)
 }
 
-/// The text of a statement, without a tab or a newline: the mnemonic or directive and, where there are operands, a space and the
-/// operands with `, ` between. Numbers stand in decimal. `Err` comes only for want of memory.
+/// The text of a statement, without a tab or a newline: the mnemonic or directive and, if there are operands, a space and the operands with `, ` between.
+/// Numbers stand in decimal. Returns `Err` only if memory runs out.
 pub fn print_statement(alloc: Global, statement: &Statement) -> Result<Vec<u8>, AllocError>
     ensures text { IfOk result (λ text. text.items ≡ statement_text (statement_of statement.now)) }
 {

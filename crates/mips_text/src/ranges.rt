@@ -1,4 +1,4 @@
-//! Numbers of operands, where they are in their ranges, and 0 for others.
+//! The numbers of operands, if they are in their ranges, and 0 otherwise.
 
 ghost use Rattle.std.specs.Prelude.{◌≡◌};
 ghost use Rattle.mips_text.specs.declared.wanted.Range.TheVariants.{Signed, Unsigned, Shift, Index, Word, Byte, Space, Power};
@@ -29,7 +29,7 @@ pub(crate) fn unsigned(value: i64) -> i32
     }
 }
 
-/// How far a word is shifted.
+/// The number of bits by which a word is shifted.
 pub(crate) fn shift_count(value: i64) -> u32
     ensures { result ≡ natural (kept Shift value) }
 {
@@ -69,7 +69,7 @@ pub(crate) fn byte_number(value: i64) -> i32
     }
 }
 
-/// How many zero bytes are kept free.
+/// The number of zero bytes that are reserved.
 pub(crate) fn space_size(value: i64) -> u32
     ensures { result ≡ natural (kept Space value) }
 {

@@ -1,4 +1,4 @@
-//! Whole texts.
+//! Reading a whole assembly text.
 
 ghost use Rattle.std.specs.Prelude.{◌≡◌, ◌∷◌, ◌≤◌, ◌<◌, IfOk, length, vec_len};
 ghost use Rattle.mips_isa.specs.Lines.{AreInRange, lines_of};
@@ -13,10 +13,10 @@ use std::alloc::Global;
 
 /// The lines of an assembly text, one for each line of the text.
 ///
-/// A line with a fault is no line of assembly, and the text's error is that of the first such line, which its first bad word
-/// decides. A1: a byte begins no word, a string is not closed, or the statement's first word is no mnemonic. A4: that word
-/// begins with `.` and is no directive. A3: a number is out of its operand's range. A2: an operand is missing, is of another
-/// kind, is no register, is a string with an unknown escape, or is one too many. `Memory` comes only for want of memory.
+/// A line with a fault is no line of assembly, and the text's error is that of the first such line, which its first bad word decides. A1: a byte begins no
+/// word, a string is not closed, or the statement's first word is no mnemonic. A4: that word begins with `.` and is no directive. A3: a number is out of
+/// its operand's range. A2: an operand is missing, is of another kind, is no register, is a string with an unknown escape, or is one too many. Returns
+/// `Memory` only if memory runs out.
 pub fn read_asm(alloc: Global, bytes: &[u8]) -> Result<Vec<Line>, AsmError>
     requires { length bytes.now ≤ 532676628 }
     ensures exact { TextReadsAs bytes.now result }

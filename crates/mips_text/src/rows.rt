@@ -158,7 +158,7 @@ pub(crate) fn put_text(
     out.extend_from_slice(b"\"")
 }
 
-/// Writes what parts the operand of this index, from 0, from the word before.
+/// Writes the text between the operand of this index, from 0, and the word before.
 fn put_gap(out: &mut Vec<u8>, index: usize) -> Result<(), AllocError>
     ensures { OnOk result (out.new.items ≡ out.old.items ++ gap_text index) }
 {
@@ -183,7 +183,7 @@ fn put_number(out: &mut Vec<u8>, value: i64) -> Result<(), AllocError>
     out.extend_from_slice(digits.as_bytes())
 }
 
-/// Writes a byte of a string, as an escape where it needs one.
+/// Writes a byte of a string, as an escape if it needs one.
 fn put_letter(out: &mut Vec<u8>, byte: u8) -> Result<(), AllocError>
     ensures { OnOk result (out.new.items ≡ out.old.items ++ letter_text byte) }
 {

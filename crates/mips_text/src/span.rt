@@ -6,12 +6,12 @@ ghost use Rattle.mips_text.specs.Fronts.{takes};
 
 use crate::letters::{continues_name, continues_register};
 
-/// Which bytes a span takes.
+/// The kinds of bytes that a span takes.
 #[derive(Clone, Copy)]
 pub(crate) enum Span {
-    /// What stands after the first byte of a name.
+    /// The bytes after the first byte of a name.
     Name,
-    /// What stands after the `$` of a register.
+    /// The bytes after the `$` of a register.
     Register,
     Digits,
     HexDigits,
@@ -34,7 +34,7 @@ impl Span {
     }
 }
 
-/// How many bytes the span takes from the front of the text on.
+/// The number of bytes that the span takes from the front of the text on.
 pub(crate) fn span_len(span: Span, text: &[u8]) -> usize
     ensures len { result ≡ prefix_len (takes span) text.now }
     ensures within { result ≤ length text.now }

@@ -1,4 +1,4 @@
-//! What strings stand for.
+//! Strings: their escapes, and the bytes that they stand for.
 
 ghost use Rattle.std.specs.Prelude.{◌≡◌, false, IfOk};
 ghost use Rattle.mips_text.specs.Strings.{all_known, closes_string, is_known, letter, opens_escape, unescaped};
@@ -40,7 +40,7 @@ fn is_known(escaped: bool, byte: u8) -> bool
     !escaped || matches!(byte, b'n' | b't' | b'"' | b'\\')
 }
 
-/// The bytes that a string stands for. `Err` comes only for want of memory.
+/// The bytes that a string stands for. Returns `Err` only if memory runs out.
 pub(crate) fn unescaped(alloc: Global, raw: &[u8]) -> Result<Vec<u8>, AllocError>
     ensures { IfOk result (λ bytes. bytes.items ≡ unescaped false raw.now) }
 {
@@ -57,7 +57,7 @@ pub(crate) fn unescaped(alloc: Global, raw: &[u8]) -> Result<Vec<u8>, AllocError
     Ok(bytes)
 }
 
-/// What this byte stands for, after a backslash or not.
+/// The byte that this one stands for, after a backslash or not.
 fn letter(escaped: bool, byte: u8) -> u8
     ensures { result ≡ letter escaped byte }
 {

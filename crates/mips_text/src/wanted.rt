@@ -1,4 +1,4 @@
-//! What is wanted where an operand stands, and the faults of words that are something else.
+//! The kinds of operands that an instruction expects, and the faults of other words.
 
 ghost use Rattle.std.specs.Prelude.{◌≡◌, map};
 ghost use Rattle.mips_text.specs.Operands.{each_fault, fault_unless, is_within, many_fault, misplaced, row_fault, word_fault};
@@ -16,7 +16,7 @@ pub(crate) enum Range {
     Signed,
     /// An immediate that is extended by zeros.
     Unsigned,
-    /// How far a word is shifted.
+    /// The number of bits by which a word is shifted.
     Shift,
     /// The index of a jump.
     Index,
@@ -24,13 +24,13 @@ pub(crate) enum Range {
     Word,
     /// A byte, with or without a sign.
     Byte,
-    /// How many zero bytes are kept free.
+    /// The number of zero bytes that are reserved.
     Space,
     /// The power of two that is padded to.
     Power,
 }
 
-/// What is wanted at a place.
+/// The kind of operand that is expected at a place.
 #[derive(Clone, Copy)]
 pub(crate) enum Wanted {
     Register,
@@ -103,7 +103,7 @@ fn each_fault(wanted: Wanted, words: &[Word]) -> Option<AsmKind>
     None
 }
 
-/// The fault of a word, if it is not what is wanted at its place.
+/// The fault of a word, if it is not the kind that is expected at its place.
 fn word_fault(wanted: Wanted, word: Word) -> Option<AsmKind>
     ensures { result ≡ word_fault wanted (word_seen word.entry) }
 {
@@ -123,14 +123,14 @@ fn word_fault(wanted: Wanted, word: Word) -> Option<AsmKind>
     }
 }
 
-/// None where the test holds.
+/// None if the test holds.
 fn fault_unless(holds: bool, kind: AsmKind) -> Option<AsmKind>
     ensures { result ≡ fault_unless holds kind }
 {
     if holds { None } else { Some(kind) }
 }
 
-/// The fault of a word where none is wanted.
+/// The fault of a word if none is expected.
 fn misplaced(word: Word) -> AsmKind
     ensures { result ≡ misplaced (word_seen word.entry) }
 {

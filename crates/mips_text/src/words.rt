@@ -14,9 +14,9 @@ pub(crate) enum Word<'a> {
     Name(&'a [u8]),
     /// A number, or one past every range in place of a larger one.
     Number(i64),
-    /// What stands after a `$`.
+    /// The bytes after a `$`.
     Register(&'a [u8]),
-    /// What stands between the quotes of a string, with its escapes.
+    /// The bytes between the quotes of a string, with its escapes.
     Text(&'a [u8]),
     Colon,
     Open,
@@ -25,7 +25,7 @@ pub(crate) enum Word<'a> {
     Stray,
 }
 
-/// Fills the list with the words of a line, up to the first one that is none. `Err` comes only for want of memory.
+/// Fills the list with the words of a line, up to the first one that is none. Returns `Err` only if memory runs out.
 pub(crate) fn fill_words<'a>(words: &mut Vec<Word<'a>>, line: &'a [u8]) -> Result<(), AllocError>
     ensures { OnOk result (map word_seen words.new.items ≡ words_of line.now) }
 {
@@ -61,7 +61,7 @@ fn next_word(line: &[u8]) -> Option<Cut<'_>>
     None
 }
 
-/// The word that was found at a place, and what is behind it. Nothing is behind bytes that begin no word.
+/// The word that was found at a place, and the bytes behind it. Nothing is behind bytes that begin no word.
 fn cut_at<'a>(found: Option<Found<'a>>, tail: &'a [u8]) -> Cut<'a>
     requires { IfSome found (λ f. f.after ≤ length tail.now) }
     ensures exact { word_seen result.word ∷ words_of result.behind.now ≡ with_front (option_map found_seen found.entry) (λ n. words_behind n tail.now) }
@@ -76,7 +76,7 @@ fn cut_at<'a>(found: Option<Found<'a>>, tail: &'a [u8]) -> Cut<'a>
     }
 }
 
-/// The word that was found at a place, and what is behind it.
+/// The word that was found at a place, and the bytes behind it.
 fn cut_behind<'a>(found: Found<'a>, tail: &'a [u8]) -> Cut<'a>
     requires { found.after ≤ length tail.now }
     ensures word { word_seen result.word ≡ word_seen found.entry.word }

@@ -1,4 +1,4 @@
--- What an operation did is the definition's next step.
+-- An operation makes the definition's next step.
 use Rattle.std.proofs.Common.{◌≡◌, ◌∙◌, refl, sym, ap, subst, ℕ, ◌+◌, ◌-◌, ◌*◌, ◌/◌, ◌%◌, ◌<◌, ◌≤◌, Bool, true, false, List, length, get_or, arith}
 use Rattle.std.specs.Prelude.{Option, Ok, Err, IfSome, ◌==◌, if◌then◌else◌, not}
 use Rattle.mips_isa.specs.declared.instr.Instr.{Instr}
@@ -18,7 +18,7 @@ use Rattle.spim_cpu.specs.Cpu.{CpuParts, core_of, Stepped}
 use Rattle.spim_cpu.specs.Advancing.{at, word_index}
 use Rattle.spim_cpu.specs.declared.step.Step.TheVariants as answer
 
--- where an access answers a value, it is not refused
+-- an access that returns a value was not refused
 not_refused : {X : Type 0} (even may : Bool) (e f : MemFault) (x y : X) (g h n : Next) → (if not even then Err e else (if not may then Err f else Ok x)) ≡ Ok y → (x ≡ y) × ((if not even then g else (if not may then h else n)) ≡ n)
 not_refused true true e f x y g h n is = (cc, refl)
 not_refused true false e f x y g h n is = absurd cc
@@ -65,7 +65,7 @@ operation_in_range t all pc i op are few fits is within found =
 pub in_text : (all : List Operation) (pc i : ℕ) → length all ≤ 66060288 → pc < 4294967296 → i ≡ word_index pc → i < length all → pc < DATA_START
 in_text all pc i few fits is within = omega (arith, is, within, few, fits)
 
--- what the definition does next, by a step that leads on, and by one that is a call
+-- the definition's next step, for an operation that leads on, and for one that is a call
 led_on : (n : Next) (core : Core) (old new : CpuParts) → n ≡ On core → core_of new ≡ core → Stepped n answer.Next old new
 led_on (On other) core old new is same =
     let eq : other ≡ core = cc in
@@ -80,7 +80,7 @@ called (Call other) core old new is same =
 called (On other) core old new is same = absurd cc
 called (Stop trap) core old new is same = absurd cc
 
--- a step to the pc that an operation answers
+-- a step to the pc that an operation returns
 pub stepped_on : (n : Next) (after : ℕ) (old new : CpuParts) (l : List ℕ) (hi lo pc : ℕ) (m : MemoryParts)
     → record { registers = l; hi = hi; lo = lo; pc = pc; memory = m } ≡ new → n ≡ On (at after (core_of new)) → Stepped n answer.Next old (record { registers = l; hi = hi; lo = lo; pc = after; memory = m })
 stepped_on n after old new l hi lo pc m same is =

@@ -1,4 +1,4 @@
--- Operations one after another: what one leads to, and where so many lead.
+-- Operations one after another: the step after one, and the state after n.
 use Rattle.std.specs.Prelude.{◌≡◌, refl, ℕ, zero, suc, ◌+◌, ◌-◌, ◌*◌, ◌/◌, ◌%◌, ◌^◌, nat_lt, not, ◌||◌, Bool, true, false, List, [], ◌∷◌, get_or, Option, Some, None, Result, Ok, Err}
 use Rattle.mips_isa.specs.declared.address_map.TheConstants.{TEXT_START}
 use Rattle.mips_isa.specs.Bytes.{Segments}
@@ -11,8 +11,8 @@ use Rattle.spim_cpu.specs.declared.step.Step.TheVariants as answer
 abbrev pub at : ℕ → Core → Core
 at pc s = record s { pc = pc }
 
--- An operation at pc did what the definition does next: it answers the next pc, or that it is a call or traps, and then it changes
--- nothing. The processor's own pc stays.
+-- An operation at pc did what the definition does next: it returns the next pc, or that it is a call or traps, and then it changes nothing. The
+-- processor's own pc stays.
 abbrev pub Acted : ℕ → Next → Result ℕ Step → CpuParts → CpuParts → Type 0
 Acted pc next (Ok after) old new = next ≡ On (at after (core_of new))
 Acted pc next (Err answer.Next) old new = ⊥

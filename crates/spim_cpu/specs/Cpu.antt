@@ -1,4 +1,4 @@
--- What a contract sees of a processor, and what it has to do with the state of the machine's definition.
+-- The processor as contracts see it, and its relation to the state of the machine's definition.
 use Rattle.std.specs.Prelude.{◌≡◌, ℕ, ◌+◌, List, length, get_or, Result, Ok, Err}
 use Rattle.mips_isa.specs.declared.register.TheConstants.{ZERO}
 use Rattle.mips_isa.specs.declared.trap.Trap.{Trap}
@@ -55,12 +55,12 @@ abbrev pub moved_to : ToOp → Core → ℕ → Next
 moved_to Mthi s v = put_hi_lo s v s.lo
 moved_to Mtlo s v = put_hi_lo s s.hi v
 
--- what a load leads to: its number goes into a register, or it traps
+-- the step after a load: its number goes into a register, or it traps
 abbrev pub put_loaded : Core → ℕ → Result ℕ MemFault → Next
 put_loaded s k (Ok v) = put s k v
 put_loaded s k (Err fault) = Stop (trap_of fault s.pc)
 
--- what a store leads to
+-- the step after a store
 abbrev pub after_store : Core → Result (Unit {0}) MemFault → Next
 after_store s (Ok done) = On (record s { pc = s.pc + 4 })
 after_store s (Err fault) = Stop (trap_of fault s.pc)

@@ -1,4 +1,4 @@
-//! What the operations compute, on numbers of 32 bits.
+//! The results of the operations, on numbers of 32 bits.
 
 ghost use Rattle.std.specs.Prelude.{◌≡◌, ◌<◌, ◌+◌, ◌*◌, ◌/◌, ◌%◌, ◌^◌};
 ghost use Rattle.mips_isa.specs.Words.{bits_of};
@@ -6,14 +6,14 @@ ghost use Rattle.mips_isa.specs.Machine as machine;
 
 use mips_isa::{DATA_START, ImmOp, OneOp, ShiftOp, ThreeOp, TwoOp};
 
-/// What a product or a quotient leaves in HI and in LO.
+/// The contents of HI and LO after a product or a quotient.
 #[derive(Clone, Copy)]
 pub struct HiLo {
     pub hi: u32,
     pub lo: u32,
 }
 
-/// The result of an operation on two registers; none where a signed sum or difference overflows.
+/// The result of an operation on two registers; none if a signed sum or difference overflows.
 pub fn three_result(op: ThreeOp, a: u32, b: u32) -> Option<u32>
     ensures { result ≡ machine.three_result op a b }
 {
@@ -31,7 +31,7 @@ pub fn three_result(op: ThreeOp, a: u32, b: u32) -> Option<u32>
     }
 }
 
-/// The result of an operation on a register and an immediate of 32 bits; none where a signed sum overflows.
+/// The result of an operation on a register and an immediate of 32 bits; none if a signed sum overflows.
 pub fn imm_result(op: ImmOp, a: u32, b: u32) -> Option<u32>
     ensures { result ≡ machine.imm_result op a b }
 {

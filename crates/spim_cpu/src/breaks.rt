@@ -1,4 +1,4 @@
-//! Where a run stops.
+//! Sets of addresses at which a run stops.
 
 ghost use Rattle.std.specs.Prelude.{◌≡◌, ◌<◌, ℕ, ◌^◌, Bool};
 ghost use Rattle.std.specs.Option.{option_copied};
@@ -8,11 +8,11 @@ use crate::word_index;
 
 /// A set of addresses of words of a text: a run stops before the instruction at one of them.
 pub trait Breaks {
-    /// Which addresses are in the set.
+    /// The addresses in the set.
     ghost holds: { Self → ℕ → Bool };
 
-    /// A mark for each word of the text, from the first one on: whether its address is in the set. What has no mark is not in it, and
-    /// `None` is that no address is.
+    /// A mark for each word of the text, from the first one on: whether its address is in the set. An address without a mark is not in it, and `None` says
+    /// that no address is.
     fn marks(&self) -> Option<&[bool]>
         ensures { (a : ℕ) → a < 2 ^ 32 → holds self.now a ≡ has_mark (option_copied result) a };
 }

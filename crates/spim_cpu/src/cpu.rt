@@ -44,7 +44,7 @@ struct Freely;
 /// A caller of `operate`: the loop that stops at marks.
 struct ToMark;
 
-/// The index of the word of the text at an address; where no word is, so large a number that the text has no such word.
+/// The index of the word of the text at an address; if there is no word, so large a number that the text has no such word.
 #[inline(always)]
 pub fn word_index(a: u32) -> usize
     ensures index { result ≡ word_index a }
@@ -77,7 +77,7 @@ impl Cpu {
         }
     }
 
-    /// What a register holds.
+    /// The value of a register.
     pub fn register(&self, r: Reg) -> u32
         ensures { result ≡ (core_of self.now).registers r }
     {
@@ -110,7 +110,7 @@ impl Cpu {
 
     /// Executes the instruction at pc.
     ///
-    /// A trap comes exactly where the instruction's row has one, or where no instruction is at pc, and changes nothing.
+    /// A trap comes exactly if the instruction's row has one, or if no instruction is at pc, and changes nothing.
     #[inline(never)]
     pub fn step(&mut self) -> Step
         ensures stepped { Stepped (machine.step self.old.memory.text (segments self.old.memory) (core_of self.old)) result self.old self.new }
@@ -134,8 +134,7 @@ impl Cpu {
         }
     }
 
-    /// Executes at most so many instructions, up to the first one that is a system call, traps or stands at a break address, and
-    /// answers how many.
+    /// Executes at most so many instructions, up to the first one that is a system call, traps or stands at a break address, and returns how many.
     ///
     /// It may stop earlier.
     #[inline(never)]
@@ -150,7 +149,7 @@ impl Cpu {
         }
     }
 
-    /// Executes at most so many instructions, up to the first one that is a system call or traps, and answers how many.
+    /// Executes at most so many instructions, up to the first one that is a system call or traps, and returns how many.
     ///
     /// It may stop earlier.
     #[inline(never)]
@@ -177,8 +176,7 @@ impl Cpu {
         most - left
     }
 
-    /// Executes at most so many instructions, up to the first one that is a system call, traps, or has a mark that is set or none,
-    /// and answers how many.
+    /// Executes at most so many instructions, up to the first one that is a system call, traps, or has a mark that is set or none, and returns how many.
     ///
     /// It may stop earlier.
     #[inline(never)]

@@ -1,6 +1,6 @@
 //! The processor of the integer R2000.
 //!
-//! Comes in: the memory of an image. Goes out: the state after each instruction, or why it stops. It meets `Machine.antt` of
+//! Input: the memory of an image. Output: the state after each instruction, or why it stops. It implements `Machine.antt` of
 //! `mips_isa`.
 #![tactic(auto)]
 

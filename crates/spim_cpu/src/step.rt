@@ -1,8 +1,8 @@
-//! What an instruction leads to.
+//! The outcome of an instruction.
 
 use mips_isa::Trap;
 
-/// What an instruction leads to.
+/// The outcome of an instruction.
 #[derive(Clone, Copy)]
 pub enum Step {
     /// The next instruction.

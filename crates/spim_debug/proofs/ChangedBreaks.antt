@@ -108,7 +108,7 @@ stayed d p first x left held noted c told is none st =
     subst (λ (k : DebugCommand). Stands d (moves d k p) first x left held × (noted ≡ after_puts noted (notes d k (moves d k p).executed))) (sym is)
     (st, sym (after-nil noted) ∙ ap (after_puts noted) (sym none))
 
--- of an input of which nothing was taken, all is left
+-- all is left of an input of which nothing was taken
 pub left_as : (d : Debuggee) (p : Progress) (first : Option (List ℕ)) (x : Debugger) (past : Past) (input rest : List ℕ)
     (held : Option (List ℕ)) → Leaves past past input rest → Stands d p first x (Some input) held
     → Stands d p first x (Some rest) held

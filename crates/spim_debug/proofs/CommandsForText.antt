@@ -18,7 +18,7 @@ use Rattle.lists.specs.Words.{words_in}
 abbrev pub NamesWords : List ℕ → (List ℕ → Option ℕ) → Type 0
 NamesWords text place = (name : List ℕ) → IfSome (place name) (IsTextAddress text)
 
--- what a line says is for the text
+-- the command that a line says is for the text
 abbrev SaysFor : List ℕ → Said → Type 0
 SaysFor text (Ok None) = Unit {0}
 SaysFor text (Ok (Some command)) = IsCommandFor text command
@@ -106,7 +106,7 @@ commands_for text place number [] h = tt
 commands_for text place number (row ∷ rows) h =
     then_for text number (said place row) (commands_from place (suc number) rows) (line_for text place row h) (commands_for text place (suc number) rows h)
 
--- what is answered for them
+-- the commands that are returned are for the text
 pub answered_for : (text : List ℕ) (told : Result (List DebugCommand) ScriptFault) (answer : Result (Vec DebugCommand Global) ScriptError) → IsReadAs told answer → AreFor text told
     → IfOk answer (λ commands. IsScriptFor text commands.items)
 answered_for text told (Ok commands) e h = subst (AreFor text) e h

@@ -1,4 +1,4 @@
--- A script that is done command by command: which of its commands are done, and which notes were put.
+-- A script that is done command by command: the commands that are done, and the notes that were put.
 use Rattle.std.proofs.Common.{◌≡◌, inl, inr, ◌∙◌, refl, sym, ap, subst, ℕ, ◌+◌, ◌-◌, ◌<◌, ◌≤◌, List, [], ◌∷◌, ◌++◌, append_assoc, append-nil, length, drop, get_or, arith}
 use Rattle.std.specs.Prelude.{Option, Some, Ok, Err}
 use Rattle.std.specs.List.{concat}
@@ -19,7 +19,7 @@ use Rattle.spim_debug.specs.Debugging.{StandsEarlier, FailsWithin, BrokenOff, St
 use Rattle.spim_debug.specs.Obeying.{Stands, EndsFrom, Obeyed}
 use Rattle.lists.proofs.ItemsLeft.{drop_one}
 
--- where commands and one more lead
+-- the position after commands and one more
 moves_more : (d : Debuggee) (front : List DebugCommand) (c : DebugCommand) (p : Progress)
     → all_moves d (front ++ c ∷ []) p ≡ moves d c (all_moves d front p)
 moves_more d [] c p = refl
@@ -80,7 +80,7 @@ earlier d p first x left held st = record {
   held_is = st.state.output;
 }
 
--- How a script went, by the bytes of its notes and by the puts that brought them.
+-- The outcome of a script, by the bytes of its notes and by the puts that brought them.
 abbrev pub Went : Debuggee → List DebugCommand → DebugEnd → Option (List ℕ) → Option (List ℕ) → Option (List ℕ) → SinkSeen → SinkSeen → Type 0
 Went d script stop first left held noted noted' =
     Debugged d script stop first left held noted.held noted'.held × NotesPut d script stop noted.puts noted'.puts
@@ -211,7 +211,7 @@ done_all d script i first halts.WriteFault x left held left' held' noted noted' 
     let b = broken_last d script (drop i script) halts.WriteFault first x left held left' held' noted noted' (drop_all i script past) so at.within in
     ((at.ends, b.some.bytes, b.broken_off), b.put_of)
 
--- nothing was done, for want of memory
+-- nothing was done, out of memory
 pub not_begun : (d : Debuggee) (script : List DebugCommand) (first noted left : Option (List ℕ)) → left ≡ Some d.start.input
     → d.start.output ≡ [] → Debugged d script end.Memory first left first noted noted
 not_begun d script first noted left is none = (

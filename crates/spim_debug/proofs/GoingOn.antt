@@ -28,7 +28,7 @@ use Rattle.spim_debug.specs.Notes.{state_in}
 use Rattle.spim_debug.specs.Debugging.{StandsAtEnd, FailsWithin}
 use Rattle.spim_debug.specs.Obeying.{halted_in, Stands, Fails, EndsFrom}
 
--- What came of going on from p to q: the debugger stands there, and its machine has halted so, unless a call failed on the way.
+-- The outcome of going on from p to q: the debugger stands there, and its machine has halted so, unless a call failed on the way.
 abbrev pub WentOn : Debuggee → Progress → Progress → Option (List ℕ) → Halt → Debugger → Option (List ℕ) → Option (List ℕ) → Type 0
 WentOn d p q first (halts.Exit code) x left held = Stands d q first x left held × (x.machine.halted ≡ Some (halts.Exit code))
 WentOn d p q first (halts.Trap trap) x left held = Stands d q first x left held × (x.machine.halted ≡ Some (halts.Trap trap))
@@ -70,7 +70,7 @@ fails_so d p first halt m left held n other fits ran =
       ran = subst (λ (k : ℕ). Ran d.text d.segments k d.start first halt m left held) all (ran_ended d.text d.segments (p.executed + n) (d.budget - (p.executed + n)) d.start first m halt left held other ran);
     }
 
--- how many instructions may be executed at once, of so many
+-- the number of instructions that may be executed at once, of so many
 abbrev pub span : Debuggee → Progress → ℕ → ℕ
 span d p most = min most (d.budget - p.executed)
 
@@ -121,7 +121,7 @@ HasPut halts.StepLimit printed output = printed ≡ counted (length output)
 HasPut halts.ReadFault printed output = Unit {0}
 HasPut halts.WriteFault printed output = Unit {0}
 
--- from a state in which the run goes on
+-- the outcome from a state in which the run goes on
 went_running : (d : Debuggee) (p : Progress) (breaks : ℕ → Bool) (most : ℕ) (first : Option (List ℕ)) (x : Debugger) (halt : Halt)
     (m : MachineParts) (executed printed : ℕ) (left held left' held' : Option (List ℕ)) (s : State)
     → Stands d p first x left held → KeepsSegments x.machine.cpu.memory m.cpu.memory → outcome d p.executed ≡ Running s
@@ -177,7 +177,7 @@ is_running (Running s) none = (s, refl)
 is_running (Exited code s) none = absurd cc
 is_running (Trapped trap s) none = absurd cc
 
--- What a run answered, from any state that the machine of a debugger is in: by its clauses, or the same again after an end.
+-- The results of a run, from any state that the machine of a debugger is in: by its clauses, or the same again after an end.
 pub record Answers (breaks : ℕ → Bool) (n : ℕ) (first : Option (List ℕ)) (x : Debugger) (stopped : Stopped) (m : MachineParts) (left held left' held' : Option (List ℕ)) : Type 0 where
   pub keeps : KeepsSegments x.machine.cpu.memory m.cpu.memory
   pub ran : x.machine.halted ≡ None → (s : State) → IsIn first s x.machine left held
@@ -188,7 +188,7 @@ pub record Answers (breaks : ℕ → Bool) (n : ℕ) (first : Option (List ℕ))
   pub left_same : (halt : Halt) → x.machine.halted ≡ Some halt → left' ≡ left
   pub held_same : (halt : Halt) → x.machine.halted ≡ Some halt → held' ≡ held
 
--- the answers of a run for an input that its source may have had
+-- the results of a run for an input that its source may have had
 pub answers_of : (breaks : ℕ → Bool) (n n' : ℕ) (first : Option (List ℕ)) (x : Debugger) (stopped : Stopped) (m : MachineParts)
     (before after : Past) (input rest : List ℕ) (held held' : Option (List ℕ))
     → n ≡ n' → Leaves before after input rest → KeepsSegments x.machine.cpu.memory m.cpu.memory
@@ -229,7 +229,7 @@ runs_from d p breaks n first x stopped m left held left' held' st a none =
           (subst (λ (text : List ℕ). RanTo breaks text (segments x.machine.cpu.memory) n found.0 first stopped m left' held') st.text (a.ran none found.0 at));
     }
 
--- What a run put, by its count.
+-- The bytes that a run put, by its count.
 pub record Counts (first : Option (List ℕ)) (x : Debugger) (stopped : Stopped) (bytes : ℕ) (left held : Option (List ℕ)) : Type 0 where
   pub grew : x.machine.halted ≡ None → (s : State) → IsIn first s x.machine left held
       → GrewBy stopped.halt s.output (output_of (run x.machine.cpu.memory.text (segments x.machine.cpu.memory) stopped.executed s)) bytes
@@ -356,7 +356,7 @@ ended d p first x stopped m left held left' held' st a = by x.machine.halted ref
         (subst (λ (l : Option (List ℕ)). EndsFrom d p (d.budget - p.executed) first halt l held') (sym (a.left_same halt h))
         (subst (λ (k : Option (List ℕ)). EndsFrom d p (d.budget - p.executed) first halt left k) (sym (a.held_same halt h)) before))
 
--- how many instructions a debugger may execute, by its own numbers
+-- the number of instructions that a debugger may execute, by its own numbers
 pub room_is : (d : Debuggee) (p : Progress) (first : Option (List ℕ)) (x : Debugger) (left held : Option (List ℕ))
     → Stands d p first x left held → x.budget - x.executed ≡ d.budget - p.executed
 room_is d p first x left held st = omega (arith, st.budget, st.executed)

@@ -1,4 +1,4 @@
--- What a command leaves, by what its parts left: where the run went, and whether its notes were put.
+-- The outcome of a command, from the outcomes of its parts: the position of the run, and whether its notes were put.
 use Rattle.std.proofs.Common.{◌≡◌, ◌⊎◌, inl, inr, ◌∙◌, refl, sym, ap, subst, ℕ, List, [], ◌∷◌}
 use Rattle.std.specs.Prelude.{Option, Some, None, Result, Ok, Err}
 use Rattle.cool_ports.specs.SinkPuts.{SinkSeen, after_puts, PutSome}

@@ -1,4 +1,4 @@
--- A run keeps the sink that lends to a counting one: what is put begins with its number.
+-- A run keeps the sink that lends to a counting one: its puts begin with its number.
 use Rattle.std.proofs.Common.{◌≡◌, ◌∙◌, refl, sym, ap, subst, ℕ, ◌+◌, List, [], ◌∷◌, ◌++◌, length, arith}
 use Rattle.std.specs.Prelude.{Bool, Option, Some}
 use Rattle.std.specs.List.{concat}
@@ -18,11 +18,11 @@ abbrev tail : List (List ℕ) → List (List ℕ)
 tail [] = []
 tail (ps ∷ puts) = puts
 
--- what a counting sink was given, behind the number of the one that lends
+-- the puts that a counting sink was given, behind the number of the one that lends
 abbrev pub numbered : ℕ → List (List ℕ) → List (List ℕ)
 numbered number puts = (number ∷ []) ∷ puts
 
--- what is put leaves the number in front
+-- puts leave the number in front
 number_stays : (halt : Halt) (due puts puts' : List (List ℕ)) (number number' : ℕ) → PutBy halt due (numbered number puts) (numbered number' puts') → number' ≡ number
 number_stays (halts.Exit code) due puts puts' number number' put = cc
 number_stays (halts.Trap trap) due puts puts' number number' put = cc
@@ -48,7 +48,7 @@ number_kept m was ended before after left left' held halt due puts puts' number 
 pub kept_by : {A : Type 0} (P : A → Type 0) (number number' : ℕ) (x y : A) → number' ≡ number → (number ≡ number' → x ≡ y) → P y → P x
 kept_by P number number' x y same ends p = subst P (sym (ends (sym same))) p
 
--- what was put is what the output grew by
+-- the bytes put are those by which the output grew
 pub grew_by : (halt : Halt) (due puts puts' : List (List ℕ)) (number number' bytes : ℕ) (before after : List ℕ) → puts ≡ []
     → PutBy halt due (numbered number puts) (numbered number' puts') → bytes ≡ counted (length (concat puts')) → after ≡ before ++ concat due
     → GrewBy halt before after bytes

@@ -9,7 +9,7 @@ use Rattle.mips_asm.specs.TextLabels.{has_word}
 use Rattle.spim_debug.specs.Scripts.{address_in, word_at, place_in}
 use Rattle.spim_debug.proofs.CommandsForText.{NamesWords}
 
--- what is the address of a word by the test is one
+-- an address that passes the test for a word is the address of one
 has_its_word : (text : List ℕ) (a : ℕ) → has_word (TEXT_START + 4 * length text) a ≡ true → IsTextAddress text a
 has_its_word text a e =
     let within : (a - TEXT_START) / 4 < length text = grind (arith, nat_tests) in

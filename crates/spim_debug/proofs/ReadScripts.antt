@@ -1,4 +1,4 @@
--- What is read of the parts of a text at its newlines, by the addresses of a table, is read of the script.
+-- Reading the parts of a text at its newlines, by the addresses of a table, reads the script.
 use Rattle.std.proofs.Common.{◌≡◌, ap, subst, ◌∙◌, ℕ, List}
 use Rattle.std.proofs.Math.Path.{fun_ext}
 use Rattle.std.specs.Prelude.{◌==◌, Option, Result, Vec}

@@ -1,4 +1,4 @@
--- A run that is left after some of its instructions wrote and took, up to there, a part of what it does in all.
+-- If a run is left after some of its instructions, the output and input up to there are parts of those of the whole run.
 use Rattle.std.proofs.Common.{◌≡◌, ℕ, ◌+◌, ◌-◌, ◌≤◌, List, [], refl, ap, sym, ◌∙◌, subst, arith, append-nil}
 use Rattle.mips_isa.specs.Bytes.{Segments}
 use Rattle.mips_isa.specs.Calls.{State, Outcome, Running, Exited, Trapped}
@@ -24,12 +24,12 @@ in_parts text b m n s less =
     let split : n ≡ m + (n - m) = omega arith in
     ap (λ (k : ℕ). run text b k s) split ∙ run_sum text b m (n - m) s
 
--- what was written up to there is a prefix of what the run writes
+-- the output up to there is a prefix of the output of the run
 pub written_between : (text : List ℕ) (b : Segments) (m n : ℕ) (s : State) → m ≤ n → Grew (state_in (run text b m s)) (run text b n s)
 written_between text b m n s less =
     subst (Grew (state_in (run text b m s))) (sym (in_parts text b m n s less)) (grown_from (run text b m s) (run text b (n - m)) (run_grew text b (n - m)))
 
--- what was left there has what the run leaves at its end
+-- the input left at the end of the run is a suffix of the input left there
 pub left_between : (text : List ℕ) (b : Segments) (m n : ℕ) (s : State) → m ≤ n → Shrank (state_in (run text b m s)) (run text b n s)
 left_between text b m n s less =
     subst (Shrank (state_in (run text b m s))) (sym (in_parts text b m n s less)) (taken_from (run text b m s) (run text b (n - m)) (run_shrank text b (n - m)))

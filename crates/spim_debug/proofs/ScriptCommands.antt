@@ -23,7 +23,7 @@ more_words place (a ∷ b ∷ []) many = absurd (omega arith)
 more_words place (a ∷ b ∷ c ∷ []) many = absurd (omega arith)
 more_words place (a ∷ b ∷ c ∷ d ∷ more) many = refl
 
--- what a line says goes behind the commands so far
+-- the command of a line goes behind the commands so far
 behind_line : (done : List DebugCommand) (command : Option DebugCommand) (number : ℕ) (later : Result (List DebugCommand) ScriptFault)
     → behind (with_command done command) later ≡ behind done (then_commands number (Ok command) later)
 behind_line done None number later = refl

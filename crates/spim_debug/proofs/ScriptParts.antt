@@ -61,7 +61,7 @@ empty_last : (place : List ℕ → Option ℕ) (number : ℕ) (rows : List (List
 empty_last place number [] = refl
 empty_last place number (row ∷ rows) = ap (then_commands number (said place row)) (empty_last place (suc number) rows)
 
--- what the parts of a script at its newlines say is what the script says
+-- the commands of the parts of a script at its newlines are those of the script
 pub parts_say : (place : List ℕ → Option ℕ) (bytes : List ℕ) → commands_from place 1 (slice_split (λ b. b == 10) bytes) ≡ commands_in place bytes
 parts_say place bytes = by (slice_split (λ b. b == 10) bytes) (parts_are_lines bytes)
   where

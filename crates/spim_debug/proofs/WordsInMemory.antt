@@ -6,7 +6,7 @@ use Rattle.mips_isa.specs.Machine.{wrap}
 use Rattle.spim_memory.specs.declared.fault.MemFault.{MemFault}
 use Rattle.spim_debug.specs.Notes.{loaded, loaded_text, and_later, words_text}
 
--- behind a word come the others
+-- the other words come behind a word
 pub word_on : (b : Segments) (m : Bytes) (a n k value : ℕ) (note note' text : List ℕ) → n ≡ suc k → loaded b m a ≡ Ok value
     → note' ≡ note ++ text → text ≡ codes " " ++ loaded_text (Ok value)
     → note' ++ words_text b m (wrap (a + 4)) k ≡ note ++ words_text b m a n

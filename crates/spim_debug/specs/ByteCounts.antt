@@ -1,4 +1,4 @@
--- How many bytes a count tells, of so many.
+-- The count of bytes, which stands still at its last value.
 use Rattle.std.specs.Prelude.{◌≡◌, ℕ, ◌+◌, min, List, length}
 use Rattle.cool_ports.specs.Counts.{last_count}
 use Rattle.spim_machine.specs.declared.halt.Halt.{Halt}

@@ -1,4 +1,4 @@
--- How a debugged run ends, over a source and sinks that may fail.
+-- The end of a debugged run, over a source and sinks that may fail.
 use Rattle.std.specs.Prelude.{◌≡◌, ◌⊎◌, ℕ, ◌≤◌, ◌<◌, ◌+◌, ◌*◌, List, ◌∷◌, ◌++◌, length, Option, Some}
 use Rattle.std.specs.List.{AllByRecursion, concat}
 use Rattle.cool_ports.specs.Counts.{Rose}
@@ -107,8 +107,7 @@ pub record NotBegun (executed : ℕ) (noted noted' : Option (List ℕ)) : Type 0
   pub executed_is : executed ≡ 0
   pub noted_is : noted' ≡ noted
 
--- What a debugger leaves: its machine's output and input, and its notes. After a failing device, or where memory ran out, the rest of the
--- script is not done.
+-- The result of debugging: its machine's output and input, and its notes. After a failing device, or if memory ran out, the rest of the script is not done.
 abbrev pub Debugged : Debuggee → List DebugCommand → DebugEnd → Option (List ℕ) → Option (List ℕ) → Option (List ℕ) → Option (List ℕ) → Option (List ℕ) → Type 0
 Debugged d script (end.Halt halt) first left held noted noted' =
     StandsAtEnd d halt first left held × Noted halt (concat (all_notes d script beginning)) noted noted'
@@ -135,7 +134,7 @@ pub record PutInCommand (d : Debuggee) (script : List DebugCommand) (puts puts' 
   pub script_is : script ≡ front ++ command ∷ rest
   pub put : PutFront (puts ++ all_notes d front beginning) (notes d command (moves d command (all_moves d front beginning)).executed) puts'
 
--- What the notes' sink was given to put: each note is one put, and those of a script that was done are all its notes, in order.
+-- The puts of the notes' sink: each note is one put, and those of a script that was done are all its notes, in order.
 abbrev pub NotesPut : Debuggee → List DebugCommand → DebugEnd → List (List ℕ) → List (List ℕ) → Type 0
 NotesPut d script (end.Halt (Exit code)) puts puts' = puts' ≡ puts ++ all_notes d script beginning
 NotesPut d script (end.Halt (Trap trap)) puts puts' = puts' ≡ puts ++ all_notes d script beginning
@@ -145,7 +144,7 @@ NotesPut d script (end.Halt WriteFault) puts puts' = PutOfFront d script puts pu
 NotesPut d script end.NoteFault puts puts' = PutInCommand d script puts puts'
 NotesPut d script end.Memory puts puts' = (puts' ≡ puts) ⊎ PutInCommand d script puts puts'
 
--- Which count of faults rose: of the source (s, then s'), of the sink (k, then k') and of the notes (e, then e').
+-- The count of faults that rose: of the source (s, then s'), of the sink (k, then k') and of the notes (e, then e').
 abbrev pub CountedBy : DebugEnd → ℕ → ℕ → ℕ → ℕ → ℕ → ℕ → Type 0
 CountedBy (end.Halt halt) s s' k k' e e' = Counted halt s s' k k' × (e' ≡ e)
 CountedBy end.NoteFault s s' k k' e e' = (s' ≡ s) × (k' ≡ k) × Rose e e'

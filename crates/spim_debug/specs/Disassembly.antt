@@ -1,4 +1,4 @@
--- What a word's line of assembly is: that of its instruction, without labels.
+-- The line of assembly of a word: that of its instruction, without labels.
 use Rattle.std.specs.Prelude.{◌≡◌, refl, ℕ, pos, negsuc, [], ◌∷◌, Option, Some, None}
 use Rattle.mips_isa.specs.declared.line.Line as declared_line
 use Rattle.mips_isa.specs.declared.instr.Instr.{Instr}
@@ -24,7 +24,7 @@ line_of_instruction (Some i) = Some (instruction_line (Plain i))
 abbrev pub disassembled : ℕ → Option Line
 disassembled word = line_of_instruction (decoded word)
 
--- a line that has the label `__start` alone
+-- a line with only the label `__start`
 abbrev pub start_line : Line
 start_line = record { labels = start_name ∷ []; statement = Empty }
 

@@ -1,5 +1,5 @@
--- What the commands of a script do: how many instructions are executed after each, and which addresses are break addresses. It is told
--- over the runs of the machine alone.
+-- The effects of a script's commands on the run: the number of instructions executed after each, and the break addresses. They are defined only over runs
+-- of the machine.
 use Rattle.std.specs.Prelude.{ℕ, ◌+◌, ◌-◌, ◌==◌, min, not, Bool, false, List, [], ◌∷◌}
 use Rattle.std.specs.List.{filter, list_any}
 use Rattle.mips_isa.specs.Bytes.{Segments}
@@ -9,14 +9,14 @@ use Rattle.spim_machine.specs.Counting.{moved}
 use Rattle.spim_debug.specs.declared.script.DebugCommand.{DebugCommand}
 use Rattle.spim_debug.specs.declared.script.DebugCommand.TheVariants.{Break, Delete, Step, Run, Regs, Out, Show, Words, List as ListWords}
 
--- What is debugged: a text within segments, the state in which its run begins, and how many instructions may be executed in all.
+-- The program that is debugged: a text within segments, the state in which its run begins, and the number of instructions that may be executed in all.
 pub record Debuggee : Type 0 where
   pub text : List ℕ
   pub segments : Segments
   pub start : State
   pub budget : ℕ
 
--- How far it is: the number of instructions executed since the start, and the break addresses.
+-- The progress of a run: the number of instructions executed since the start, and the break addresses.
 pub record Progress : Type 0 where
   pub executed : ℕ
   pub breaks : List ℕ
@@ -28,7 +28,7 @@ beginning = record { executed = 0; breaks = [] }
 abbrev pub outcome : Debuggee → ℕ → Outcome
 outcome d n = run d.text d.segments n d.start
 
--- how many more are executed, of at most so many, up to a break address; after an end there are none
+-- the number of further instructions, at most so many, up to a break address; after an end there are none
 abbrev pub further : Debuggee → (ℕ → Bool) → ℕ → Outcome → ℕ
 further d breaks most (Running s) = moved breaks d.text d.segments most s
 further d breaks most (Exited code s) = 0
@@ -61,7 +61,7 @@ abbrev pub all_moves : Debuggee → List DebugCommand → Progress → Progress
 all_moves d [] p = p
 all_moves d (command ∷ rest) p = all_moves d rest (moves d command p)
 
--- how many instructions are executed next: by the first of these commands, or up to the budget where there is none
+-- the number of instructions executed next: by the first of these commands, or up to the budget if there is none
 abbrev pub next_span : Debuggee → List DebugCommand → Progress → ℕ
 next_span d [] p = d.budget - p.executed
 next_span d (command ∷ rest) p = (moves d command p).executed - p.executed

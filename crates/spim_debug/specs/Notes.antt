@@ -1,4 +1,4 @@
--- What the debugger notes after each command, by the state that the run is in. The texts are in `docs/debugger.md`, Notes.
+-- The notes of the debugger after each command, by the state that the run is in. The texts are in `docs/debugger.md`, Notes.
 use Rattle.std.specs.Prelude.{◌≡◌, refl, ℕ, zero, suc, ◌+◌, ◌-◌, ◌/◌, List, [], ◌∷◌, ◌++◌, length, flat_map, take, drop, codes, decimal, Option, Some, None, Result, Ok, Err}
 use Rattle.std.specs.Int.{w32, to_be_bytes}
 use Rattle.std.specs.List.{range_with_len}
@@ -27,7 +27,7 @@ digits a = encode_lower (to_be_bytes w32 a)
 abbrev pub word_text : ℕ → List ℕ
 word_text a = codes "0x" ++ digits a
 
--- where the run is, or that it has ended, after so many instructions
+-- the address of the run, or that it has ended, after so many instructions
 abbrev pub at_note : ℕ → ℕ → List ℕ
 at_note pc n = codes "at " ++ (word_text pc ++ (codes " after " ++ (decimal n ++ codes "\n")))
 
@@ -46,7 +46,7 @@ spaced n = codes " " ++ digits n
 abbrev pub registers_note : Core → List ℕ
 registers_note c = codes "regs" ++ (spaced c.pc ++ (flat_map (λ k. spaced (c.registers k)) (range_with_len 0 32) ++ codes "\n"))
 
--- how many bytes of output there are, by their count
+-- the number of bytes of output, by their count
 abbrev pub counted_note : ℕ → List ℕ
 counted_note n = codes "out " ++ (decimal n ++ codes "\n")
 
@@ -86,7 +86,7 @@ instruction_text (Some i) = plain_text i
 abbrev pub listed : ℕ → ℕ → List ℕ
 listed a w = word_text a ++ (codes ": " ++ (instruction_text (decoded w) ++ codes "\n"))
 
--- of words from an address on, a note each
+-- a note for each of the words from an address on
 abbrev pub listed_from : ℕ → List ℕ → List (List ℕ)
 listed_from a [] = []
 listed_from a (w ∷ words) = listed a w ∷ listed_from (a + 4) words

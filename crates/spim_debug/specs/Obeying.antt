@@ -1,4 +1,4 @@
--- What a debugger's parts have to do with how far its script is, and what it leaves after a command.
+-- The debugger's invariant at a position in its script, and the outcome of one command.
 use Rattle.std.specs.Prelude.{◌≡◌, ℕ, ◌-◌, ◌≤◌, List, [], ◌∷◌, length, Option, Some, None, Result, Ok, Err}
 use Rattle.cool_ports.specs.Counts.{Rose}
 use Rattle.cool_ports.specs.SinkPuts.{SinkSeen, after_puts, PutSome}
@@ -39,12 +39,12 @@ pub record IsDebuggerOf (text : List ℕ) (x : Debugger) : Type 0 where
   pub few : length text ≤ MOST_TEXT_WORDS
   pub ready : IsReady x
 
--- What a run keeps of a debugger.
+-- The parts of a debugger that a run keeps.
 pub record KeepsText (old new : Debugger) : Type 0 where
   pub text : new.machine.cpu.memory.text ≡ old.machine.cpu.memory.text
   pub breaks : new.breaks ≡ old.breaks
 
--- how a machine has halted whose run has this outcome
+-- the halt of a machine whose run has this outcome
 abbrev pub halted_in : Outcome → Option Halt
 halted_in (Running s) = None
 halted_in (Exited code s) = Some (Exit code)
@@ -63,7 +63,7 @@ pub record Stands (d : Debuggee) (p : Progress) (first : Option (List ℕ)) (x :
   pub breaks : (a : ℕ) → in_set x.breaks a ≡ is_break p.breaks a
   pub printed : x.printed ≡ counted (length (state_in (outcome d p.executed)).output)
 
--- How the whole run ends where a call failed among the next n instructions.
+-- The end of the whole run if a call failed among the next n instructions.
 pub record Fails (d : Debuggee) (p : Progress) (n : ℕ) (first : Option (List ℕ)) (halt : Halt) (left held : Option (List ℕ)) : Type 0 where
   pub ends : StandsAtEnd d halt first left held
   pub within : FailsWithin d p n first halt left held
@@ -90,7 +90,7 @@ ArePut texts (Err (end.Halt halt)) noted noted' = ⊥
 ArePut texts (Err end.NoteFault) noted noted' = PutSome noted texts noted'
 ArePut texts (Err end.Memory) noted noted' = PutSome noted texts noted'
 
--- where the machine stopped was noted, unless a read or a write failed
+-- a note says where the machine stopped, unless a read or a write failed
 abbrev pub StopNoted : Halt → ℕ → ℕ → Result Unit DebugEnd → SinkSeen → SinkSeen → Type 0
 StopNoted (Exit code) pc n result noted noted' = IsPut (ended_note n) result noted noted'
 StopNoted (Trap trap) pc n result noted noted' = IsPut (ended_note n) result noted noted'
@@ -98,7 +98,7 @@ StopNoted StepLimit pc n result noted noted' = IsPut (at_note pc n) result noted
 StopNoted ReadFault pc n result noted noted' = (result ≡ Err (end.Halt ReadFault)) × (noted' ≡ noted)
 StopNoted WriteFault pc n result noted noted' = (result ≡ Err (end.Halt WriteFault)) × (noted' ≡ noted)
 
--- What a command leaves: the debugger is as far as the command moves it, and its notes were put, unless a call failed.
+-- The outcome of a command: the debugger is as far as the command moves it, and its notes were put, unless a call failed.
 abbrev pub Obeyed : Debuggee → DebugCommand → Progress → Option (List ℕ) → Result Unit DebugEnd → Debugger → Option (List ℕ) → Option (List ℕ) → SinkSeen → SinkSeen → Type 0
 Obeyed d c p first (Err (end.Halt ReadFault)) x left held noted noted' =
     Fails d p ((moves d c p).executed - p.executed) first ReadFault left held × (noted' ≡ noted)
@@ -107,12 +107,12 @@ Obeyed d c p first (Err (end.Halt WriteFault)) x left held noted noted' =
 Obeyed d c p first result x left held noted noted' =
     Stands d (moves d c p) first x left held × ArePut (notes d c (moves d c p).executed) result noted noted'
 
--- Which count of faults rose, if any.
+-- The count of faults that rose, if any.
 abbrev pub CountedUnless : Result Unit DebugEnd → ℕ → ℕ → ℕ → ℕ → ℕ → ℕ → Type 0
 CountedUnless (Ok done) s s' k k' e e' = (s' ≡ s) × (k' ≡ k) × (e' ≡ e)
 CountedUnless (Err halt) s s' k k' e e' = CountedBy halt s s' k k' e e'
 
--- The same of a put of notes alone.
+-- The same for a put of only notes.
 abbrev pub NotesCounted : Result Unit DebugEnd → ℕ → ℕ → Type 0
 NotesCounted (Err end.NoteFault) e e' = Rose e e'
 NotesCounted result e e' = e' ≡ e

@@ -1,5 +1,5 @@
--- What the readers of a script's lines hand to one another: which words of the text a script names by a table of labels, what is asked for at
--- one of them, and a command that is added if there is one.
+-- Shared parts of the readers of a script's lines: the words of the text that a script names by a table of labels, the command at one of them, and a
+-- command that is added if there is one.
 use Rattle.std.specs.Prelude.{ℕ, List, [], ◌∷◌, ◌++◌, Option, Some, None}
 use Rattle.mips_asm.specs.TextLabels.{TextLabelParts, address_of}
 use Rattle.spim_debug.specs.declared.script.DebugCommand.{DebugCommand}
@@ -12,7 +12,7 @@ use Rattle.spim_debug.specs.Scripts.{place_in}
 abbrev pub place_by : TextLabelParts → List ℕ → Option ℕ
 place_by table = place_in table.end (address_of table)
 
--- what is asked for, at an address
+-- the command that is asked for, at an address
 abbrev pub asked : Asked → ℕ → DebugCommand
 asked Break address = command.Break address
 asked Delete address = command.Delete address

@@ -1,5 +1,5 @@
--- What a script says: a command for each line that is not empty, or the first line that is in no form, or names no word of the text. The rule
--- is in `docs/debugger.md`, Scripts.
+-- The commands of a script: one for each line that is not empty, or the first line that is in no form, or names no word of the text. The rule is in
+-- `docs/debugger.md`, Scripts.
 use Rattle.std.specs.Prelude.{◌≡◌, refl, ℕ, suc, ◌==◌, ◌&&◌, ◌||◌, nat_le, if◌then◌else◌, List, [], ◌∷◌, length, bytes_eq, codes, Option, Some, None, Result, Ok, Err}
 use Rattle.std.specs.Option.{is_some}
 use Rattle.mips_isa.specs.Lines as lines
@@ -17,7 +17,7 @@ use Rattle.spim_debug.specs.declared.script.ScriptError.TheVariants.{Memory, Fau
 use Rattle.std.specs.Global.{Vec}
 use Rattle.lists.specs.Words.{words_in}
 
--- what a line says: a command, or nothing where it is empty; or its fault
+-- the meaning of a line: a command, or nothing if it is empty; or its fault
 abbrev pub Said : Type 0
 Said = Result (Option DebugCommand) ScriptKind
 
@@ -72,7 +72,7 @@ abbrev pub with_numbers : Option ℕ → Option ℕ → (ℕ → ℕ → DebugCo
 with_numbers None count command = Err B1
 with_numbers (Some a) count command = with_number count (command a)
 
--- a word alone, and with one operand and two
+-- the meaning of a single word, of one with an operand, and with two
 abbrev pub alone : List ℕ → Said
 alone verb =
     if bytes_eq verb (codes "run") then says Run
@@ -97,7 +97,7 @@ said_by place (verb ∷ word ∷ []) = with_operand place verb word
 said_by place (verb ∷ first ∷ second ∷ []) = with_operands place verb first second
 said_by place words = Err B1
 
--- what a line says, where labels and addresses name words at these addresses
+-- the meaning of a line, if labels and addresses name words at these addresses
 abbrev pub said : (List ℕ → Option ℕ) → List ℕ → Said
 said place [] = Ok None
 said place (b ∷ bs) = said_by place (words_in (b ∷ bs))
@@ -117,13 +117,13 @@ commands_from place number (line ∷ rest) = then_commands number (said place li
 abbrev pub commands_in : (List ℕ → Option ℕ) → List ℕ → Result (List DebugCommand) ScriptFault
 commands_in place bytes = commands_from place 1 (lines_in bytes)
 
--- What reading answers: the commands, or the first fault, unless memory ran out.
+-- The result of reading: the commands, or the first fault, unless memory ran out.
 abbrev pub IsReadAs : Result (List DebugCommand) ScriptFault → Result (Vec DebugCommand) ScriptError → Type 0
 IsReadAs told (Ok commands) = told ≡ Ok commands.items
 IsReadAs told (Err Memory) = Unit {0}
 IsReadAs told (Err (Fault fault)) = told ≡ Err fault
 
--- worked examples, of a text of two words, where `main` alone is a label, at 0x00400000
+-- worked examples, of a text of two words, where only `main` is a label, at 0x00400000
 abbrev main_alone : List ℕ → Option ℕ
 main_alone = place_in 0x00400008 (λ name. if bytes_eq name (codes "main") then Some 0x00400000 else None)
 

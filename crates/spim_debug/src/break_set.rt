@@ -9,7 +9,7 @@ use spim_cpu::{Breaks, word_index};
 use std::alloc::{AllocError, Global};
 use std::marker::Model;
 
-/// Break addresses: a mark for each word of a text, and how many marks are set. A contract sees the marks.
+/// Break addresses: a mark for each word of a text, and the number of marks that are set. A contract sees the marks.
 #[derive(Drop)]
 pub struct BreakSet {
     marks: Vec<bool>,
@@ -28,7 +28,7 @@ impl Model for BreakSet {
 }
 
 impl BreakSet {
-    /// No break address, of a text of so many words. `Err` comes only for want of memory.
+    /// No break address, of a text of so many words. Returns `Err` only if memory runs out.
     pub fn new(alloc: Global, words: usize) -> Result<BreakSet, AllocError>
         ensures none { IfOk result (λ set. (a : ℕ) → in_set set a ≡ false) }
         ensures size { IfOk result (λ set. length set ≡ words) }

@@ -17,7 +17,7 @@ use cool_ports::{Sink, Source};
 use spim_cpu::Breaks;
 use spim_machine::{Halt, Machine, Stopped, law_possible_inputs, law_puts_are_output};
 
-/// How a run stopped, and how many bytes it put, up to the largest number.
+/// The stop of a run, and the number of bytes that it put, up to the largest number.
 #[derive(Clone, Copy)]
 pub struct CountedRun {
     pub stopped: Stopped,

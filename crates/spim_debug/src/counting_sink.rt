@@ -7,7 +7,7 @@ ghost use Rattle.spim_debug.specs.ByteCounts.{counted};
 use cool_ports::{Failed, Log, Sink};
 use std::marker::Model;
 
-/// How many bytes were named by puts, up to the largest number. A contract sees the puts.
+/// The number of bytes named by puts, up to the largest number. A contract sees the puts.
 #[derive(Drop)]
 pub struct ByteCount {
     puts: Log,
@@ -45,7 +45,7 @@ impl ByteCount {
         self.bytes = self.bytes.saturating_add(bytes.len() as u64);
     }
 
-    /// How many bytes the puts named.
+    /// The number of bytes that the puts named.
     pub fn bytes(&self) -> u64
         ensures { result ≡ counted (length (concat self.now)) }
     {
@@ -53,7 +53,7 @@ impl ByteCount {
     }
 }
 
-/// Another sink, which is lent, and how many bytes were put into it.
+/// Another sink, which is lent, and the number of bytes that were put into it.
 #[derive(Drop)]
 pub struct CountingSink<'a, K> {
     sink: &'a mut K,
@@ -73,7 +73,7 @@ impl<'a, K: Sink> CountingSink<'a, K> {
         }
     }
 
-    /// How many bytes were put.
+    /// The number of bytes that were put.
     pub fn bytes(&self) -> u64
         ensures { result ≡ counted (length (concat self.now.count)) }
     {

@@ -27,7 +27,7 @@ use spim_machine::{Halt, Machine};
 use spim_memory::{Limits, Memory};
 use std::alloc::{AllocError, Global};
 
-/// How a debugged run ended.
+/// The end of a debugged run.
 #[derive(Clone, Copy)]
 pub enum DebugEnd {
     /// As the machine's run ended.
@@ -38,11 +38,11 @@ pub enum DebugEnd {
     Memory,
 }
 
-/// Runs an image, does after one another what a script says, and then goes on up to the budget of instructions.
+/// Runs an image, executes the commands of a script in order, and then goes on up to the budget of instructions.
 ///
-/// Its run is the plain run of the image: it ends as that, with the same output and the same input left. Each note is one `put`.
-/// After `ReadFault`, `WriteFault`, `NoteFault`, which comes at the first `put` of a note that fails, and `Memory`, which comes only for
-/// want of memory, the rest of the script is not done.
+/// Its run is the plain run of the image: it ends as that, with the same output and the same input left. Each note is one `put`. Returns `NoteFault` at
+/// the first `put` of a note that fails, and `Memory` only if memory runs out. The rest of the script is not done after `ReadFault`, `WriteFault`,
+/// `NoteFault` and `Memory`.
 pub fn debug<S: Source, K: Sink, E: Sink>(
     alloc: Global,
     image: &Image,
@@ -85,7 +85,7 @@ struct Debugger {
 }
 
 impl Debugger {
-    /// At the start of a run of this image, with no break address. `Err` comes only for want of memory.
+    /// At the start of a run of this image, with no break address. Returns `Err` only if memory runs out.
     fn load(
         alloc: Global,
         image: &Image,
@@ -106,7 +106,7 @@ impl Debugger {
         })
     }
 
-    /// Does what a command says. After an `Err` the rest of the script is not to be done.
+    /// Executes a command. After an `Err` the rest of the script is not to be done.
     fn obey<S: Source, K: Sink, E: Sink>(
         &mut self,
         alloc: Global,
@@ -179,7 +179,7 @@ impl Debugger {
         self.note_stop(run, notes)
     }
 
-    /// Executes an instruction, where the budget has one, and goes on up to a break address, and notes where the machine is.
+    /// Executes an instruction, if the budget has one, and goes on up to a break address, and notes where the machine is.
     fn run<S: Source, K: Sink, E: Sink>(
         &mut self,
         source: &mut S,
@@ -221,7 +221,7 @@ impl Debugger {
         }
     }
 
-    /// Executes as many instructions as the budget has left, and answers how the run ended.
+    /// Executes as many instructions as the budget has left, and returns how the run ended.
     fn finish<S: Source, K: Sink>(&mut self, source: &mut S, sink: &mut K) -> Halt
         requires { IsReady self.old }
         ensures took { Took self.old.machine.ended self.new.machine.ended (S.past source.old) (S.past source.new) (S.left source.old) (S.left source.new) }
@@ -235,7 +235,7 @@ impl Debugger {
     }
 }
 
-/// Puts a note of each word of a text from an address on, so many at most. `Memory` comes only for want of memory.
+/// Puts a note of each word of a text from an address on, so many at most. Returns `Memory` only if memory runs out.
 fn list<E: Sink>(
     alloc: Global,
     text: &[u32],
@@ -258,7 +258,7 @@ fn list<E: Sink>(
     Ok(())
 }
 
-/// Puts a note of a word at an address. `Memory` comes only for want of memory.
+/// Puts a note of a word at an address. Returns `Memory` only if memory runs out.
 fn list_word<E: Sink>(alloc: Global, at: u32, word: u32, notes: &mut E) -> Result<(), DebugEnd>
     ensures put { ArePut (listed at word ∷ []) result (seen (E.held notes.old) (E.puts notes.old)) (seen (E.held notes.new) (E.puts notes.new)) }
     ensures counts { NotesCounted result (E.faults notes.old) (E.faults notes.new) }
@@ -269,7 +269,7 @@ fn list_word<E: Sink>(alloc: Global, at: u32, word: u32, notes: &mut E) -> Resul
     put_note(notes, &note)
 }
 
-/// Puts a note of so many words from an address on. `Memory` comes only for want of memory.
+/// Puts a note of so many words from an address on. Returns `Memory` only if memory runs out.
 fn put_words<E: Sink>(
     alloc: Global,
     memory: &Memory,

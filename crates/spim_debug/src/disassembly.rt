@@ -1,11 +1,11 @@
-//! From a word to its line of assembly.
+//! Disassembly: the line of assembly of a word.
 
 ghost use Rattle.std.specs.Prelude.{◌≡◌};
 ghost use Rattle.spim_debug.specs.Disassembly.{line_of_option, disassembled};
 
 use mips_isa::{AsmInstr, Line, LineLabels, Statement, decode};
 
-/// The line of a word's instruction, or none exactly where the word is no instruction.
+/// The line of a word's instruction, or none exactly if the word is no instruction.
 pub fn disassemble(word: u32) -> Option<Line>
     ensures { line_of_option result ≡ disassembled word }
 {

@@ -1,7 +1,7 @@
 //! The debugger of the machine.
 //!
-//! Comes in: an image, a script, a source and two sinks. Goes out: what the program prints, the notes that the script asks for, and
-//! how the run ends. It meets `Moves.antt`, `Notes.antt` and `Debugging.antt`; the reading of a script meets `Scripts.antt`, and
+//! Input: an image, a script, a source and two sinks. Output: what the program prints, the notes that the script asks for, and
+//! how the run ends. It implements `Moves.antt`, `Notes.antt` and `Debugging.antt`; the reading of a script meets `Scripts.antt`, and
 //! disassembly `Decoding.antt` of `mips_isa`.
 #![tactic(auto)]
 

@@ -1,4 +1,4 @@
-//! What the notes say.
+//! The texts of the debugger's notes.
 
 ghost use Rattle.std.specs.Prelude.{◌≡◌, ◌+◌, ◌≤◌, ◌++◌, IfOk, decimal, codes, Result};
 ghost use Rattle.arrayvec.specs.ArrayString.{array_string_len};
@@ -21,7 +21,7 @@ use std::alloc::{AllocError, Global};
 /// A note that takes no memory. The longest one has the registers.
 pub type Note = ArrayString<302>;
 
-/// Where the run is, after so many instructions.
+/// The note of the address at which the run is, after so many instructions.
 pub fn at_note(pc: u32, executed: u64) -> Note
     ensures { result.bytes ≡ spec.at_note pc executed }
 {
@@ -34,7 +34,7 @@ pub fn at_note(pc: u32, executed: u64) -> Note
     note
 }
 
-/// That the run has ended, after so many instructions.
+/// The note that the run has ended, after so many instructions.
 pub fn ended_note(executed: u64) -> Note
     ensures { result.bytes ≡ spec.ended_note executed }
 {
@@ -45,7 +45,7 @@ pub fn ended_note(executed: u64) -> Note
     note
 }
 
-/// What pc and the registers hold.
+/// The values of pc and the registers.
 pub fn registers_note(cpu: &Cpu) -> Note
     ensures { result.bytes ≡ spec.registers_note (core_of cpu.now) }
 {
@@ -59,7 +59,7 @@ pub fn registers_note(cpu: &Cpu) -> Note
     note
 }
 
-/// How many bytes of output there are.
+/// The number of bytes of output.
 pub fn counted_note(bytes: u64) -> Note
     ensures { result.bytes ≡ spec.counted_note bytes }
 {
@@ -82,7 +82,7 @@ pub fn memory_note(memory: &Memory, a: u32) -> Note
     note
 }
 
-/// So many words from an address on, up to the first that may not be loaded. `Err` comes only for want of memory.
+/// So many words from an address on, up to the first that may not be loaded. Returns `Err` only if memory runs out.
 pub fn words_note(alloc: Global, memory: &Memory, a: u32, count: u32) -> Result<Vec<u8>, AllocError>
     ensures { IfOk result (λ note. note.items ≡ spec.words_note (segments memory.now) (bytes_of memory.now) a count) }
 {
@@ -95,7 +95,7 @@ pub fn words_note(alloc: Global, memory: &Memory, a: u32, count: u32) -> Result<
     Ok(note)
 }
 
-/// Adds so many words from an address on, up to the first that may not be loaded. `Err` comes only for want of memory.
+/// Adds so many words from an address on, up to the first that may not be loaded. Returns `Err` only if memory runs out.
 fn push_words(note: &mut Vec<u8>, memory: &Memory, a: u32, count: u32) -> Result<(), AllocError>
     ensures { IfOk result (λ done. note.new.items ≡ note.old.items ++ spec.words_text (segments memory.now) (bytes_of memory.now) a count) }
 {
@@ -111,7 +111,7 @@ fn push_words(note: &mut Vec<u8>, memory: &Memory, a: u32, count: u32) -> Result
     Ok(())
 }
 
-/// A space, and what a load answers.
+/// A space, and the result of a load.
 fn loaded_note(loaded: Result<u32, MemFault>) -> Note
     ensures { result.bytes ≡ codes " " ++ spec.loaded_text loaded }
 {
@@ -121,7 +121,7 @@ fn loaded_note(loaded: Result<u32, MemFault>) -> Note
     note
 }
 
-/// The instruction of a word at an address. `Err` comes only for want of memory.
+/// The instruction of a word at an address. Returns `Err` only if memory runs out.
 pub fn listed(alloc: Global, a: u32, word: u32) -> Result<Vec<u8>, AllocError>
     ensures { IfOk result (λ note. note.items ≡ spec.listed a word) }
 {
@@ -134,7 +134,7 @@ pub fn listed(alloc: Global, a: u32, word: u32) -> Result<Vec<u8>, AllocError>
     Ok(note)
 }
 
-/// The instruction of a word, and a newline. `Err` comes only for want of memory.
+/// The instruction of a word, and a newline. Returns `Err` only if memory runs out.
 fn instruction_line(alloc: Global, word: u32) -> Result<Vec<u8>, AllocError>
     ensures { IfOk result (λ line. line.items ≡ spec.instruction_text (decoded word) ++ codes "\n") }
 {
@@ -144,7 +144,7 @@ fn instruction_line(alloc: Global, word: u32) -> Result<Vec<u8>, AllocError>
     }
 }
 
-/// The statement of a line, and a newline. `Err` comes only for want of memory.
+/// The statement of a line, and a newline. Returns `Err` only if memory runs out.
 fn statement_line(alloc: Global, line: &Line) -> Result<Vec<u8>, AllocError>
     ensures { IfOk result (λ text. text.items ≡ statement_text (statement_of line.now.statement) ++ codes "\n") }
 {
@@ -153,7 +153,7 @@ fn statement_line(alloc: Global, line: &Line) -> Result<Vec<u8>, AllocError>
     Ok(text)
 }
 
-/// Adds what a load answers.
+/// Adds the result of a load.
 fn push_loaded(note: &mut Note, loaded: Result<u32, MemFault>)
     requires { array_string_len note.old + 17 ≤ 302 }
     ensures bytes { note.new.bytes ≡ note.old.bytes ++ spec.loaded_text loaded }

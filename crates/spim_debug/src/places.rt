@@ -10,7 +10,7 @@ use crate::script_words::read_address;
 use mips_asm::TextLabels;
 use mips_text::is_name;
 
-/// The address of the word that a label of the text or an address names. `None` where it names none.
+/// The address of the word that a label of the text or an address names. `None` if it names none.
 pub(crate) fn place(labels: &TextLabels, word: &[u8]) -> Option<u32>
     ensures { result ≡ place_by labels.now word.now }
 {

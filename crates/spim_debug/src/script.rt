@@ -1,4 +1,4 @@
-//! Scripts: what a debugger is asked to do, line by line.
+//! Scripts: the commands of a debugger, line by line.
 
 ghost use Rattle.std.specs.Prelude.{◌≡◌, ◌-◌, ◌^◌, ◌<◌, ◌≤◌, length, IfOk, None};
 ghost use Rattle.mips_isa.specs.Lines.{lines_of, AreInRange};
@@ -16,7 +16,7 @@ use std::alloc::{AllocError, Global};
 /// The most bytes of a script.
 pub const MOST_SCRIPT_BYTES: u64 = 65_536;
 
-/// What a line of a script asks for. Labels are the addresses of their words.
+/// The command of a line of a script. Labels are the addresses of their words.
 #[derive(Clone, Copy)]
 pub enum DebugCommand {
     /// To stop before the instruction at this address.
@@ -29,7 +29,7 @@ pub enum DebugCommand {
     Run,
     /// To note pc and the registers.
     Regs,
-    /// To note how many bytes of output there are.
+    /// To note the number of bytes of output.
     Out,
     /// To note the word at this address.
     Show(u32),
@@ -39,7 +39,7 @@ pub enum DebugCommand {
     List(u32, u32),
 }
 
-/// What is wrong with a line of a script.
+/// The error of a line of a script.
 #[derive(Clone, Copy)]
 pub enum ScriptKind {
     /// It is in no form.
@@ -72,8 +72,8 @@ impl From<AllocError> for ScriptError {
 
 /// The commands of a script for a program of these lines: one for each line of the script that is not empty.
 ///
-/// B1 comes where a line is in no form, and B2 where it names no word of the program's text, by a label or by an address; the first
-/// faulty line counts. `Memory` comes only for want of memory. The forms are those of `docs/debugger.md`.
+/// B1 is a line in no form, and B2 one that names no word of the program's text, by a label or by an address; the first faulty line counts. Returns
+/// `Memory` only if memory runs out. The forms are those of `docs/debugger.md`.
 pub fn read_script(
     alloc: Global,
     bytes: &[u8],

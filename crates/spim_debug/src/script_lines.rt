@@ -1,4 +1,4 @@
-//! The lines of a script, each by itself.
+//! Reading the lines of a script, each by itself.
 
 ghost use Rattle.std.specs.Prelude.{◌≡◌, ◌≤◌, IfOk, length, map, suc};
 ghost use Rattle.spim_debug.specs.Scripts.{IsReadAs, address_in, alone, commands_from, number_in, said, said_by, with_number, with_numbers, with_operand, with_operands, with_place};
@@ -55,7 +55,7 @@ fn keep(commands: &mut Vec<DebugCommand>, command: Option<DebugCommand>) -> Resu
     Ok(())
 }
 
-/// What a line says: a command, or nothing where it is empty; or its fault. The outer `Err` comes only for want of memory.
+/// The meaning of a line: a command, or nothing if it is empty; or its fault. The outer `Err` is returned only if memory runs out.
 fn read_line(
     alloc: Global,
     line: &[u8],
@@ -70,7 +70,7 @@ fn read_line(
     Ok(said_by(words.as_slice(), labels))
 }
 
-/// What the words of a line say.
+/// The meaning of the words of a line.
 #[tactic(auto, using(crate::proofs::ScriptCommands::more_words))]
 fn said_by(words: &[&[u8]], labels: &TextLabels) -> Result<Option<DebugCommand>, ScriptKind>
     ensures { result ≡ said_by (place_by labels.now) (map (λ word. word.now) words.now) }
@@ -83,7 +83,7 @@ fn said_by(words: &[&[u8]], labels: &TextLabels) -> Result<Option<DebugCommand>,
     }
 }
 
-/// What a word alone says.
+/// The meaning of a single word.
 fn alone(verb: &[u8]) -> Result<Option<DebugCommand>, ScriptKind>
     ensures { result ≡ alone verb.now }
 {
@@ -98,7 +98,7 @@ fn alone(verb: &[u8]) -> Result<Option<DebugCommand>, ScriptKind>
     }
 }
 
-/// What a word with an operand says.
+/// The meaning of a word with an operand.
 fn with_operand(
     verb: &[u8],
     word: &[u8],
@@ -119,7 +119,7 @@ fn with_operand(
     }
 }
 
-/// What a word with two operands says.
+/// The meaning of a word with two operands.
 fn with_operands(
     verb: &[u8],
     first: &[u8],
@@ -140,7 +140,7 @@ fn with_operands(
     }
 }
 
-/// What is asked for at a word of the text.
+/// The kind of command that is asked for at a word of the text.
 #[derive(Clone, Copy)]
 enum Asked {
     Break,
@@ -162,7 +162,7 @@ impl Asked {
     }
 }
 
-/// The command at a place. B1 comes where the word is neither a name nor an address, and B2 where it names no word of the text.
+/// The command at a place. Returns B1 if the word is neither a name nor an address, and B2 if it names no word of the text.
 fn at_place(
     what: Asked,
     word: &[u8],

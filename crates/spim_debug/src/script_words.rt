@@ -14,7 +14,7 @@ use std::alloc::{AllocError, Global};
 /// The digits of an address.
 const ADDRESS_DIGITS: usize = 8;
 
-/// The parts of a text that stand before, between and behind all bytes of this kind. `Err` comes only for want of memory.
+/// The parts of a text that stand before, between and behind all bytes of this kind. Returns `Err` only if memory runs out.
 pub(crate) fn parts(alloc: Global, text: &[u8], mark: u8) -> Result<Vec<&[u8]>, AllocError>
     ensures exact { IfOk result (λ parts. map (λ part. part.now) parts.items ≡ slice_split (λ byte. byte == mark) text.now) }
     ensures few { IfOk result (λ parts. length parts.items ≤ length text.now + 1) }
@@ -22,7 +22,7 @@ pub(crate) fn parts(alloc: Global, text: &[u8], mark: u8) -> Result<Vec<&[u8]>, 
     text.split(|byte| *byte == mark).collect(alloc)
 }
 
-/// The number that a word is, in at most so many decimal digits and from 1 to `most`. `None` where it is no such number.
+/// The number that a word is, in at most so many decimal digits and from 1 to `most`. `None` if it is no such number.
 pub(crate) fn read_number(word: &[u8], digits: usize, most: u64) -> Option<u64>
     requires { most < LARGEST }
     ensures exact { result ≡ number_in digits most word.now }
@@ -35,7 +35,7 @@ pub(crate) fn read_number(word: &[u8], digits: usize, most: u64) -> Option<u64>
     (1 <= number && number <= most).then_some(number)
 }
 
-/// The address that a word is: `0x` and eight hexadecimal digits of either case. `None` where it is none.
+/// The address that a word is: `0x` and eight hexadecimal digits of either case. `None` if it is none.
 pub(crate) fn read_address(word: &[u8]) -> Option<u32>
     ensures { result ≡ address_in word.now }
 {

@@ -25,7 +25,7 @@ goes_runs breaks text b (suc n) t core (before, goes, free, steps) =
     ap (λ k. run text b k t) one
     ∙ run_next text b n t (record t { core = before }) (record t { core = core }) (goes_runs breaks text b n t before goes) (ap (after b (record t { core = before })) steps)
 
--- by the text and the segments at the run's start
+-- the same by the text and the segments at the run's start
 pub goes_as : (breaks : ℕ → Bool) (old now : MemoryParts) (n : ℕ) (s t : Core) → KeepsSegments old now
     → Goes breaks now.text (segments now) n s t → Goes breaks old.text (segments old) n s t
 goes_as breaks old now n s t kept goes =

@@ -1,4 +1,4 @@
--- A system call does what the number in $v0 says.
+-- A system call does what its number in $v0 says.
 use Rattle.std.proofs.Common.{◌≡◌, refl, ℕ, ◌-◌, ◌%◌, List, [], ◌∷◌, Option, Some, arith}
 use Rattle.std.specs.Prelude.{Result, Ok, Err, false, ◌==◌}
 use Rattle.std.specs.Fmt.{signed_decimal}
@@ -14,12 +14,12 @@ use Rattle.spim_machine.specs.Ends.{stores_none, stores_string, call_stores, IsR
 use Rattle.spim_machine.proofs.SameResults.{results_as}
 use Rattle.std.proofs.lemmas.Bool.{ne_eqb}
 
--- of a call of another number than read_string's no byte is stored
+-- a call of another number than read_string's stores no byte
 stores_nothing : (k : ℕ) (s : State) (front : List ℕ) → s.core.registers 2 ≡ k → (k == 8) ≡ false
     → call_stores s front ≡ stores_none s front
 stores_nothing k s front is other = rw (is, other) refl
 
--- of read_string those that it got
+-- read_string stores the bytes that it got
 stores_some : (s : State) (front : List ℕ) → s.core.registers 2 ≡ 8 → call_stores s front ≡ stores_string s front
 stores_some s front is = rw is refl
 

@@ -1,4 +1,4 @@
--- How many instructions a run up to a break address executes, by the state in which it stands.
+-- The number of instructions that a run up to a break address executes, by the state in which it stands.
 use Rattle.std.proofs.Common.{◌≡◌, ◌∙◌, refl, sym, ap, ℕ, zero, suc, ◌+◌, ◌-◌, ◌<◌, ◌≤◌, Bool, true, false, if◌then◌else◌, List, arith}
 use Rattle.mips_isa.specs.Bytes.{Segments}
 use Rattle.mips_isa.specs.Machine.{Core}
@@ -40,7 +40,7 @@ pub before_stops : (breaks : ℕ → Bool) (text : List ℕ) (b : Segments) (n :
 before_stops breaks text b zero s stops = refl
 before_stops breaks text b (suc n) s stops = ap (λ (is : Bool). if is then 0 else counted (cycle text b s) (before_break breaks text b n)) stops
 
--- where it is none, the first instruction is no exception
+-- if pc is no break address, the first instruction is no exception
 pub before_goes : (breaks : ℕ → Bool) (text : List ℕ) (b : Segments) (n : ℕ) (s : State) → breaks s.core.pc ≡ false
     → before_break breaks text b n s ≡ moved breaks text b n s
 before_goes breaks text b zero s goes = refl

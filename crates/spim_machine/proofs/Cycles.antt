@@ -1,4 +1,4 @@
--- What came of an instruction, by what the processor answers.
+-- The outcome of an instruction, by the result of the processor.
 use Rattle.std.proofs.Common.{◌≡◌, ◌∙◌, refl, sym, ap, subst, ℕ, List, Option}
 use Rattle.std.specs.Prelude.{Result, Ok, Err}
 use Rattle.mips_isa.specs.declared.trap.Trap.{Trap}
@@ -14,7 +14,7 @@ use Rattle.spim_machine.specs.MachineStates.{MachineParts, state_of, IsIn}
 use Rattle.spim_machine.specs.Ends.{call_stores, IsResultIn, IsResultOf, Cycled}
 use Rattle.spim_machine.proofs.RunsGoOn.{is_state}
 
--- what the instruction does, by what the processor answered: no system call, a system call, a trap
+-- the definition's next step, by the result of the processor: no system call, a system call, a trap
 pub next_is : (n : Next) (old new : CpuParts) → Stepped n answer.Next old new → n ≡ On (core_of new)
 next_is (On core) old new is = ap On (sym is)
 next_is (Call core) old new is = absurd is
@@ -56,7 +56,7 @@ cycled_trap text b old cpu trap first s left held steps is =
       record { core = ap core_of stops.1 ∙ is.core; heap_break = is.heap_break; ended = is.ended; input = is.input; output = is.output },
     )
 
--- what came of the call came of the instruction
+-- the outcome of the call is the outcome of the instruction
 after_call : (text : List ℕ) (b : Segments) (s : State) (core : Core) (first : Option (List ℕ)) (result : Result Unit Halt)
     (new : MachineParts) (left held : Option (List ℕ)) → step text b s.core ≡ Call core
     → IsResultIn (λ given. call b (record s { core = core; input = given })) (call_stores (record s { core = core }))
@@ -68,7 +68,7 @@ after_call text b s core first (Err halts.StepLimit) new left held calls came = 
 after_call text b s core first (Err halts.ReadFault) new left held calls fails = (core, calls, fails)
 after_call text b s core first (Err halts.WriteFault) new left held calls fails = (core, calls, fails)
 
--- what came of the call, in the state that the machine is in
+-- the outcome of the call, in the state that the machine is in
 came_of_call : (b : Segments) (old : MachineParts) (cpu : CpuParts) (first : Option (List ℕ)) (s : State)
     (left held : Option (List ℕ)) (result : Result Unit Halt) (new : MachineParts) (left' held' : Option (List ℕ))
     → s ≡ state_of old s.input s.output

@@ -10,7 +10,7 @@ use Rattle.cool_ports.specs.Taking.{GaveByte}
 use Rattle.spim_machine.specs.Input.{TookAll, TookSome}
 use Rattle.spim_machine.proofs.TakingBytes.{TakingOn, asks_more, taking_none, taking_more, taking_all, taking_some, taking_byte, took_newline, took_end, took_some, took_none}
 
--- where so many bytes may be stored, each of them may be
+-- if so many bytes may be stored, each of them may be
 may_store_first : (s : Segments) (a n k : ℕ) → all_writable s a n ≡ true → k < n → writable s (a + k) 1 ≡ true
 may_store_first s a zero k all within = absurd (omega arith)
 may_store_first s a (suc n) zero all within =
@@ -26,7 +26,7 @@ may_store_at s a n q all from below =
     let here : a + (q - a) ≡ q = omega (arith, from) in
     ap (λ x. writable s x 1) (sym here) ∙ may_store_first s a n (q - a) all (omega (arith, from, below))
 
--- where so many bytes may be stored, one byte less may be
+-- if so many bytes may be stored, one byte less may be
 pub may_store_fewer : (s : Segments) (a n : ℕ) → all_writable s a (n + 1) ≡ true → all_writable s a n ≡ true
 may_store_fewer s a zero all = refl
 may_store_fewer s a (suc n) all =
@@ -112,7 +112,7 @@ stored_newline was ended most before mid after old now new address end byte s wi
       with_bytes-append old now new address end s.said byte s.core s.behind next,
     )
 
--- where the rest of the call takes no byte, what was stored is all
+-- if the rest of the call takes no byte, the bytes stored are all
 stored_so_far : (was ended : Bool) (most : ℕ) (before mid after : Option (List ℕ)) (old now : Core) (address end : ℕ)
     (s : StoredUpTo was most before mid old now address end) → TookAll (asked was s.rest) [] mid ended after
     → StoredAll was most before ended after old now address end
@@ -141,7 +141,7 @@ stored_end was ended most before mid after old now address end s within gave =
 none_left : (was ended : Bool) (rest : ℕ) (left : Option (List ℕ)) → rest ≡ 0 → ended ≡ was → TookAll (asked was rest) [] left ended left
 none_left was ended rest left zero_is is = rw zero_is (took_none left was ended is)
 
--- where so many bytes were stored, they are all
+-- if so many bytes were stored, they are all
 pub stored_full : (was ended : Bool) (most : ℕ) (before after : Option (List ℕ)) (old now : Core) (address at end : ℕ)
     → StoredUpTo was most before after old now address at → at ≡ end → end ≡ address + most → ended ≡ was
     → StoredAll was most before ended after old now address end
@@ -154,7 +154,7 @@ abbrev pub StoredSome : Bool → ℕ → Option (List ℕ) → Bool → Option (
 StoredSome was most before ended after old new address =
     (got : List ℕ) × (was ≡ false) × (ended ≡ was) × TookSome (asked was most) got before after × (new ≡ with_bytes old address got)
 
--- where the next take failed, what was stored is what came before
+-- if the next take failed, the bytes stored are those that came before
 pub stored_failed : (was ended : Bool) (most : ℕ) (before mid after : Option (List ℕ)) (old now : Core) (address end : ℕ)
     (failed : Failed) → StoredUpTo was most before mid old now address end → end < address + most
     → GaveByte was mid (Err failed) ended after → StoredSome was most before ended after old now address

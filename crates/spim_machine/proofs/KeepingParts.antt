@@ -1,4 +1,4 @@
--- What no call changes, over several calls.
+-- The parts of a machine that no call changes, over several calls.
 use Rattle.std.proofs.Common.{◌≡◌, ◌∙◌, refl}
 use Rattle.spim_cpu.specs.Cpu.{KeepsSegments}
 use Rattle.spim_machine.specs.MachineStates.{MachineParts, Keeps}

@@ -1,4 +1,4 @@
--- What holds of the runs of a machine that was loaded with an image holds of the run of the image.
+-- A property of all runs of a machine that was loaded with an image holds for the run of the image.
 use Rattle.std.proofs.Common.{◌≡◌, refl, sym, subst, ℕ, List, []}
 use Rattle.std.specs.Prelude.{Option, Some}
 use Rattle.cool_ports.proofs.GettingBytes.{appended-nil}
@@ -13,7 +13,7 @@ use Rattle.spim_machine.specs.MachineStates.{MachineParts, state_of, IsIn}
 in_own_state : (m : MachineParts) (input : List ℕ) (left held : Option (List ℕ)) → left ≡ Some input → IsIn held (state_of m input []) m left held
 in_own_state m input left held given = record { core = refl; heap_break = refl; ended = refl; input = given; output = sym (appended-nil held) }
 
--- what holds from each state that such a machine is in holds from the start of the image's run
+-- a property of each state that such a machine is in holds from the start of the image's run
 pub loaded_so : (image : ImageParts) (b : Segments) (loaded : MachineParts) (input : List ℕ) (left held : Option (List ℕ)) (P : List ℕ → Segments → State → Option (List ℕ) → Type 0)
     → state_of loaded input [] ≡ start image b input → loaded.cpu.memory.text ≡ image.text → segments loaded.cpu.memory ≡ b → left ≡ Some input
     → ((first : Option (List ℕ)) (s : State) → IsIn first s loaded left held → P loaded.cpu.memory.text (segments loaded.cpu.memory) s first)

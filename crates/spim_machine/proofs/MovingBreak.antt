@@ -1,4 +1,4 @@
--- What came of a call of sbrk: the break moves by $a0, or it would pass the heap's end.
+-- The outcome of sbrk: the break moves by $a0, or it would pass the heap's end.
 use Rattle.std.proofs.Common.{◌≡◌, ◌∙◌, refl, ap, ℕ, ◌+◌, ◌<◌, ◌≤◌, true, false, List, arith}
 use Rattle.std.specs.Prelude.{nat_le, Option, Ok}
 use Rattle.mips_isa.specs.Machine.{set_register}
@@ -17,7 +17,7 @@ heap_end_of memory = (segments memory).heap_end
 abbrev HasSet : ℕ → CpuParts → CpuParts → Type 0
 HasSet v old new = core_of new ≡ record (core_of old) { registers = set_register (core_of old).registers 2 v }
 
--- what sbrk does in any state that the machine may be in
+-- the effect of sbrk in any state that the machine may be in
 abbrev pub Moves : MachineParts → MachineParts → Type 0
 Moves m new = (left held : Option (List ℕ)) → IsResultOf (sbrk (segments (memory_of m))) stores_none m left held (Ok tt) new left held
 

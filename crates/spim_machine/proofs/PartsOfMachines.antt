@@ -1,10 +1,10 @@
--- Parts of a machine of which calls ask.
+-- The parts of a machine that calls read.
 use Rattle.std.proofs.Common.{ℕ}
 use Rattle.spim_memory.specs.Memory.{MemoryParts}
 use Rattle.spim_cpu.specs.Cpu.{core_of}
 use Rattle.spim_machine.specs.MachineStates.{MachineParts}
 
--- what $a0 holds
+-- the value of $a0
 abbrev pub a0_of : MachineParts → ℕ
 a0_of m = (core_of m.cpu).registers 4
 

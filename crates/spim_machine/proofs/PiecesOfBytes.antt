@@ -50,7 +50,7 @@ may_load-piece s a done size count each within k below =
     let same : a + done + k ≡ a + (done + k) = omega arith in
     ap (λ q. readable s q 1) same ∙ each (done + k) (omega (arith, within, below))
 
--- how many bytes there are
+-- the number of bytes
 bytes_from-length : (m : Bytes) (a count : ℕ) → length (bytes_from m a count) ≡ count
 bytes_from-length m a zero = refl
 bytes_from-length m a (suc count) = ap suc (bytes_from-length m (a + 1) count)

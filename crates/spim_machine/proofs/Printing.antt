@@ -1,4 +1,4 @@
--- What came of a call that prints: all of its bytes were put, or it trapped.
+-- The outcome of a call that prints: all of its bytes were put, or it trapped.
 use Rattle.std.proofs.Common.{◌≡◌, ◌∙◌, refl, sym, ap, ap₂, subst, ℕ, ◌-◌, List, ◌++◌}
 use Rattle.std.specs.Prelude.{Option, Some, None, Ok, Err}
 use Rattle.cool_ports.specs.SinkBytes.{appended}
@@ -44,7 +44,7 @@ trapped does m trap halt left held traps is =
 abbrev string_in_memory : MemoryParts → ℕ → Option (List ℕ)
 string_in_memory memory a = string_at (segments memory) (bytes_of memory) a
 
--- what print_string does in the states of a machine
+-- the effect of print_string in the states of a machine
 abbrev pub string_call : MachineParts → State → Outcome
 string_call m s = print_string s (string_at (segments m.cpu.memory) s.core.memory (a0 s))
 

@@ -1,4 +1,4 @@
--- What a run puts: instruction by instruction, and of one run after another.
+-- The puts of a run, instruction by instruction, and of one run after another.
 use Rattle.std.proofs.Common.{◌≡◌, ◌∙◌, refl, sym, ap, subst, ℕ, zero, suc, ◌+◌, ◌-◌, ◌<◌, ◌≤◌, Bool, List, [], ◌++◌, append_assoc, append-nil, Option, arith}
 use Rattle.std.specs.Prelude.{Result, Ok, Err}
 use Rattle.cool_ports.specs.SinkPuts.{PutFront}
@@ -46,11 +46,11 @@ none_then (Running s) = refl
 none_then (Exited code s) = refl
 none_then (Trapped trap s) = refl
 
--- of one instruction
+-- the puts of one instruction
 one_puts : (text : List ℕ) (b : Segments) (s : State) → run_puts text b 1 s ≡ cycle_puts text b s.core
 one_puts text b s = ap (λ more. cycle_puts text b s.core ++ more) (none_then (cycle text b s)) ∙ append-nil (cycle_puts text b s.core)
 
--- of no instruction
+-- the puts of no instruction
 pub no_puts : (text : List ℕ) (b : Segments) (n : ℕ) (s : State) (puts : List (List ℕ)) → puts ≡ puts ++ run_puts text b (n - n) s
 no_puts text b n s puts = let none : n - n ≡ 0 = omega arith in sym (append-nil puts) ∙ ap (λ k. puts ++ run_puts text b k s) (sym none)
 
@@ -67,7 +67,7 @@ some_then (Running u) front whole each = each u
 some_then (Exited code u) front whole each = ([], refl)
 some_then (Trapped trap u) front whole each = ([], refl)
 
--- of a run that goes on, and of the run after it
+-- the puts of a run that goes on, and of the run after it
 puts_both : (text : List ℕ) (b : Segments) (n k : ℕ) (s t : State) → run text b n s ≡ Running t
     → run_puts text b (n + k) s ≡ run_puts text b n s ++ run_puts text b k t
 puts_both text b zero k s t is = let none : 0 + k ≡ k = omega arith in ap (λ i. run_puts text b i s) none ∙ cc
@@ -77,7 +77,7 @@ puts_both text b (suc n) k s t is =
     ∙ ap (λ more. cycle_puts text b s.core ++ more) (both_then (cycle text b s) (run_puts text b n) (run_puts text b (n + k)) (run_puts text b k t) (run text b n) t (λ u runs. puts_both text b n k u t runs) is)
     ∙ sym (append_assoc (cycle_puts text b s.core) (puts_then (cycle text b s) (run_puts text b n)) (run_puts text b k t))
 
--- of instructions none of which is a system call
+-- instructions without a system call put nothing
 goes_puts : (breaks : ℕ → Bool) (text : List ℕ) (b : Segments) (n : ℕ) (t : State) (core : Core) → Goes breaks text b n t.core core → run_puts text b n t ≡ []
 goes_puts breaks text b zero t core same = refl
 goes_puts breaks text b (suc n) t core (before, goes, free, steps) =
@@ -86,7 +86,7 @@ goes_puts breaks text b (suc n) t core (before, goes, free, steps) =
     ap (λ k. run_puts text b k t) one ∙ puts_both text b n 1 t on (goes_runs breaks text b n t before goes)
     ∙ ap (λ front. front ++ run_puts text b 1 on) (goes_puts breaks text b n t before goes) ∙ one_puts text b on ∙ ap (next_puts b) steps
 
--- by the text and the segments at the run's start
+-- the puts by the text and the segments at the run's start
 puts_as : (old now : MemoryParts) (c : Core) → KeepsSegments old now → cycle_puts now.text (segments now) c ≡ cycle_puts old.text (segments old) c
 puts_as old now c kept = ap (λ (text : List ℕ). cycle_puts text (segments now) c) kept.text ∙ ap (λ (b : Segments). cycle_puts old.text b c) kept.segments
 
@@ -117,7 +117,7 @@ puts_turned breaks old now k n left s first from to mid cpu input held input' he
     put ∙ ap (λ puts. puts ++ cycle_puts now.text (segments now) (core_of from.cpu)) so_far
     ∙ append_assoc before (run_puts text b (n - left) s) (cycle_puts now.text (segments now) (core_of from.cpu)) ∙ ap (λ due. before ++ due) (sym all)
 
--- what was put before, and then these or a front of them
+-- the puts before, and then these or a front of them
 put_after : (halt : Halt) (before done due after : List (List ℕ)) → PutBy halt due (before ++ done) after → PutBy halt (done ++ due) before after
 put_after halts.WriteFault before done due after (rest, p) =
     (rest, record { front = done ++ p.front; cut = ap (λ texts. done ++ texts) p.cut ∙ sym (append_assoc done p.front rest); put = p.put ∙ append_assoc before done p.front })
@@ -172,7 +172,7 @@ puts_front text b (suc n) k s =
           ∙ sym (append_assoc (cycle_puts text b s.core) (puts_then (cycle text b s) (run_puts text b n)) more.0),
     )
 
--- where these are a front of more, a front of these is one of those
+-- a front of these is a front of a longer list that begins with these
 front_of : (due more before after : List (List ℕ)) (rest : List (List ℕ)) → more ≡ due ++ rest → PutFront before due after → PutFront before more after
 front_of due more before after rest is (left, p) =
     (left ++ rest, record { front = p.front; cut = is ∙ ap (λ texts. texts ++ rest) p.cut ∙ append_assoc p.front left rest; put = p.put })

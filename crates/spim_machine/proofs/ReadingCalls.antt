@@ -1,4 +1,4 @@
--- What a call that reads does, from what it took of the source.
+-- The effect of a call that reads, from the bytes that it took of the source.
 use Rattle.std.proofs.Common.{◌≡◌, ℕ, Bool, false, List, ◌++◌, refl, sym, ◌∙◌, ap}
 use Rattle.std.specs.Prelude.{Option, Some, Ok, Err}
 use Rattle.cool_ports.specs.SinkBytes.{appended}
@@ -24,7 +24,7 @@ abbrev pub put_v0 : (List ℕ → ℕ) → Core → List ℕ → Core
 put_v0 number core got = record core { registers = set_register core.registers 2 (number got) }
 
 module _ (change : Core → List ℕ → Core) (ask : Bool → List ℕ → Taken) (stores : State → List ℕ → List ℕ) (old new : MachineParts) (left left' : Option (List ℕ)) where
-  -- of this input it took what stands in front, and the machine is in the next state
+  -- it took the front of this input, and the machine is in the next state
   all_came : (got : List ℕ) (held first : Option (List ℕ)) (input output front rest : List ℕ)
       → (ask old.ended (front ++ rest) ≡ record { got = got; rest = rest; ended = new.ended }) → left' ≡ Some rest
       → input ≡ front ++ rest → held ≡ appended first output
@@ -37,7 +37,7 @@ module _ (change : Core → List ℕ → Core) (ask : Bool → List ℕ → Take
     record { core = core; heap_break = heap_break; ended = refl; input = told; output = holds },
   )
 
-  -- where it took all that it asks for, it does what the definition says
+  -- if it took all that it asks for, it does what the definition says
   pub does_all : (ended : Bool) (got : List ℕ) → TookAll (ask old.ended) got left ended left' → new.ended ≡ ended
       → core_of new.cpu ≡ change (core_of old.cpu) got → new.heap_break ≡ old.heap_break
       → (held : Option (List ℕ)) → IsResultOf (reading change ask) stores old left held (Ok tt) new left' held
@@ -45,7 +45,7 @@ module _ (change : Core → List ℕ → Core) (ask : Bool → List ℕ → Take
       let cut = front-told took.front left' input (sym took.gave ∙ is_told) in
       all_came got held first input output took.front cut.0 (took.asked cut.0 cut.1 ∙ ap (λ e. record { got = got; rest = cut.0; ended = e }) (sym ends)) cut.1 cut.2 holds core heap_break
 
--- where a take failed, of the part that it took it would have met the end, and what it has stored of that is stored
+-- if a take failed, the call would have met the end of the part that it took, and has stored what it stores of that part
 pub does_failed : (change : Core → List ℕ → Core) (ask : Bool → List ℕ → Taken) (stores : State → List ℕ → List ℕ)
     (old new : MachineParts) (left left' : Option (List ℕ)) (got : List ℕ)
     → old.ended ≡ false → new.ended ≡ old.ended → (some : TookSome (ask old.ended) got left left')

@@ -1,4 +1,4 @@
--- What read_string does, by its address and its size.
+-- The effect of read_string, by its address and its size.
 use Rattle.std.proofs.Common.{◌≡◌, ℕ, ◌-◌, ◌<◌, Bool, true, false, not, List, [], ◌∷◌, ◌++◌, ℤ, pos, w32, if◌then◌else◌, refl, sym, ◌∙◌, ap, arith}
 use Rattle.std.specs.Prelude.{Option, Result, Ok, Err, ◌==◌, ◌||◌, int_lt}
 use Rattle.std.specs.Int.{cast_signed, cast_unsigned}
@@ -46,7 +46,7 @@ read_string_is b s address size small may at count is_small is_may =
     rw (at, count, small_here, may_here) refl
 
 module _ (b : Segments) (old : MachineParts) (address size : ℕ) (at : address ≡ (core_of old.cpu).registers 4) (count : size ≡ (core_of old.cpu).registers 5) where
-  -- what the call by its tests does is what read_string does
+  -- the call by its tests has the effect of read_string
   does_as : (small may : Bool) → (is_negative size || size == 0) ≡ small → all_writable b address size ≡ may
       → (result : Result Unit Halt) (new : MachineParts) (left left' held : Option (List ℕ))
       → IsResultOf (string_by small may address size) stores_string old left held result new left' held

@@ -1,4 +1,4 @@
--- What an instruction and an end leave of a run, for a machine that keeps its text and its segments.
+-- The rest of a run after an instruction or an end, for a machine that keeps its text and its segments.
 use Rattle.std.proofs.Common.{◌≡◌, ◌∙◌, refl, subst, ℕ, List, Option}
 use Rattle.std.specs.Prelude.{Result}
 use Rattle.mips_isa.specs.Bytes.{Segments}
@@ -11,7 +11,7 @@ use Rattle.spim_machine.specs.MachineStates.{MachineParts, IsIn, HasParts, Keeps
 use Rattle.spim_machine.specs.Ends.{Cycled, Ran}
 use Rattle.spim_machine.specs.Counting.{executed_in}
 
--- what a machine keeps over two steps
+-- parts that a machine keeps over two steps
 pub kept_on : (old mid new : MachineParts) → Keeps old mid → Keeps mid new → Keeps old new
 kept_on old mid new before behind = record {
   memory = record {
@@ -21,7 +21,7 @@ kept_on old mid new before behind = record {
   halted = behind.halted ∙ before.halted;
 }
 
--- what came of an instruction, by the text and the segments at the run's start
+-- the outcome of an instruction, by the text and the segments at the run's start
 pub cycled_as : (old now : MemoryParts) (t : State) (first : Option (List ℕ)) (result : Result Unit Halt) (m : MachineParts)
     (left held : Option (List ℕ)) → KeepsSegments old now → Cycled now.text (segments now) t first result m left held
     → Cycled old.text (segments old) t first result m left held

@@ -18,14 +18,14 @@ pub run_next : (text : List ℕ) (b : Segments) (k : ℕ) (s t u : State) → ru
     → run text b (k + 1) s ≡ Running u
 run_next text b k s t u runs next = run_sum text b k 1 s ∙ rw (runs, next) refl
 
--- of a longer run, what comes after the instructions that go on
+-- a longer run goes on after the instructions of a shorter one
 run_after : (text : List ℕ) (b : Segments) (k n : ℕ) (s t : State) → run text b k s ≡ Running t → k < n
     → run text b n s ≡ and_then (cycle text b t) (run text b (n - (k + 1)))
 run_after text b k n s t runs below =
     let parts : n ≡ k + suc (n - (k + 1)) = omega (arith, below) in
     ap (λ i. run text b i s) parts ∙ run_sum text b k (suc (n - (k + 1))) s ∙ rw runs refl
 
--- where the next instruction exits or traps, so does each longer run
+-- if the next instruction exits or traps, so does each longer run
 pub run_exits : (text : List ℕ) (b : Segments) (k n code : ℕ) (s t u : State) → run text b k s ≡ Running t
     → cycle text b t ≡ Exited code u → k < n → run text b n s ≡ Exited code u
 run_exits text b k n code s t u runs next below = run_after text b k n s t runs below ∙ rw next refl

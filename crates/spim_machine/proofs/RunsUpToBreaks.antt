@@ -99,7 +99,7 @@ pub stands_as : (further again : ℕ → State → ℕ) (breaks : ℕ → Bool) 
 stands_as further again breaks text b n left s first m input held same h =
     record { state = h.state; runs = h.runs; count = h.count ∙ ap (λ k. n - left + k) (same h.state h.is); is = h.is }
 
--- where none is left, the run has stopped
+-- if none is left, the run has stopped
 pub stops_there : (further : ℕ → State → ℕ) (breaks : ℕ → Bool) (text : List ℕ) (b : Segments) (n left : ℕ) (s : State)
     (first : Option (List ℕ)) (m : MachineParts) (input held : Option (List ℕ))
     → ((t : State) → IsIn first t m input held → further left t ≡ 0)

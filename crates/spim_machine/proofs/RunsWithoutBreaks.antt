@@ -42,7 +42,7 @@ comes_within text b k n s at within h = record {
   at_is = h.at_is;
 }
 
--- how it ends
+-- the end of the run
 pub ran_without_breaks : (text : List ℕ) (b : Segments) (n : ℕ) (s : State) (first : Option (List ℕ)) (halt : Halt)
     (m : MachineParts) (left held : Option (List ℕ))
     → Ran text b (moved nowhere text b n s) s first halt m left held → Ran text b n s first halt m left held

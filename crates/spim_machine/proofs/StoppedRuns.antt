@@ -1,4 +1,4 @@
--- A run that comes to a system call, whose read or write may fail, wrote and took, up to there, a part of what the whole run does.
+-- If a run comes to a system call whose read or write may fail, the output and input up to there are parts of those of the whole run.
 use Rattle.std.specs.Prelude.{if◌then◌else◌, ◌==◌, ◌||◌, not, nat_le}
 use Rattle.std.proofs.Common.{◌≡◌, ℕ, zero, suc, ◌+◌, ◌-◌, ◌≤◌, Bool, true, false, List, [], ◌∷◌, ◌++◌, length, Option, Some, None, ap, sym, ◌∙◌, subst, arith, append_assoc}
 use Rattle.std.proofs.lemmas.List.{length-append}
@@ -13,7 +13,7 @@ use Rattle.spim_machine.specs.Ends.{ComesToCall, FailsReading, MetEnd, call_with
 
 -- A call that would meet the end of a front of the input takes this front
 
--- what is taken, where so much of the front meets its end
+-- the bytes taken, if so much of the front meets its end
 past_if : (yes : Bool) (a b a' b' : Taken) (rest : List ℕ) → (a.ended ≡ true → EndsIn rest a'.rest) → (b.ended ≡ true → EndsIn rest b'.rest)
     → (if yes then a else b).ended ≡ true → EndsIn rest (if yes then a' else b').rest
 past_if true a b a' b' rest h k e = h e
@@ -37,14 +37,14 @@ asked_past false n m front rest input unmet cut less e = subst (λ (xs : List �
 
 -- Calls
 
--- either of two outcomes, with the front alone and with the whole input
+-- either of two outcomes, with only the front and with the whole input
 call_if : (yes : Bool) (o other o' other' : Outcome) (rest : List ℕ) → (MetEnd o → EndsIn rest (input_of o')) → (MetEnd other → EndsIn rest (input_of other'))
     → MetEnd (if yes then o else other) → EndsIn rest (input_of (if yes then o' else other'))
 call_if true o other o' other' rest h k met = h met
 call_if false o other o' other' rest h k met = k met
 
 module _ (b : Segments) (s : State) (front rest : List ℕ) (unmet : s.ended ≡ false) (cut : s.input ≡ front ++ rest) where
-  -- the same state with the front alone
+  -- the same state with only the front
   abbrev alone : State
   alone = record s { input = front }
 
@@ -79,7 +79,7 @@ module _ (b : Segments) (s : State) (front rest : List ℕ) (unmet : s.ended ≡
 
 -- Runs
 
--- what comes behind takes more
+-- later instructions take more
 then_past : (o : Outcome) (rest : List ℕ) (go : State → Outcome) → EndsIn rest (input_of o) → ((t : State) → Shrank t (go t)) → EndsIn rest (input_of (and_then o go))
 then_past (Running t) rest go h k = (h.0 ++ (k t).0, h.1 ∙ (ap (λ (xs : List ℕ). h.0 ++ xs) (k t).1 ∙ sym (append_assoc h.0 (k t).0 (input_of (go t)))))
 then_past (Exited code t) rest go h k = h
@@ -109,21 +109,21 @@ goes_on text b n s at c =
       from = whole;
     }
 
--- what was written up to a call is a prefix of what the run writes
+-- the output up to a call is a prefix of the output of the run
 pub written_before : (text : List ℕ) (b : Segments) (n : ℕ) (s at : State) → ComesToCall text b n s at → Grew at (run text b n s)
 written_before text b n s at c =
     let g = goes_on text b n s at c in
     let grew = run_grew text b (suc g.behind) g.before in
     (grew.0, ap output_of g.from ∙ grew.1 ∙ ap (λ (xs : List ℕ). xs ++ grew.0) (sym g.same_output))
 
--- what was left up to a call has what the run leaves at its end
+-- the input left at the end of the run is a suffix of the input left at a call
 pub left_before : (text : List ℕ) (b : Segments) (n : ℕ) (s at : State) → ComesToCall text b n s at → Shrank at (run text b n s)
 left_before text b n s at c =
     let g = goes_on text b n s at c in
     let shrank = run_shrank text b (suc g.behind) g.before in
     (shrank.0, g.same_input ∙ shrank.1 ∙ ap (λ (o : Outcome). shrank.0 ++ input_of o) (sym g.from))
 
--- what a call left whose read failed has what the run leaves at its end
+-- the input left at the end of the run is a suffix of the input that a call left whose read failed
 pub left_by_reading : (text : List ℕ) (b : Segments) (n : ℕ) (s at : State) (first held : Option (List ℕ)) (left : List ℕ) → ComesToCall text b n s at
     → FailsReading (call_with b at) at first (Some left) held → EndsIn left (input_of (run text b n s))
 left_by_reading text b n s at first held left c f =

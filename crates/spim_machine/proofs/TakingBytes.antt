@@ -1,4 +1,4 @@
--- What a call takes of an input, byte after byte.
+-- The bytes that a call takes of an input, one after another.
 use Rattle.std.proofs.Common.{◌≡◌, ℕ, zero, suc, ◌<◌, Bool, true, false, List, [], ◌∷◌, ◌++◌, length, length-append, replicate, refl, sym, ◌∙◌, ap, append_assoc, append-nil, arith}
 use Rattle.std.specs.Prelude.{Option, Some, None, Ok, Err, if◌then◌else◌, ◌==◌}
 use Rattle.cool_ports.specs.declared.Failed.{Failed}
@@ -57,7 +57,7 @@ line input = taken (suc (length input)) input
 line-zeros : (k : ℕ) (more : List ℕ) → line (replicate k 0 ++ more) ≡ line more
 line-zeros k more = taken-zeros (length (replicate k 0 ++ more)) k more ∙ taken-bound more (suc (length (replicate k 0 ++ more))) (suc (length more)) (simp length-append (omega arith)) (omega arith)
 
--- what is left of a line is a line
+-- the rest of a line is a line
 pub asks_line : AsksByte line line
 asks_line = record {
   zeros = line-zeros;
@@ -66,7 +66,7 @@ asks_line = record {
   end = refl;
 }
 
--- where the end was answered, it is not asked for again
+-- if the end was answered, it is not asked for again
 abbrev pub unless_ended : Bool → (List ℕ → Taken) → List ℕ → Taken
 unless_ended ended ask input = if ended then record { got = []; rest = input; ended = true } else ask input
 
@@ -116,7 +116,7 @@ taking_some ask next before mid after a got s t = record {
   asks = s.goes t.front ∙ ap (prepend a) t.asks;
 }
 
--- where a byte came, the end was not answered, before or after
+-- if a byte came, the end was not answered, before or after
 pub still_ended : (before after : Option (List ℕ)) (was ended : Bool) (byte : ℕ) → GaveByte was before (Ok (Some byte)) ended after
     → ended ≡ was
 still_ended before after true ended byte g = absurd g
@@ -170,7 +170,7 @@ pub took_none : (left : Option (List ℕ)) (was ended : Bool) → ended ≡ was 
 took_none left true ended is = rw is (record { front = []; gave = sym (front-nil left); asked = λ rest told. refl })
 took_none left false ended is = rw is (record { front = []; gave = sym (front-nil left); asked = λ rest told. refl })
 
--- a take failed: the end was not answered, and of the zeros alone the call would have met it
+-- a take failed: the end was not answered, and with only the zeros the call would have met it
 pub took_some : (ask next : List ℕ → Taken) → AsksByte ask next
     → (before after : Option (List ℕ)) (was ended : Bool) (failed : Failed) → GaveByte was before (Err failed) ended after
     → (was ≡ false) × (ended ≡ was) × TookSome (unless_ended was ask) [] before after

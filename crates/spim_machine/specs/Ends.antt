@@ -1,4 +1,4 @@
--- How system calls and runs end, over a source and a sink that may fail.
+-- The ends of system calls and runs, over a source and a sink that may fail.
 use Rattle.std.specs.Prelude.{◌≡◌, ℕ, ◌-◌, ◌<◌, ◌==◌, true, false, if◌then◌else◌, List, [], ◌++◌, Option, Some, Result, Ok, Err}
 use Rattle.cool_ports.specs.Counts.{Rose}
 use Rattle.cool_ports.specs.SinkBytes.{appended, GotPrefix}
@@ -11,7 +11,7 @@ use Rattle.spim_machine.specs.declared.halt.Halt.{Halt}
 use Rattle.spim_machine.specs.declared.halt.Halt.TheVariants.{Exit, Trap, StepLimit, ReadFault, WriteFault}
 use Rattle.spim_machine.specs.MachineStates.{MachineParts, state_of, IsIn, HasParts}
 
--- Which count of faults rose, of the source (s, then s') and of the sink (k, then k').
+-- The count of faults that rose: of the source (s, then s') and of the sink (k, then k').
 abbrev pub Counted : Halt → ℕ → ℕ → ℕ → ℕ → Type 0
 Counted (Exit code) s s' k k' = (s' ≡ s) × (k' ≡ k)
 Counted (Trap trap) s s' k k' = (s' ≡ s) × (k' ≡ k)
@@ -31,8 +31,7 @@ MetEnd (Running s) = s.ended ≡ true
 MetEnd (Exited code s) = ⊥
 MetEnd (Trapped trap s) = ⊥
 
--- A call that does `does input` with its input took a part of it, and then a take failed: of that part alone it would have met
--- the end. It put nothing.
+-- A call that does `does input` with its input took a part of it, and then a take failed: with only that part it would have met the end. It put nothing.
 pub record FailsReading (does : List ℕ → Outcome) (s : State) (first left held : Option (List ℕ)) : Type 0 where
   pub not_ended : s.ended ≡ false
   pub front : List ℕ
@@ -49,7 +48,7 @@ pub record FailsWriting (does : List ℕ → Outcome) (s : State) (first left he
   pub left_is : left ≡ Some s.input
   pub held_is : GotPrefix (appended first s.output) bytes held
 
--- What a call has stored of this front of its input, before it asks for one more byte: read_string all that it got, the others nothing.
+-- The bytes that a call has stored of this front of its input, before it asks for one more byte: read_string all that it got, the others none.
 abbrev pub stores_none : State → List ℕ → List ℕ
 stores_none s front = []
 
@@ -98,7 +97,7 @@ IsResultOf does stores old left held result new left' held' =
 abbrev pub call_with : Segments → State → List ℕ → Outcome
 call_with b s input = call b (record s { input = input })
 
--- What came of an instruction, and of the system call that it may be.
+-- The outcome of an instruction, and of the system call that it may be.
 abbrev pub Cycled : List ℕ → Segments → State → Option (List ℕ) → Result Unit Halt → MachineParts → Option (List ℕ)
     → Option (List ℕ) → Type 0
 Cycled text b s first (Ok done) m left held = (next : State) × (cycle text b s ≡ Running next) × IsIn first next m left held
@@ -121,8 +120,8 @@ pub record ComesToCall (text : List ℕ) (b : Segments) (n : ℕ) (s at : State)
   pub calls : step text b before.core ≡ Call core
   pub at_is : at ≡ record before { core = core }
 
--- How a run of n instructions from a state ends: as the definition says, with the machine in the state that it left, or with a
--- fault in a system call to which it comes.
+-- The end of a run of n instructions from a state: as the definition says, with the machine in the state that it left, or with a fault in a system call to
+-- which it comes.
 abbrev pub Ran : List ℕ → Segments → ℕ → State → Option (List ℕ) → Halt → MachineParts → Option (List ℕ) → Option (List ℕ) → Type 0
 Ran text b n s first (Exit code) m left held = (end : State) × (run text b n s ≡ Exited code end) × IsIn first end m left held
 Ran text b n s first (Trap trap) m left held = (end : State) × (run text b n s ≡ Trapped trap end) × IsIn first end m left held

@@ -1,4 +1,4 @@
--- What a contract sees of a machine, and what it has to do with the state of the machine's definition.
+-- The machine as contracts see it, and its relation to the state of the machine's definition.
 use Rattle.std.specs.Prelude.{◌≡◌, ℕ, Bool, List, Option, Some, None}
 use Rattle.cool_ports.specs.SinkBytes.{appended}
 use Rattle.mips_isa.specs.Calls.{State}
@@ -33,7 +33,7 @@ pub record HasParts (s : State) (m : MachineParts) : Type 0 where
   pub heap_break : m.heap_break ≡ s.heap_break
   pub ended : m.ended ≡ s.ended
 
--- No call changes the text, or where the segments are, or what a further run answers.
+-- No call changes the text, the bounds of the segments, or the result of a further run.
 pub record Keeps (old new : MachineParts) : Type 0 where
   pub memory : KeepsSegments old.cpu.memory new.cpu.memory
   pub halted : new.halted ≡ old.halted

@@ -1,4 +1,4 @@
--- What a machine puts: a put for each number and each byte that is printed, and of a string one for each 64 of its bytes.
+-- The puts of a machine: one for each number and each byte that is printed, and for a string one for each 64 of its bytes.
 use Rattle.std.specs.Prelude.{◌≡◌, refl, ℕ, zero, suc, ◌%◌, ◌==◌, if◌then◌else◌, List, [], ◌∷◌, ◌++◌, Option, Some, None, Result, Ok, Err}
 use Rattle.std.specs.Fmt.{signed_decimal}
 use Rattle.cool_ports.specs.SinkPuts.{pieces_of, PutFront}
@@ -11,12 +11,12 @@ use Rattle.mips_isa.specs.Run.{cycle}
 use Rattle.spim_machine.specs.declared.halt.Halt.{Halt}
 use Rattle.spim_machine.specs.declared.halt.Halt.TheVariants.{Exit, Trap, StepLimit, ReadFault, WriteFault}
 
--- of a string
+-- the puts of a string
 abbrev pub string_puts : Option (List ℕ) → List (List ℕ)
 string_puts None = []
 string_puts (Some bytes) = pieces_of 64 bytes
 
--- of the system call in $v0
+-- the puts of the system call in $v0
 abbrev pub call_puts : Segments → Core → List (List ℕ)
 call_puts b c =
     if c.registers V0 == PRINT_INT then signed_decimal (signed (c.registers A0)) ∷ []
@@ -29,7 +29,7 @@ printed_alone : (b : Segments) (memory : Bytes)
     → call_puts b (record { registers = λ k. if k == V0 then PRINT_CHAR else 321; hi = 0; lo = 0; pc = 0x00400004; memory = memory }) ≡ (65 ∷ []) ∷ []
 printed_alone b memory = refl
 
--- of an instruction, which may be a system call
+-- the puts of an instruction, which may be a system call
 abbrev pub next_puts : Segments → Next → List (List ℕ)
 next_puts b (On core) = []
 next_puts b (Call core) = call_puts b core
@@ -38,7 +38,7 @@ next_puts b (Stop trap) = []
 abbrev pub cycle_puts : List ℕ → Segments → Core → List (List ℕ)
 cycle_puts text b c = next_puts b (step text b c)
 
--- of so many instructions of a run, the one that exits or traps included
+-- the puts of so many instructions of a run, the one that exits or traps included
 abbrev pub puts_then : Outcome → (State → List (List ℕ)) → List (List ℕ)
 puts_then (Running s) later = later s
 puts_then (Exited code s) later = []

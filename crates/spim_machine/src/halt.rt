@@ -1,8 +1,8 @@
-//! How a run ends, and how far it came.
+//! The end of a run, and the number of instructions executed.
 
 use mips_isa::Trap;
 
-/// How a run ends.
+/// The end of a run.
 #[derive(Clone, Copy)]
 pub enum Halt {
     /// The program exited with this code.
@@ -17,11 +17,11 @@ pub enum Halt {
     WriteFault,
 }
 
-/// How a run up to a break address stopped.
+/// The stop of a run up to a break address.
 #[derive(Clone, Copy)]
 pub struct Stopped {
-    /// How it ended. `StepLimit` is that of a run that may go on: its budget was spent, or it came to a break address.
+    /// The end. `StepLimit` is that of a run that may go on: its budget was spent, or it came to a break address.
     pub halt: Halt,
-    /// How many instructions were executed, the one that exits or traps, or whose call fails, included.
+    /// The number of instructions executed, including the one that exits or traps, or whose call fails.
     pub executed: u64,
 }

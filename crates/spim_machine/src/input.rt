@@ -1,4 +1,4 @@
-//! What calls take of a source.
+//! The reading system calls: the bytes that they take of a source.
 
 ghost use Rattle.std.specs.Prelude.{◌≡◌, List, [], ℕ, IfOk, OnOk, OnErr, false};
 ghost use Rattle.cool_ports.specs.Counts.{Rose};
@@ -8,7 +8,7 @@ ghost use Rattle.spim_machine.specs.Input.{TookAll, TookSome};
 
 use cool_ports::{Failed, Source, next_byte};
 
-/// What `read_char` answers at the end of the input: -1.
+/// The result of `read_char` at the end of the input: -1.
 const END_OF_INPUT: u32 = 0xffff_ffff;
 
 /// The next byte other than 0 as a number, or -1 at the end of the input.

@@ -1,7 +1,7 @@
 //! The machine: a processor with SPIM's system calls, and its runs.
 //!
-//! Comes in: an image, the sizes of heap and stack, a source and a sink. Goes out: what the program prints, and how its run
-//! ends. It meets `Calls.antt` and `Run.antt` of `mips_isa`, by `specs/Ends.antt`.
+//! Input: an image, the sizes of heap and stack, a source and a sink. Output: what the program prints, and how its run
+//! ends. It implements `Calls.antt` and `Run.antt` of `mips_isa`, by `specs/Ends.antt`.
 #![tactic(auto)]
 
 mod halt;

@@ -43,8 +43,7 @@ impl Model for Machine {
 impl Machine {
     /// A machine at the start of a run of this image.
     ///
-    /// All memory of its runs is taken here: the text, the data padded with zeros to a word, heap and stack. `Err` comes only
-    /// for want of it.
+    /// All memory of its runs is taken here: the text, the data padded with zeros to a word, heap and stack. Returns `Err` only if memory runs out.
     pub fn load(alloc: Global, image: &Image, limits: Limits) -> Result<Machine, AllocError>
         requires limits { IsLimits limits.heap limits.stack }
         ensures state { IfOk result (λ machine. (input : List ℕ) → state_of machine input [] ≡ start image.now (segments_of image.now limits.heap limits.stack) input) }
@@ -70,13 +69,13 @@ impl Machine {
 
     /// Executes at most `budget` instructions, with the system calls that they are. It takes no memory.
     ///
-    /// `Exit` and `Trap` come exactly as the definition of the machine ends, and `StepLimit` exactly where it has not ended
-    /// after `budget` instructions; a further run goes on from there. `ReadFault` comes at the first `take` that fails, and
-    /// `WriteFault` at the first `put`: then pc stands after the call, and registers and memory are as the call found them, but that the
-    /// bytes of a string that came before the fault are stored. After all but `StepLimit` a further run answers the same, and touches nothing.
+    /// Returns `Exit` and `Trap` exactly as the definition of the machine ends, and `StepLimit` exactly if it has not ended after `budget` instructions; a
+    /// further run goes on from there. Returns `ReadFault` at the first `take` that fails, and `WriteFault` at the first `put` that fails: then pc stands
+    /// after the call, and registers and memory are as the call found them, except that the bytes of a string that came before the fault are stored. After
+    /// each of them except `StepLimit` a further run returns the same, and touches nothing.
     pub fn run<S: Source, K: Sink>(&mut self, budget: u64, source: &mut S, sink: &mut K) -> Halt
-        // What it takes of the source, and how it ends, from any state that the machine is in, for any input that begins with what
-        // was taken, and is no more than that where the end was answered.
+        // The input that it takes of the source, and its end, from any state that the machine is in. The input is any that begins with what was taken, and
+        // is no more than that if the end was answered.
         ensures took { self.old.halted ≡ None → Took self.old.ended self.new.ended (S.past source.old) (S.past source.new) (S.left source.old) (S.left source.new) }
         ensures ran { (first : Option (List ℕ)) (s : State) → self.old.halted ≡ None → OfAnyInput (S.past source.old) (S.past source.new) (λ input rest. IsIn first s self.old input (K.held sink.old)
             → Ran self.old.cpu.memory.text (segments self.old.cpu.memory) budget s first result self.new rest (K.held sink.new)) }
@@ -95,10 +94,10 @@ impl Machine {
         self.run_to(budget, &NoBreaks, source, sink).halt
     }
 
-    /// Executes an instruction, where the budget has one, and goes on until pc is a break address, as `run` does. It takes no memory.
+    /// Executes an instruction, if the budget has one, and goes on until pc is a break address, as `run` does. It takes no memory.
     ///
-    /// It answers how many instructions were executed, too, the one that exits or traps, or whose call fails, included; after an end of an
-    /// earlier run there is none.
+    /// It also returns the number of instructions executed, including the one that exits or traps, or whose call fails; after an end of an earlier run
+    /// there is none.
     pub fn run_to<B: Breaks, S: Source, K: Sink>(
         &mut self,
         budget: u64,
@@ -106,8 +105,8 @@ impl Machine {
         source: &mut S,
         sink: &mut K,
     ) -> Stopped
-        // What it takes of the source, how it stops, and after how many instructions, from any state that the machine is in, for any
-        // input that begins with what was taken, and is no more than that where the end was answered.
+        // The input that it takes of the source, its stop, and the number of instructions, from any state that the machine is in. The input is any that
+        // begins with what was taken, and is no more than that if the end was answered.
         ensures took { self.old.halted ≡ None → Took self.old.ended self.new.ended (S.past source.old) (S.past source.new) (S.left source.old) (S.left source.new) }
         ensures ran { (first : Option (List ℕ)) (s : State) → self.old.halted ≡ None → OfAnyInput (S.past source.old) (S.past source.new) (λ input rest. IsIn first s self.old input (K.held sink.old)
             → RanTo (B.holds breaks.now) self.old.cpu.memory.text (segments self.old.cpu.memory) budget s first result self.new rest (K.held sink.new)) }
@@ -148,7 +147,7 @@ impl Machine {
         }
     }
 
-    /// Executes an instruction, and the system call that it may be. `Err` comes where the run ends.
+    /// Executes an instruction, and the system call that it may be. Returns `Err` if the run ends.
     fn cycle<S: Source, K: Sink>(&mut self, source: &mut S, sink: &mut K) -> Result<(), Halt>
         ensures took { Took self.old.ended self.new.ended (S.past source.old) (S.past source.new) (S.left source.old) (S.left source.new) }
         ensures cycled { (first : Option (List ℕ)) (s : State) → OfAnyInput (S.past source.old) (S.past source.new) (λ before after. IsIn first s self.old before (K.held sink.old)

@@ -9,7 +9,7 @@ ghost use Rattle.spim_machine.specs.Numbers.{number_from};
 
 use cool_ports::{Failed, Source, next_byte};
 
-/// How far a number was read: blanks, an optional minus sign and digits.
+/// The state of reading a number: blanks, an optional minus sign and digits.
 #[derive(Clone, Copy)]
 enum Number {
     /// Only blanks came.
@@ -64,8 +64,8 @@ impl Number {
     }
 }
 
-/// Takes a line, its newline included, and answers the number at its front: after blanks and tabs an optional minus sign and
-/// digits, of which the low 32 bits count. It is 0 where there is none.
+/// Takes a line, its newline included, and returns the number at its front: after blanks and tabs an optional minus sign and digits, of which the low 32
+/// bits count. It is 0 if there is none.
 pub fn read_number<S: Source>(ended: &mut bool, source: &mut S) -> Result<u32, Failed>
     ensures took { Took ended.old ended.new (S.past source.old) (S.past source.new) (S.left source.old) (S.left source.new) }
     ensures all { IfOk result (λ n. OfAnyInput (S.past source.old) (S.past source.new) (λ before after. (got : List ℕ) × TookAll (asked_line ended.old) got before ended.new after × (n ≡ number_of got))) }

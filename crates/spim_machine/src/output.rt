@@ -1,4 +1,4 @@
-//! What calls put into a sink.
+//! The printing system calls: the bytes that they put into a sink.
 
 ghost use Rattle.std.specs.Prelude.{◌≡◌, ◌+◌, ◌<◌, ◌++◌, length, OnOk, OnErr};
 ghost use Rattle.cool_ports.specs.Counts.{Rose};

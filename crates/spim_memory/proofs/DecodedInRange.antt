@@ -1,4 +1,4 @@
--- What is decoded is in range.
+-- An instruction that is decoded is in range.
 use Rattle.std.proofs.Common.{◌≡◌, ◌∙◌, sym, ℕ, ◌/◌, ◌<◌, ◌≤◌, None, Some, arith}
 use Rattle.std.specs.Prelude.{◌==◌, if◌then◌else◌, Option, IfSome}
 use Rattle.mips_isa.specs.declared.instr.Instr.{Instr}
@@ -22,7 +22,7 @@ no_branch op rs rt imm large = grind arith
 no_immediate : (op rs rt imm : ℕ) → 64 ≤ op → immediate_at op rs rt imm ≡ None
 no_immediate op rs rt imm large = rw (no_imm op large, no_mem op large) (no_branch op rs rt imm large)
 
--- where op is that of none of the first three rows, the last is taken
+-- if op is that of none of the first three rows, the last is taken
 after_rows : {X : Type 0} (op : ℕ) (x y z rest : X) → 64 ≤ op → (if op == 0 then x else (if op == 2 then y else (if op == 3 then z else rest))) ≡ rest
 after_rows op x y z rest large = grind arith
 
@@ -35,7 +35,7 @@ no_word word large = after_rows (word / 67108864) _ _ _ _ (omega (arith, large))
 decoded_is_word : (word : ℕ) (i : Instr) → decoded word ≡ Some i → word < 4294967296
 decoded_is_word word i same = grind (arith, no_word)
 
--- what is decoded is in range
+-- an instruction that is decoded is in range
 pub in_range : (word : ℕ) (found : Option Instr) → found ≡ decoded word → IfSome found InRange
 in_range word None same = tt
 in_range word (Some i) same = (word_of-decoded word i (decoded_is_word word i (sym same)) (sym same)).0

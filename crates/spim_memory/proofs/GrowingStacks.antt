@@ -1,10 +1,10 @@
--- A stack of which more is written, all zeros, is the same.
+-- A stack does not change if more of it is written with zeros.
 use Rattle.std.proofs.Common.{◌≡◌, ◌∙◌, ap, ap₂, sym, ℕ, ◌+◌, ◌-◌, ◌≤◌, List, length, ◌++◌, replicate, take, drop, arith}
 use Rattle.std.proofs.lemmas.List.{take_all, append_assoc, replicate-append-replicate}
 use Rattle.std.proofs.Math.Seq.{drop-append_seam, take-append_seam}
 use Rattle.spim_memory.specs.Zeros.{zeros_and}
 
--- what comes of a turn of zeros to the front
+-- the result of turning zeros to the front
 turned : (w : List ℕ) (k m : ℕ) → m ≡ length w → drop m (w ++ replicate k 0) ++ take m (w ++ replicate k 0) ≡ replicate k 0 ++ w
 turned w k m same = rw same (ap₂ (λ x y. x ++ y) (drop-append_seam w (replicate k 0)) (take-append_seam w (replicate k 0)))
 

@@ -1,4 +1,4 @@
--- What loads answer.
+-- The results of loads.
 use Rattle.std.proofs.Common.{◌≡◌, ◌∙◌, ap, sym, ℕ, ◌+◌, ◌-◌, ◌*◌, ◌/◌, ◌%◌, ◌^◌, ◌<◌, ◌≤◌, List, length, true, false, None, Some, arith}
 use Rattle.std.specs.Prelude.{Result, Ok, Err}
 use Rattle.spim_memory.specs.declared.fault.MemFault.{MemFault}

@@ -80,7 +80,7 @@ pub stored_word : (seen : List ℕ → Bytes) (first : ℕ) (l new : List ℕ) (
 stored_word seen first l new before a i v one was place within is =
     rw (sym was, place, is) (writes_four seen first (length l) one l i v refl within)
 
--- what a vector holds after its slice was written
+-- the contents of a vector after its slice was written
 pub written : (v : Vec ℕ Global) (l new want : List ℕ) → l ≡ v.items → new ≡ want → length want ≡ length l → (with_items v new).items ≡ want
 written v l new want same is size = with_items_is v new (ap length is ∙ size ∙ ap length same ∙ sym v.ok.0) ∙ is
 

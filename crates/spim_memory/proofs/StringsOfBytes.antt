@@ -1,4 +1,4 @@
--- A string ends at its first 0, and a buffer may be stored where each of its bytes may be.
+-- A string ends at its first 0, and a buffer may be stored if each of its bytes may be.
 use Rattle.std.proofs.Common.{◌≡◌, ◌∙◌, refl, sym, ap, ℕ, zero, suc, ◌+◌, ◌-◌, ◌<◌, ◌≤◌, Bool, true, false, Some, None, arith}
 use Rattle.std.specs.Prelude.{◌==◌, ◌&&◌, ◌||◌, if◌then◌else◌}
 use Rattle.mips_isa.specs.declared.address_map.TheConstants.{TEXT_START, DATA_START, HEAP_START, STACK_END}
@@ -114,7 +114,7 @@ pub all_may : (s : Segments) (a n : ℕ) → MayStore s a n → all_writable s a
 all_may s a zero each = refl
 all_may s a (suc n) each = rw (first_may s a n each, all_may s (a + 1) n (may_store-after s a n each)) refl
 
--- where the first bytes may be stored, the others decide
+-- if the first bytes may be stored, the others decide
 pub all_after : (s : Segments) (a k n : ℕ) → MayStore s a k → k ≤ n → all_writable s a n ≡ all_writable s (a + k) (n - k)
 all_after s a zero n each within =
     let here : a + 0 ≡ a = omega arith in

@@ -1,5 +1,5 @@
--- What a contract sees of a memory: the words of the text, and the bytes of the other segments. From these come the bytes
--- by their addresses, and where the segments begin and end.
+-- A memory as contracts see it: the words of the text, and the bytes of the other segments. They determine the bytes by their addresses, and the bounds of
+-- the segments.
 use Rattle.std.specs.Prelude.{◌≡◌, ℕ, ◌+◌, ◌-◌, ◌*◌, ◌/◌, ◌%◌, ◌^◌, ◌≤◌, ◌==◌, nat_lt, not, Bool, if◌then◌else◌, List, length, get_or, Result, Ok, Err}
 use Rattle.mips_isa.specs.declared.address_map.TheConstants.{TEXT_START, DATA_START, HEAP_START, STACK_END, MOST_TEXT_WORDS, MOST_DATA_BYTES}
 use Rattle.mips_isa.specs.Bytes.{Bytes, Segments, byte_of_word}
@@ -39,7 +39,7 @@ bytes_of m = λ a.
     else (if nat_lt a (STACK_END - length m.stack) then get_or m.heap (a - HEAP_START) 0
     else get_or m.stack (a - (STACK_END - length m.stack)) 0))
 
--- what an access of this size at a answers: v, or why it may not be
+-- the result of an access of this size at a: v, or why it is refused
 abbrev pub accessed : {V : Type 0} → ℕ → Bool → ℕ → V → Result V MemFault
 accessed size may a v =
     if not (a % size == 0) then Err (Unaligned a) else (if not may then Err (BadAddress a) else Ok v)

@@ -1,4 +1,4 @@
--- The instruction that an operation is.
+-- The instruction of an operation.
 use Rattle.std.specs.Prelude.{◌≡◌, refl, ℕ, ◌<◌, pos, Option, Some, None, List, length, get_or}
 use Rattle.mips_isa.specs.declared.instr.Instr.{Instr}
 use Rattle.mips_isa.specs.declared.instr.Instr.TheVariants.{Three, Shift, ShiftReg, Jr, Jalr, Syscall, MoveFrom, MoveTo, MulDiv, Imm, Lui, BranchTwo, BranchOne, Jump, Mem}

@@ -1,4 +1,4 @@
--- Where in a memory an address lies, and what is written there.
+-- The place of an address in a memory, and the memory after a store there.
 use Rattle.std.specs.Prelude.{◌≡◌, ℕ, ◌+◌, ◌-◌, ◌*◌, ◌/◌, ◌%◌, ◌^◌, ◌<◌, true, false, Option, None, Some, Result, Ok, Err, List, ◌++◌, length, replicate, slice_set}
 use Rattle.mips_isa.specs.declared.address_map.TheConstants.{TEXT_START, DATA_START, HEAP_START, STACK_END}
 use Rattle.mips_isa.specs.Bytes.{lies, writable}

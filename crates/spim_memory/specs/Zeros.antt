@@ -9,7 +9,7 @@ and_zeros written size = written ++ replicate (size - length written) 0
 abbrev pub zeros_and : ℕ → List ℕ → List ℕ
 zeros_and size written = replicate (size - length written) 0 ++ written
 
--- What was written is a part of so many bytes, for which there is room; both are made of words.
+-- The part that was written has so many bytes, for which there is room; both sizes are multiples of a word.
 pub record IsPart (written : List ℕ) (capacity size : ℕ) : Type 0 where
   pub inside : length written ≤ size
   pub room : size ≤ capacity

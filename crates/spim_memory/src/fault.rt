@@ -1,4 +1,4 @@
-//! Why an access may not be.
+//! The reasons why an access is refused.
 
 /// Why an access may not be, with its address.
 #[derive(Clone, Copy)]

@@ -8,7 +8,7 @@ use crate::little_endian::{read_half, read_word, write_half, write_word};
 use std::alloc::{AllocError, Global};
 use std::marker::Model;
 
-/// How many bytes of a heap are written at once.
+/// The number of bytes of a heap that are written at once.
 const PAGE: usize = 4096;
 
 /// The bytes of a heap. Those from some byte on are zeros, and take no time before they are written.
@@ -48,7 +48,7 @@ fn reach(written: &mut Vec<u8>, size: usize, offset: usize)
 }
 
 impl HeapBytes {
-    /// So many zeros. `Err` comes only for want of memory.
+    /// So many zeros. Returns `Err` only if memory runs out.
     pub(crate) fn zeros(alloc: Global, size: usize) -> Result<HeapBytes, AllocError>
         requires { size % 4 ≡ 0 }
         ensures { IfOk result (λ bytes. bytes ≡ replicate size 0) }
@@ -59,7 +59,7 @@ impl HeapBytes {
         })
     }
 
-    /// How many bytes there are.
+    /// The number of bytes.
     pub(crate) fn len(&self) -> usize
         ensures { result ≡ length self.now }
     {

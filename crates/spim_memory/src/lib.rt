@@ -1,7 +1,7 @@
 //! The segments of a machine.
 //!
-//! Comes in: an image and the sizes of heap and stack, then addresses and numbers. Goes out: numbers and instructions, or why
-//! an access may not be. It meets `specs/Memory.antt`, and with it the bytes of the machine in `mips_isa`.
+//! Input: an image and the sizes of heap and stack, then addresses and numbers. Output: numbers and instructions, or why
+//! an access may not be. It implements `specs/Memory.antt`, and with it the bytes of the machine in `mips_isa`.
 #![tactic(auto)]
 
 mod fault;

@@ -82,8 +82,8 @@ fn operations_of(alloc: Global, words: &[u32]) -> Result<Vec<Operation>, AllocEr
 impl Memory {
     /// The memory of an image: its text, its data, padded with zeros to a word, and a heap and a stack of zeros.
     ///
-    /// The text is decoded here, once for a run, which takes 8 bytes for a word of text beside the word's own 4.
-    /// All memory of a run is taken here. `Err` comes only for want of it.
+    /// The text is decoded here, once for a run, which takes 8 bytes for a word of text beside the word's own 4. All memory of a run is taken here.
+    /// Returns `Err` only if memory runs out.
     pub fn make(alloc: Global, image: &Image, limits: Limits) -> Result<Memory, AllocError>
         requires { IsLimits limits.heap limits.stack }
         ensures text { IfOk result (λ memory. memory.text ≡ image.now.text) }
@@ -99,7 +99,7 @@ impl Memory {
         })
     }
 
-    /// Where the heap ends.
+    /// The end of the heap.
     pub fn heap_end(&self) -> u32
         ensures { result ≡ (segments self.now).heap_end }
     {
@@ -148,9 +148,9 @@ impl Memory {
         self.text.get(index).copied()
     }
 
-    /// The instruction at an address, or `None` where the word there is that of no instruction.
+    /// The instruction at an address, or `None` if the word there is that of no instruction.
     ///
-    /// `Unaligned` comes where the address is no multiple of 4, and `BadAddress` where no word of the text is.
+    /// Returns `Unaligned` if the address is no multiple of 4, and `BadAddress` if no word of the text is there.
     pub fn instruction(&self, a: u32) -> Result<Option<Instr>, MemFault>
         ensures instruction { result ≡ accessed 4 (lies TEXT_START (segments self.now).text_end a 4) a (decoded (word_of_text self.now.text a)) }
         ensures range { IfOk result (λ found. IfSome found InRange) }
@@ -167,7 +167,7 @@ impl Memory {
 
     /// The operation at an address.
     ///
-    /// `Unaligned` comes where the address is no multiple of 4, and `BadAddress` where no word of the text is.
+    /// Returns `Unaligned` if the address is no multiple of 4, and `BadAddress` if no word of the text is there.
     pub fn operation(&self, a: u32) -> Result<Operation, MemFault>
         ensures operation { IfOk result (λ found. accessed 4 (lies TEXT_START (segments self.now).text_end a 4) a (decoded (word_of_text self.now.text a)) ≡ Ok (instr_of found)) }
         ensures fault { IfErr result (λ fault. accessed 4 (lies TEXT_START (segments self.now).text_end a 4) a (decoded (word_of_text self.now.text a)) ≡ Err fault) }
@@ -202,7 +202,7 @@ impl Memory {
         self.operations = operations;
     }
 
-    /// The byte at an address. `BadAddress` comes where no segment is.
+    /// The byte at an address. Returns `BadAddress` if no segment is there.
     #[inline(always)]
     pub fn load_byte(&self, a: u32) -> Result<u8, MemFault>
         ensures { result ≡ accessed 1 (readable (segments self.now) a 1) a (bytes_of self.now a) }
@@ -217,7 +217,7 @@ impl Memory {
 
     /// The half at an address.
     ///
-    /// `Unaligned` comes where the address is no multiple of 2, and `BadAddress` where no segment is.
+    /// Returns `Unaligned` if the address is no multiple of 2, and `BadAddress` if no segment is there.
     #[inline(always)]
     pub fn load_half(&self, a: u32) -> Result<u16, MemFault>
         ensures { result ≡ accessed 2 (readable (segments self.now) a 2) a (half (bytes_of self.now) a) }
@@ -235,7 +235,7 @@ impl Memory {
 
     /// The word at an address.
     ///
-    /// `Unaligned` comes where the address is no multiple of 4, and `BadAddress` where no segment is.
+    /// Returns `Unaligned` if the address is no multiple of 4, and `BadAddress` if no segment is there.
     #[inline(always)]
     pub fn load_word(&self, a: u32) -> Result<u32, MemFault>
         ensures { result ≡ accessed 4 (readable (segments self.now) a 4) a (word (bytes_of self.now) a) }
@@ -251,7 +251,7 @@ impl Memory {
         }
     }
 
-    /// Stores a byte. `BadAddress` comes where no data, heap or stack is. A refused store changes nothing.
+    /// Stores a byte. Returns `BadAddress` if no data, heap or stack is there. A refused store changes nothing.
     #[inline(always)]
     pub fn store_byte(&mut self, a: u32, v: u8) -> Result<(), MemFault>
         ensures answer { result ≡ accessed 1 (writable (segments self.old) a 1) a tt }
@@ -271,8 +271,7 @@ impl Memory {
 
     /// Stores a half.
     ///
-    /// `Unaligned` comes where the address is no multiple of 2, and `BadAddress` where no data, heap or stack is. A refused
-    /// store changes nothing.
+    /// Returns `Unaligned` if the address is no multiple of 2, and `BadAddress` if no data, heap or stack is there. A refused store changes nothing.
     #[inline(always)]
     pub fn store_half(&mut self, a: u32, v: u16) -> Result<(), MemFault>
         ensures answer { result ≡ accessed 2 (writable (segments self.old) a 2) a tt }
@@ -295,8 +294,7 @@ impl Memory {
 
     /// Stores a word.
     ///
-    /// `Unaligned` comes where the address is no multiple of 4, and `BadAddress` where no data, heap or stack is. A refused
-    /// store changes nothing.
+    /// Returns `Unaligned` if the address is no multiple of 4, and `BadAddress` if no data, heap or stack is there. A refused store changes nothing.
     #[inline(always)]
     pub fn store_word(&mut self, a: u32, v: u32) -> Result<(), MemFault>
         ensures answer { result ≡ accessed 4 (writable (segments self.old) a 4) a tt }

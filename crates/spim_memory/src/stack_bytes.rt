@@ -10,7 +10,7 @@ use std::marker::Model;
 
 /// The bytes of a stack. Those before some byte are zeros, and take no time before they are written.
 ///
-/// The memory for all of them is taken at the start. What was written at least doubles where it grows, since it is moved then.
+/// The memory for all of them is taken at the start. The written part at least doubles when it grows, since it is moved then.
 #[derive(Drop)]
 pub(crate) struct StackBytes {
     written: Vec<u8>,
@@ -48,7 +48,7 @@ fn reach(written: &mut Vec<u8>, size: usize, offset: usize)
 }
 
 impl StackBytes {
-    /// So many zeros. `Err` comes only for want of memory.
+    /// So many zeros. Returns `Err` only if memory runs out.
     pub(crate) fn zeros(alloc: Global, size: usize) -> Result<StackBytes, AllocError>
         requires { size % 4 ≡ 0 }
         ensures { IfOk result (λ bytes. bytes ≡ replicate size 0) }
@@ -59,7 +59,7 @@ impl StackBytes {
         })
     }
 
-    /// How many bytes there are.
+    /// The number of bytes.
     pub(crate) fn len(&self) -> usize
         ensures { result ≡ length self.now }
     {

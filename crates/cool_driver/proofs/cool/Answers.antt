@@ -5,7 +5,7 @@ use Rattle.cool_words.specs.declared.words_error.WordsError.TheVariants.{Usage}
 use Rattle.cool_driver.specs.CommandLine.{asked_for, words_of}
 use Rattle.cool_driver.proofs.cool.Goals as goal
 
--- what was read is what the words ask for
+-- the parsed command line is the request of the arguments
 answers : (given : List (List ℕ)) (read : Result Plan WordsError) → IfOk read (λ p. plan_of given ≡ Some (asked_by p))
     → (read ≡ Err Usage → plan_of given ≡ None) → Answers asked_by (asked_for given) read
 unfolding asked_for

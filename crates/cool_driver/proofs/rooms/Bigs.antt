@@ -1,9 +1,9 @@
--- How a call of `big` ends.
+-- The end of a call of `big`.
 use Rattle.std.proofs.Common.{List, refl, ℕ, ◌≡◌}
 use Rattle.cool_driver.specs.{Calls.{Call, Request}, Comes.{Comes}, commands.Big.{BigEnds, DueToBig, IsBigLine, PiecesOfBig}}
 use Rattle.cool_driver.proofs.DevicesOfCalls.{came}
 
--- what is due is its line, with status 0
+-- the result that is due is its line, with status 0
 summed_so : {n : ℕ} {r : Request} {status : ℕ} {output note left : List ℕ} → DueToBig n r status output note left → (status ≡ 0) × IsBigLine n output
 summed_so (DueToBig.summed line is calm) = (refl, is)
 

@@ -1,4 +1,4 @@
--- How a call of `asm` or `build` ends.
+-- The end of a call of `asm` or `build`.
 use Rattle.cool_ports.specs.SinkPuts.{pieces_of}
 use Rattle.cool_driver.specs.{declared.writing.TheConstants.{MOST_PIECE_BYTES}, Calls.{Call, Request, ShelfUse, shelf_of}, Comes.{Comes, NoPieces, PutAsDue}, Does.{Goes}, Sources.{AreKnown, IsNoProgram, IsProgram}}
 use Rattle.cool_driver.specs.{commands.Build.{BuildEnds, DueToBuild, IsBuilt, IsCompiled, PiecesOfBuild, built_bytes}, declared.commands.build.Form.{Form}}
@@ -9,7 +9,7 @@ use Rattle.cool_faults.specs.Verdicts.{IsAccepted}
 use Rattle.cool_syntax.specs.declared.TheConstants.{MOST_SOURCE_BYTES}
 use Rattle.cool_driver.proofs.{ComesOfRefusals.{DueToRefusal, comes_map, goes_map}, DevicesOfCalls.{came}, PutsOfCalls.{put_refused}, SourcesOfCalls.{IsVerdictOn, no_refusal, same_program, sources_exactly}}
 
--- what is due comes of a verdict on the files
+-- the result that is due depends on the verdict on the files
 verdict_of : {form : Form} {names : List (List ℕ)} {r : Request} {status : ℕ} {output note left : List ℕ} → DueToBuild form names r status output note left
     → IsVerdictOn (shelf_of r) names status note
 verdict_of (DueToBuild.built p is means) = inl (p, is, inl refl)
@@ -22,7 +22,7 @@ built_so : {form : Form} {names : List (List ℕ)} {r : Request} {contents : Lis
 built_so known is (DueToBuild.built q other means) = rw (← same_program known is other) (refl, refl, means)
 built_so known is (DueToBuild.refused status note why) = absurd (no_refusal known is why)
 
--- what is put for the program that files are
+-- the puts for the program of the files
 abbrev IsPrinted : Form → List (List ℕ) → Call → ℕ → Type 0
 IsPrinted form names c status = (contents : List (List ℕ)) (p : List Class) → AreKnown (shelf_of c.request) MOST_SOURCE_BYTES names contents → IsAccepted contents p
     → PutAsDue (pieces_of MOST_PIECE_BYTES (built_bytes form p names)) c.out status

@@ -1,11 +1,11 @@
--- How a call of `check` ends.
+-- The end of a call of `check`.
 use Rattle.std.proofs.Common.{List, [], inl, inr, refl, ℕ, ◌≡◌, ◌≢◌}
 use Rattle.cool_faults.specs.{Verdicts.{IsFaultList}, declared.fault.Fault.{Fault}}
 use Rattle.cool_syntax.specs.declared.TheConstants.{MOST_SOURCE_BYTES}
 use Rattle.cool_driver.specs.{Calls.{Call, Request, shelf_of}, Comes.{Comes, NoPieces}, Sources.{AreKnown}, commands.Check.{CheckEnds, DueToCheck}}
 use Rattle.cool_driver.proofs.{DevicesOfCalls.{came}, SourcesOfCalls.{IsVerdictOn, program_faultless, refused_with, sources_exactly}}
 
--- what is due comes of a verdict on the files, and takes nothing of the input
+-- the result that is due depends on the verdict on the files, and no input is taken
 pub verdict_of : {names : List (List ℕ)} {r : Request} {status : ℕ} {output note left : List ℕ} → DueToCheck names r status output note left
     → IsVerdictOn (shelf_of r) names status note
 verdict_of (DueToCheck.accepted p is) = inl (p, is, inl refl)

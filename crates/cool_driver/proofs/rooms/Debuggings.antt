@@ -1,4 +1,4 @@
--- How a call of `debug` ends.
+-- The end of a call of `debug`.
 use Rattle.std.specs.Prelude.{◌∷◌, codes}
 use Rattle.cool_driver.specs.Sources.{EndsWith, AreKnown, FilesExactly, IsNoProgram, IsProgram}
 use Rattle.cool_sources.specs.Reading.{IsCause}
@@ -35,7 +35,7 @@ use Rattle.lists.specs.Bytes.{AreBytes}
 
 -- The script
 
--- what a script says for lines is what it says for the program of these lines
+-- the commands that a script gives for lines are those for the program of these lines
 pub said_for : (lines : List Line) (p : List Class) (names : List (List ℕ)) (script : List ℕ) → lines ≡ program_lines p names
     → commands_for p names script ≡ commands_in (place_of lines) script
 unfolding commands_for
@@ -53,7 +53,7 @@ script_told shelf script ShelfFault.TooLarge refusal asked cause line =
     line_told (IsDueUnscripted shelf script) Status.FileFault too_large_note refusal (ends_after (codes "cool: files too large") (codes "\n") feed) (refl, ScriptIsUnread.too_large asked cause) (line too_large_note refl)
 script_told shelf script ShelfFault.Memory refusal asked cause line = absurd cause
 
--- What is debugged, or why nothing is
+-- The debugged image, or the reason why there is none
 
 -- the image of a program, and what the script says for it
 pub debuggee_if : {script bytes : List ℕ} {names : List (List ℕ)} {shelf : ShelfUse} {p : List Class} (result : Result Scripted Refusal)
@@ -82,7 +82,7 @@ undebugged_status (IsNoDebuggee.misscripted bytes p fault read is gave says) = l
 
 -- The run under the debugger
 
--- how the machine halted was noted behind these notes, or that write failed
+-- the machine's halt was noted after these notes, or that write failed
 noted_behind : {c : Call} (mid : Option (List ℕ)) (failed : ℕ) (answered : Status) (halt : Halt) (notes : List ℕ) → mid ≡ appended c.notes.held_before notes
     → failed ≡ c.notes.faults_before → HaltNoted (record c.notes { held_before = mid; faults_before = failed }) halt answered
     → IsNoted c (status_of_halt halt) notes (note_of_halt halt) (code_of answered)
@@ -92,7 +92,7 @@ noted_behind mid failed answered halt notes is calm (inr (status, some, part)) =
     rw status (IsNoted.failed (rw (appended-nil mid ∙ is) at part.0, rw calm at part.1))
 
 module _ {limits : RunLimits} {image : ImageParts} {commands : List DebugCommand} {c : Call} where
-  -- how the debugger stopped that was given the limits in bytes
+  -- the stop of a debugger that was given the limits in bytes
   pub stopped_at : {heap stack : ℕ} {how how' : DebugEnd} {notes : SinkUse} → heap ≡ heap_of limits → stack ≡ stack_of limits → how ≡ how'
       → Debugged (debuggee image heap stack limits.steps c.request.input) commands how c.out.held_before (Some c.left) c.out.held_after notes.held_before notes.held_after
       → CountedBy how c.input_before c.input_after c.out.faults_before c.out.faults_after notes.faults_before notes.faults_after
@@ -155,7 +155,7 @@ module _ {limits : RunLimits} {image : ImageParts} {commands : List DebugCommand
   pub ran_short : Stopped limits image commands c DebugEnd.Memory c.notes → Goes (Debugs limits image commands) c 9
   ran_short h = let (input, out, notes) = h.counted in short_goes (omega arith) (input, out) notes (Debugs.cut_short h)
 
--- By the runs of the source
+-- Comparison with the runs of the source
 
 module _ (limits : RunLimits) (image : ImageParts) (commands : List DebugCommand) (names : List (List ℕ)) (p : List Class) (c : Call)
     (means : Means image p names) (bounded : IsBounded limits) (are : AreBytes c.request.input) where
@@ -170,7 +170,7 @@ module _ (limits : RunLimits) (image : ImageParts) (commands : List DebugCommand
       let s : StopsReading c limits image = record { at = at; comes = comes; fails = fails_alone fails; wrote = (fails.held_is, h.counted.0.1) } in
       (headline_unread limits image names p c means bounded are s, noteless_unread limits image names p c means bounded are s)
 
-  -- what came between two instructions is a part of what the run of the source does
+  -- the output and input between two instructions are parts of those of the run of the source
   part_between : StandsEarlier (debuggee_within limits image c.request.input) c.out.held_before (Some c.left) c.out.held_after → IsPartOfSource c limits names p
   part_between stands =
       let b = segments_within limits image in
@@ -198,9 +198,9 @@ module _ (limits : RunLimits) (image : ImageParts) (commands : List DebugCommand
   debug_headline (Debugs.short nothing) = inr (inr (refl, nothing))
   debug_headline (Debugs.cut_short h) = inr (inl (record { image = image; means = means; stops = inr (refl, h); part = part_between h.debugged.0 }))
 
--- What is promised
+-- The promise
 
--- where files are to be had
+-- the case that the files can be had
 files_for : {script : List ℕ} {names : List (List ℕ)} {shelf : ShelfUse} {status : ℕ} {note : List ℕ} → IsNoDebuggee script names shelf status note
     → WereRead shelf MOST_SOURCE_BYTES names status
 files_for (IsNoDebuggee.too_many many calm) = inr refl
@@ -208,7 +208,7 @@ files_for (IsNoDebuggee.unscripted note few why) = inr refl
 files_for (IsNoDebuggee.refused bytes status note read why) = read_for (inr why)
 files_for (IsNoDebuggee.misscripted bytes p fault read is gave says) = inl (is.contents, is.read)
 
--- where the script cannot be read, nothing is debugged for that
+-- if the script cannot be read, nothing is debugged for that reason
 script_fault : {script : List ℕ} {names : List (List ℕ)} {shelf : ShelfUse} {status : ℕ} {note : List ℕ}
     → ((bytes : List ℕ) → ScriptIsRead shelf script bytes → ⊥) → IsNoDebuggee script names shelf status note → status ≡ FILE_FAULT
 script_fault none (IsNoDebuggee.too_many many calm) = refl
@@ -232,7 +232,7 @@ module _ {script : List ℕ} {names : List (List ℕ)} {limits : RunLimits} {c :
       let (output, note, row, out, notes) = came comes eight nine in script_fault none (undebugged_is row)
   about_script none (DebugComes.debugs image commands is bounded goes) eight nine = absurd (none is.bytes is.read)
 
--- where the script and the files are known
+-- the case that the script and the files are known
 module _ {script : List ℕ} {names : List (List ℕ)} {shelf : ShelfUse} {contents : List (List ℕ)} {bytes : List ℕ}
     (read : AreKnown shelf MOST_SOURCE_BYTES names contents) (script_read : ScriptIsKnown shelf script bytes contents) where
   -- the script is read once
@@ -273,7 +273,7 @@ module _ {script : List ℕ} {names : List (List ℕ)} {shelf : ShelfUse} {conte
   ]
 
   module _ {p : List Class} (is : IsAccepted contents p) where
-    -- for them nothing is wrong but the script
+    -- then only the script can be wrong
     fault_so : {status : ℕ} {note : List ℕ} → IsNoDebuggee script names shelf status note
         → (fault : ScriptFault) × (commands_for p names bytes ≡ Err fault) × (status ≡ 12) × (note ≡ script_note script fault)
     fault_so why = elim (resolved why) [
@@ -286,7 +286,7 @@ module _ {script : List ℕ} {names : List (List ℕ)} {shelf : ShelfUse} {conte
         → (h.p ≡ p) × (commands_for p names bytes ≡ Ok others)
     says_so h = let program = same_program read is h.is in (program, rw (program, same_bytes h.read h.is h.gave) at h.says)
 
--- where nothing is wrong, memory ran out where nothing was debugged
+-- if nothing is wrong and nothing was debugged, memory ran out
 undebugged_so : {script : List ℕ} {names : List (List ℕ)} {c : Call} {contents : List (List ℕ)} {bytes : List ℕ} {p : List Class}
     {commands : List DebugCommand} {status : ℕ} → AreKnown (shelf_of c.request) MOST_SOURCE_BYTES names contents
     → ScriptIsKnown (shelf_of c.request) script bytes contents → IsAccepted contents p → commands_for p names bytes ≡ Ok commands

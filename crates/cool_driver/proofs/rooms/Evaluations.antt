@@ -1,4 +1,4 @@
--- How a call of `eval` ends.
+-- The end of a call of `eval`.
 use Rattle.std.proofs.Common.{List, Option, Some, [], ap, append-nil, append_assoc, arith, inl, inr, refl, subst, suc, sym, zero, ℕ, ◌++◌, ◌∙◌, ◌≡◌, ◌≢◌, ◌≤◌, ◌⊎◌}
 use Rattle.cool_classes.specs.Chains.{Class}
 use Rattle.cool_eval.proofs.PartsOfRuns.{part_of_last_line, part_of_reading, part_of_short, part_of_writing}
@@ -21,16 +21,16 @@ run_status (source.End.Failed error) status e = inr (inl cc)
 run_status source.End.GoesOn status e = inr (inr (inr (inr (inl cc))))
 run_status source.End.IsStuck status e = absurd cc
 
--- what is due comes of a verdict on the files
+-- the result that is due depends on the verdict on the files
 verdict_of : {names : List (List ℕ)} {steps : ℕ} {r : Request} {status : ℕ} {output note left : List ℕ} → DueToEval names steps r status output note left
     → IsVerdictOn (shelf_of r) names status note
 verdict_of (DueToEval.evaluated p status is e) = inl (p, is, run_status _ status e)
 verdict_of (DueToEval.unread p output left is stops) = inl (p, is, grind arith)
 verdict_of (DueToEval.refused status note why) = inr why
 
--- Of files that were read and are accepted
+-- Results for files that were read and are accepted
 
--- what is due for runs with so many steps: what their end gives, or a call came that failed to read
+-- the result that is due for runs with so many steps: that of their end, or of a call that failed to read
 abbrev IsDueBy : (ℕ → source.Run) → ℕ → ℕ → List ℕ → List ℕ → List ℕ → Type 0
 IsDueBy run steps status output note left =
     ((status ≡ 7) × StoppedReading run steps (Some []) left (Some output))
@@ -57,11 +57,11 @@ stopped_alone : {run : ℕ → source.Run} {steps : ℕ} {held : Option (List �
     → (h : StoppedReading run steps held left held') → StoppedReading run steps (Some []) left (Some (run h.spent).output)
 stopped_alone {run} h = record { spent = h.spent; fewer = h.fewer; goes_on = h.goes_on; put = got_alone (run h.spent).output; input = h.input }
 
--- of what a run writes a prefix was put, where a part of it was done
+-- a prefix of a run's output was put, if a part of the run was done
 prefix_of_part : {r : source.Run} {held : Option (List ℕ)} {rest : List ℕ} {held' : Option (List ℕ)} → IsPart r held rest held' → GotPrefix held r.output held'
 prefix_of_part (output, put, part) = (part.more, record { front = output; cut = part.output_is; got = put })
 
--- how such a call comes
+-- the end of such a call
 abbrev EvalComes : List (List ℕ) → ℕ → Call → ℕ → Type 0
 EvalComes names steps c status =
     Comes (DueToEval names steps c.request) (PiecesOfEval names steps c.request) c status ⊎ ((status ≡ 9) × CutShort names steps c)
@@ -76,7 +76,7 @@ module _ (names : List (List ℕ)) (steps : ℕ) (c : Call) (contents : List (Li
   due_by (DueToEval.unread q output left other stops) = rw (← same_program files_known is other) (inl (refl, stops))
   due_by (DueToEval.refused status note why) = absurd (no_refusal files_known is why)
 
-  -- what was due was written
+  -- the result that was due was written
   ends_as : {status : ℕ} {output note : List ℕ} → IsDueBy runs steps status output note c.left → Got c.out output → Got c.notes note
       → (status ≡ 7) × StoppedReading runs steps c.out.held_before c.left c.out.held_after ⊎ EndsAs c status (runs steps)
   ends_as (inl (seven, stops)) out notes = inl (seven, stopped_here c.out stops out)
@@ -129,7 +129,7 @@ module _ (names : List (List ℕ)) (steps : ℕ) (c : Call) (contents : List (Li
   cut_short (inl _) e = absurd (omega arith)
   cut_short (inr (nine, s)) e = inr (stopped_short s)
 
--- what is asked about the files, where memory ran out in the run: nothing, since the status is 9
+-- no claim about the files is needed if memory ran out in the run, since the status is 9
 about : {names : List (List ℕ)} {steps : ℕ} {c : Call} {status : ℕ} → EvalComes names steps c status → SourcesExactly names c status
 about (inl comes) = sources_exactly (λ s o n l. verdict_of) comes
 about (inr (nine, s)) = record {
@@ -137,7 +137,7 @@ about (inr (nine, s)) = record {
   refused_exactly = λ contents faults known list some _ other. absurd (other nine);
 }
 
--- what is put for the program that files are
+-- the puts for the program of the files
 abbrev IsPrinted : List (List ℕ) → ℕ → Call → ℕ → Type 0
 IsPrinted names steps c status = (contents : List (List ℕ)) (p : List Class) → AreKnown (shelf_of c.request) MOST_SOURCE_BYTES names contents → IsAccepted contents p
     → PutAsDue (run_puts p names c.request.input steps) c.out status
@@ -171,7 +171,7 @@ unevaluated_ends none comes =
     eval_ends (λ contents p known is. put_refused (λ s n why. no_refusal known is why) none comes)
     (inl (comes_map (λ s o n l row. row_of row) (λ b p l row. absurd row) comes))
 
--- What was put
+-- The puts
 
 -- the puts of some steps are the first of those of more
 within_one : (a b : ℕ) → a ≤ suc b → (a ≤ b) ⊎ (a ≡ suc b)
@@ -267,7 +267,7 @@ module _ {names : List (List ℕ)} {steps : ℕ} {c : Call} {p : List Class} {en
       short_goes shelf count notes.1
       (inr (refl, record { p = p; is = is; stopped = rw this at went; out_calm = count.1; notes = notes; input_calm = count.0 }))
 
--- what was put, by the end of the run
+-- the puts, by the end of the run
 module _ (p : List Class) (names : List (List ℕ)) (input : List ℕ) (steps : ℕ) (rest : List ℕ) {s : SinkUse} {end : EvalEnd} where
   pub put_well : {status : ℕ} → end ≡ EvalEnd.Done → PutByRun p names input steps end rest s.puts_before s.puts_after
       → PutAsDue (run_puts p names input steps) s status

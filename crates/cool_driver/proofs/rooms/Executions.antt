@@ -1,4 +1,4 @@
--- How a call of `exec` ends.
+-- The end of a call of `exec`.
 use Rattle.std.proofs.Common.{Err, IfErr, IfOk, List, Ok, Result, [], ap, arith, get_or, inl, inr, refl, subst, true, ℕ, ◌∷◌, ◌≡◌, ◌⊎◌}
 use Rattle.std.specs.Global.{Vec}
 use Rattle.cool_words.specs.declared.plan.RunLimits.{RunLimits}
@@ -10,7 +10,7 @@ use Rattle.cool_driver.specs.{declared.TheConstants.{MOST_IMAGE_BYTES}, declared
 use Rattle.cool_driver.proofs.{ComesOfRefusals.{DueToRefusal, IsRefusalStatus, comes_map, goes_map}, ComesOfRuns.{run_so}, DevicesOfCalls.{came}, PutsOfCalls.{put_refused}, RefusalsTold.{told_so}}
 use Rattle.cool_driver.proofs.{RunnableFiles.{fault_or_runs, one_runnable, one_text_fault, unfit_or_runs}, SourcesOfCalls.{WereRead, files_told, no_unread, same_contents}}
 
--- What is read of the file
+-- The bytes read of the file
 
 -- files that were read of one name are that file
 pub file_read : {shelf : ShelfUse} {name : List ℕ} {bytes : Vec ℕ} (contents : List (Vec ℕ)) → bytes ≡ get_or contents 0 bytes
@@ -35,7 +35,7 @@ unloaded {shelf} {name} {bytes} (Err refusal) read why = told_so (IsDueToBytes n
     so status note (is, inl why) = rw (is, why.1) (IsNoImage.unfit bytes why.0 read why.2 why.3)
     so status note (is, inr why) = rw (is, why.1) (IsNoImage.misread bytes why.0 read why.2 why.3)
 
--- What follows of what is due
+-- Consequences of the result that is due
 
 module _ {name : List ℕ} {r : Request} where
   -- the status of a file that stands for no image
@@ -64,13 +64,13 @@ runs_or_none known runs (IsNoImage.misread other fault again text wrong) = fault
 runs_or_none known runs (IsNoImage.not_read note why) = no_unread known why
 
 module _ {name : List ℕ} {limits : RunLimits} {r : Request} {bytes : List ℕ} (known : FileIsKnown (shelf_of r) name bytes) where
-  -- where it stands for an image
+  -- the case that it stands for an image
   executed_so : {image : ImageParts} → IsRunnable image bytes → {status : ℕ} {output note left : List ℕ}
       → DueToExec name limits r status output note left → (status ≡ 7) ⊎ (status ≡ status_of (run_of limits image r.input))
   executed_so runs (DueToExec.ran found status output note left is row) = run_so (one_runnable _ _ _ (rw (same known is.read) at is.runs) runs) row
   executed_so runs (DueToExec.refused _ _ why) = absurd (runs_or_none known runs why)
 
-  -- where it stands for none
+  -- the case that it stands for none
   unfit_so : ((image : ImageParts) → IsRunnable image bytes → ⊥) → {status : ℕ} {output note left : List ℕ}
       → DueToExec name limits r status output note left → status ≡ 12
   unfit_so none (DueToExec.ran found status output note left is row) = absurd (none found (rw (same known is.read) at is.runs))
@@ -78,7 +78,7 @@ module _ {name : List ℕ} {limits : RunLimits} {r : Request} {bytes : List ℕ}
   unfit_so none (DueToExec.refused _ _ (IsNoImage.misread other fault again text wrong)) = refl
   unfit_so none (DueToExec.refused _ _ (IsNoImage.not_read note why)) = absurd (no_unread known why)
 
-  -- where it is a text with a fault
+  -- the case that it is a text with a fault
   misread_so : {fault : AsmFault} → is_text_file bytes ≡ true → IsTextFault bytes fault → {status : ℕ} {output note left : List ℕ}
       → DueToExec name limits r status output note left → (status ≡ 12) × (note ≡ asm_note name fault)
   misread_so text wrong (DueToExec.ran found status output note left is row) =
@@ -88,7 +88,7 @@ module _ {name : List ℕ} {limits : RunLimits} {r : Request} {bytes : List ℕ}
       (refl, ap (asm_note name) (one_text_fault bytes found _ (rw (same known again) at wrong') wrong))
   misread_so text wrong (DueToExec.refused _ _ (IsNoImage.not_read note why)) = absurd (no_unread known why)
 
--- what is put for the image that a file stands for
+-- the puts for the image that a file stands for
 abbrev IsPrinted : List ℕ → RunLimits → Call → ℕ → Type 0
 IsPrinted name limits c status = (bytes : List ℕ) (image : ImageParts) → FileIsKnown (shelf_of c.request) name bytes → IsRunnable image bytes
     → PutAsDue (puts_of_run limits image c.request.input) c.out status

@@ -1,4 +1,4 @@
--- How a call of `run` ends.
+-- The end of a call of `run`.
 use Rattle.std.proofs.Common.{List, arith, inl, inr, refl, subst, ℕ, ◌≡◌, ◌≢◌, ◌⊎◌}
 use Rattle.cool_classes.specs.Chains.{Class}
 use Rattle.cool_emit.specs.Programs.{program_lines}
@@ -15,13 +15,13 @@ use Rattle.cool_driver.proofs.SourcesOfCalls.{IsVerdictOn, no_refusal, same_prog
 use Rattle.lists.specs.Bytes.{AreBytes}
 
 module _ {asked : RunAsked} {r : Request} where
-  -- what is due comes of a verdict on the files
+  -- the result that is due depends on the verdict on the files
   verdict_of : {status : ℕ} {output note left : List ℕ} → DueToRunning asked r status output note left
       → IsVerdictOn (shelf_of r) asked.names status note
   verdict_of (DueToRunning.ran image status output note left for row) = inl (for.p, for.is, run_status row)
   verdict_of (DueToRunning.refused status note why) = inr why
 
-  -- where the files were read and are accepted
+  -- the case that the files were read and are accepted
   module _ {contents : List (List ℕ)} {p : List Class} (known : AreKnown (shelf_of r) MOST_SOURCE_BYTES asked.names contents)
       (is : IsAccepted contents p) where
     -- the image that runs is one for their program
@@ -34,7 +34,7 @@ module _ {asked : RunAsked} {r : Request} where
     compiled_so (DueToRunning.ran image status output note left for row) = run_so (image_for for).image_is row
     compiled_so (DueToRunning.refused status note why) = absurd (no_refusal known is why)
 
--- what is put for the program that files are
+-- the puts for the program of the files
 abbrev IsPrinted : RunAsked → Call → ℕ → Type 0
 IsPrinted asked c status = (contents : List (List ℕ)) (p : List Class) → AreKnown (shelf_of c.request) MOST_SOURCE_BYTES asked.names contents → IsAccepted contents p
     → PutAsDue (puts_of_run asked.limits (image_of (program_lines (compiled_program asked.fold p) asked.names)) c.request.input) c.out status
@@ -48,7 +48,7 @@ module _ {asked : RunAsked} {c : Call} where
   module _ {contents : List (List ℕ)} {p q : List Class} (known : AreKnown (shelf_of c.request) MOST_SOURCE_BYTES asked.names contents)
       (is : IsAccepted contents p)
       (meant : (image : ImageParts) → IsImageFor asked.fold p asked.names image → Means image q asked.names) (are : AreBytes c.request.input) where
-    -- what is due was written, or all of it but the note
+    -- the result that is due was written, or all of it except the note
     due_so : {status : ℕ} {output note left : List ℕ} → DueToRunning asked c.request status output note left → c.left ≡ left
         → Got c.out output → Headline c status asked.limits asked.names q × Headline c 8 asked.limits asked.names q
     due_so (DueToRunning.ran image status output note left for row) same got =
@@ -68,7 +68,7 @@ module _ {asked : RunAsked} {c : Call} where
     headline (Comes.unnoted status output note row out part) other = (due_so row refl out).1
     headline (Comes.short nothing) other = absurd (other refl)
 
-  -- want of memory comes before anything was done
+  -- with status 9, out of memory, nothing was done
   not_run : {status : ℕ} → Comes (DueToRunning asked c.request) (PiecesOfRunning asked c.request) c status → status ≡ 9 → DidNothing c
   not_run (Comes.written status output note row out notes) e = let one = (verdict_status {r = c.request} (verdict_of row)).0 in absurd (grind arith)
   not_run (Comes.short nothing) e = nothing

@@ -1,4 +1,4 @@
--- How a call of `session` ends: what is due comes of the session that its input is, and its input is one session alone.
+-- The end of a call of `session`: its result is that of the session that its input is, and its input is only one session.
 use Rattle.std.proofs.Common.{Err, List, Ok, Result, [], ap, arith, inl, inr, refl, sym, ℕ, ◌≡◌, ◌⊎◌}
 use Rattle.cool_ports.specs.Counts.{Rose}
 use Rattle.cool_session.proofs.OneExchange.{one_exchange}
@@ -13,7 +13,7 @@ ending_status : (end : Ending) → (status_of_ending end ≡ 0) ⊎ (status_of_e
 ending_status Ending.Over = inl refl
 ending_status _ = inr refl
 
--- what is due was written, and it is what the one session gives that the input is
+-- the result that is due was written, and it is that of the one session that the input is
 session_ended : {c : Call} {status : ℕ} {output note : List ℕ} → c.request.faults_after ≡ c.request.faults_before
     → DueToSession c.request.input status output note c.left → Got c.out output → Got c.notes note → SessionEnds c status
 session_ended calm (DueToSession.to_end replies end left whole) out notes = record {
@@ -92,7 +92,7 @@ module _ {c : Call} {result : Result Ending Interruption} (calm : c.request.faul
   noted_end end answered is twelve (inr (short, notes)) =
       rw short (let count = rw is at counted in session_short_goes calm (inr (end, twelve, rw is at went)) notes count)
 
--- of the statuses one is that of a read that failed
+-- only one status is that of a read that failed
 pub read_fault_of_seven : (status : Status) → code_of status ≡ 7 → status ≡ Status.ReadFault
 read_fault_of_seven Status.ReadFault e = refl
 read_fault_of_seven _ e = absurd (omega (arith, e))

@@ -1,4 +1,4 @@
--- What `big` writes: how the large program of a number comes out, compiled and run within the usual limits over no input.
+-- The line of `big`: the outcome of the large program of a number, compiled and run within the usual limits on empty input.
 use Rattle.std.specs.{Prelude.{◌≡◌, ℕ, ◌+◌, ◌<◌, ◌≤◌, List, [], ◌∷◌, ◌++◌, length, codes, decimal, refl, None, false}, Fmt.{digits}}
 use Rattle.cool_big.specs.BigPrograms.{big_text}
 use Rattle.cool_classes.specs.Chains.{Class}
@@ -28,13 +28,13 @@ abbrev pub AccordsWithSource : List Class → Type 0
 AccordsWithSource p =
     Accord (source.run p big_names []) (limits_of usual_limits) (status_of (big_run p)) (state_in (big_run p)).output (state_in (big_run p)).input
 
--- How a run comes out: the number of bytes of its output, and its status. Where they are more than are counted, the status is 8.
+-- The outcome of a run: the number of bytes of its output, and its status. If more bytes are written than are counted, the status is 8.
 pub data RunsTo (o : Outcome) : ℕ → ℕ → Type 0 where
   counted : length (state_in o).output ≤ MOST_BIG_OUTPUT → RunsTo o (length (state_in o).output) (status_of o)
   too_long : MOST_BIG_OUTPUT < length (state_in o).output → RunsTo o MOST_BIG_OUTPUT WRITE_FAULT
 
--- How files of these bytes come out: status 1 without output where they are refused, and else as their program's run does, in accord with
--- the runs of the source.
+-- The outcome of files of these bytes: status 1 without output if they are refused, and else that of their program's run, in accord with the runs of the
+-- source.
 pub data ComesOut (contents : List (List ℕ)) (output status : ℕ) : Type 0 where
   refused : (faults : List Fault) → IsRefused contents faults → output ≡ 0 → status ≡ REFUSED → ComesOut contents output status
   ran : (p : List Class) → IsAccepted contents p → AccordsWithSource p → RunsTo (big_run p) output status → ComesOut contents output status
@@ -55,18 +55,18 @@ line_for_one : summary 1 305 3 40 0 ≡ codes "big 1: 305 source bytes, 3 classe
 unfolding digits
 line_for_one = refl
 
--- What is due to `big` with this number: its line.
+-- The result that is due to `big` with this number: its line.
 pub data DueToBig (n : ℕ) (r : Request) : ℕ → List ℕ → List ℕ → List ℕ → Type 0 where
   summed : (line : List ℕ) → IsBigLine n line → r.faults_after ≡ r.faults_before → DueToBig n r DONE line [] r.input
 
 pub data PiecesOfBig (n : ℕ) (r : Request) : List ℕ → List ℕ → List ℕ → Type 0 where
   of_line : (line : List ℕ) → IsBigLine n line → r.faults_after ≡ r.faults_before → PiecesOfBig n r [] line r.input
 
--- How a call of `big` with this number ends.
+-- The end of a call of `big` with this number.
 pub record BigEnds (n : ℕ) (c : Call) (status : ℕ) : Type 0 where
   pub comes : Comes (DueToBig n c.request) (PiecesOfBig n c.request) c status
   pub summed_exactly : UnlessCutShort status ((status ≡ DONE) × (line : List ℕ) × IsBigLine n line × Got c.out line)
 
--- What `big` does with this number.
+-- The specification of `big` with this number.
 abbrev pub summing : ℕ → Doing
 summing n = record { asked = []; sources = None; takes = false; ends = BigEnds n }

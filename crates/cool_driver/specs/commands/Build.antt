@@ -1,4 +1,4 @@
--- What `asm` and `build` promise: the lines or the image of the program that their files are, which mean it, and else why they are none.
+-- The promise of `asm` and `build`: the lines or the image of the program of their files, which mean it, or else the reason why there is none.
 use Rattle.std.specs.Prelude.{◌≡◌, ℕ, List, [], Some, false}
 use Rattle.cool_syntax.specs.declared.TheConstants.{MOST_SOURCE_BYTES}
 use Rattle.cool_classes.specs.Chains.{Class}
@@ -13,13 +13,13 @@ use Rattle.cool_driver.specs.{Calls.{Request, Call, Got, ShelfUse, shelf_of, Unl
 use Rattle.cool_driver.specs.{Does.{Doing}, Sources.{AreKnown, IsProgram, IsNoProgram, SourcesExactly, unless_too_many}, Statuses.{DONE}, declared.writing.TheConstants.{MOST_PIECE_BYTES}}
 use Rattle.cool_driver.specs.{declared.commands.build.Form.{Form}, declared.commands.build.Form.TheVariants.{Text, Image}}
 
--- what `asm` and `build` write for a program whose files have these names: its lines, and the image of its lines in the version of checked
+-- the bytes that `asm` and `build` write for a program whose files have these names: its lines, and the image of its lines in the version of checked
 -- arithmetic
 abbrev pub built_bytes : Form → List Class → List (List ℕ) → List ℕ
 built_bytes Text p names = printed (program_lines p names)
 built_bytes Image p names = image_bytes CHECKED_VERSION (image_of (program_lines p names))
 
--- What a program is compiled to means it: the image of its lines, for which the text of its lines stands, too.
+-- The compiled code of a program means it: the image of its lines, which is also the image of the text of its lines.
 pub record IsCompiled (p : List Class) (names : List (List ℕ)) : Type 0 where
   pub means : Means (image_of (program_lines p names)) p names
   pub assembled : IsAssembled (image_of (program_lines p names)) (printed (program_lines p names))
@@ -35,10 +35,10 @@ pub data DueToBuild (form : Form) (names : List (List ℕ)) (r : Request) : ℕ 
 pub data PiecesOfBuild (form : Form) (names : List (List ℕ)) (r : Request) : List ℕ → List ℕ → List ℕ → Type 0 where
   of_program : (p : List Class) → IsProgram (shelf_of r) names p → PiecesOfBuild form names r [] (built_bytes form p names) r.input
 
--- How a call of `asm` or `build` with files of these names ends.
+-- The end of a call of `asm` or `build` with files of these names.
 pub record BuildEnds (form : Form) (names : List (List ℕ)) (c : Call) (status : ℕ) : Type 0 where
   pub comes : Comes (DueToBuild form names c.request) (PiecesOfBuild form names c.request) c status
-  -- where the files were read and are accepted, status 0 comes, and the lines or the image
+  -- if the files were read and are accepted, the status is 0, and the lines or the image are written
   pub built_exactly : (contents : List (List ℕ)) (p : List Class) → AreKnown (shelf_of c.request) MOST_SOURCE_BYTES names contents
       → IsAccepted contents p
       → UnlessCutShort status ((status ≡ DONE) × Got c.out (built_bytes form p names))
@@ -51,6 +51,6 @@ pub record BuildEnds (form : Form) (names : List (List ℕ)) (c : Call) (status 
       → IsAccepted contents p → UnlessCutShort status (IsCompiled p names)
   pub sources : SourcesExactly names c status
 
--- What `asm` and `build` do with files of these names.
+-- The specification of `asm` and `build` with files of these names.
 abbrev pub building : Form → List (List ℕ) → Doing
 building form names = record { asked = unless_too_many names names; sources = Some names; takes = false; ends = BuildEnds form names }

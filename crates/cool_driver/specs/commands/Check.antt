@@ -1,4 +1,4 @@
--- What `check` promises: no note and status 0 where its files are a program, and else why they are none.
+-- The promise of `check`: no note and status 0 if its files are a program, or else the reason why they are none.
 use Rattle.std.specs.Prelude.{◌≡◌, ◌≢◌, ℕ, List, [], Some, false}
 use Rattle.cool_syntax.specs.declared.TheConstants.{MOST_SOURCE_BYTES}
 use Rattle.cool_classes.specs.Chains.{Class}
@@ -10,15 +10,15 @@ pub data DueToCheck (names : List (List ℕ)) (r : Request) : ℕ → List ℕ �
   accepted : (p : List Class) → IsProgram (shelf_of r) names p → DueToCheck names r DONE [] [] r.input
   refused : (status : ℕ) (note : List ℕ) → IsNoProgram (shelf_of r) names status note → DueToCheck names r status [] note r.input
 
--- How a call of `check` with files of these names ends.
+-- The end of a call of `check` with files of these names.
 pub record CheckEnds (names : List (List ℕ)) (c : Call) (status : ℕ) : Type 0 where
   pub comes : Comes (DueToCheck names c.request) NoPieces c status
-  -- where the files were read, status 0 comes where their fault list is empty, and status 1 where it is not
+  -- if the files were read, the status is 0 if their fault list is empty, and 1 if it is not
   pub checked_exactly : (contents : List (List ℕ)) (faults : List Fault) → AreKnown (shelf_of c.request) MOST_SOURCE_BYTES names contents
       → IsFaultList contents faults
       → UnlessCutShort status ((faults ≡ [] → status ≡ DONE) × (faults ≢ [] → status ≡ REFUSED))
   pub sources : SourcesExactly names c status
 
--- What `check` does with files of these names.
+-- The specification of `check` with files of these names.
 abbrev pub checking : List (List ℕ) → Doing
 checking names = record { asked = unless_too_many names names; sources = Some names; takes = false; ends = CheckEnds names }

@@ -1,5 +1,5 @@
--- What `debug` promises: the run of the image for the program that its files are, within the limits, with the notes that its script asks for, and
--- else why there is none.
+-- The promise of `debug`: the run of the image for the program of its files, within the limits, with the notes that its script requests, or else the reason
+-- why there is none.
 use Rattle.std.specs.Prelude.{◌≡◌, ◌≢◌, ℕ, ◌<◌, ◌≤◌, ◌⊎◌, List, [], ◌∷◌, ◌++◌, length, Some, None, Ok, Err, true}
 use Rattle.cool_syntax.specs.declared.TheConstants.{MOST_FILES, MOST_SOURCE_BYTES}
 use Rattle.cool_classes.specs.Chains.{Class}
@@ -42,7 +42,7 @@ pub data ScriptIsUnread (shelf : ShelfUse) (script : List ℕ) : List ℕ → Ty
 abbrev pub IsDueUnscripted : ShelfUse → List ℕ → ℕ → List ℕ → Type 0
 IsDueUnscripted shelf script status note = (status ≡ FILE_FAULT) × ScriptIsUnread shelf script note
 
--- what is due for a program whose files have these names, where the script of this name and these bytes has a fault
+-- the result that is due for a program whose files have these names, if the script of this name and these bytes has a fault
 abbrev pub IsDueToScript : List ℕ → List ℕ → List (List ℕ) → List Class → ℕ → List ℕ → Type 0
 IsDueToScript script bytes names p status note =
     (fault : ScriptFault) × (commands_for p names bytes ≡ Err fault) × (status ≡ UNFIT) × (note ≡ script_note script fault)
@@ -72,7 +72,7 @@ pub record IsDebuggee (script : List ℕ) (names : List (List ℕ)) (shelf : She
   pub image_is : image ≡ image_of (program_lines p names)
   pub means : Means image p names
 
--- what is due where nothing is debugged: no output, and no input is taken
+-- the result that is due if nothing is debugged: no output, and no input is taken
 pub data DueToUndebugged (script : List ℕ) (names : List (List ℕ)) (r : Request) : ℕ → List ℕ → List ℕ → List ℕ → Type 0 where
   undebugged : (status : ℕ) (note : List ℕ) → IsNoDebuggee script names (shelf_of r) status note
       → DueToUndebugged script names r status [] note r.input
@@ -98,9 +98,9 @@ pub data Finished (limits : RunLimits) (image : ImageParts) (commands : List Deb
   unread_debugged : (notes : List ℕ) → Stopped limits image commands c (end.Halt halt.ReadFault) (with_notes c.notes notes)
       → Finished limits image commands c READ_FAULT notes read_fault_note
 
--- How a call goes that debugs an image, by the status.
+-- The end of a call that debugs an image, by the status.
 pub data Debugs (limits : RunLimits) (image : ImageParts) (commands : List DebugCommand) (c : Call) : ℕ → Type 0 where
-  -- what is due was written, and nothing else
+  -- the result that is due was written, and nothing else
   written : (status : ℕ) (notes note : List ℕ) → Finished limits image commands c status notes note → Got c.notes (notes ++ note)
       → Debugs limits image commands c status
   -- status 8: the write of the note of the end failed: all notes before it came, and of it a prefix
@@ -116,14 +116,14 @@ pub data Debugs (limits : RunLimits) (image : ImageParts) (commands : List Debug
   -- status 9: it ran out in a command, and as much came as where its note fails, or before the first command
   cut_short : Stopped limits image commands c end.Memory c.notes → Debugs limits image commands c OUT_OF_MEMORY
 
--- How a call of `debug` goes: nothing is debugged, or an image for the program and the script.
+-- The end of a call of `debug`: nothing is debugged, or an image for the program and the script.
 pub data DebugComes (script : List ℕ) (names : List (List ℕ)) (limits : RunLimits) (c : Call) (status : ℕ) : Type 0 where
   refused : Comes (DueToUndebugged script names c.request) NoPieces c status → DebugComes script names limits c status
   debugs : (image : ImageParts) (commands : List DebugCommand) → IsDebuggee script names (shelf_of c.request) image commands → IsBounded limits
       → Debugs limits image commands c status → DebugComes script names limits c status
 
--- How a call of `debug` for a program stops short: a note of a command failed, status 8, or memory ran out, status 9, after some instructions of the
--- run of an image that means the program.
+-- A call of `debug` for a program stops short: a note of a command failed, status 8, or memory ran out, status 9, after some instructions of the run of an
+-- image that means the program.
 pub record StopsShort (c : Call) (status : ℕ) (limits : RunLimits) (names : List (List ℕ)) (p : List Class) (commands : List DebugCommand) : Type 0 where
   pub image : ImageParts
   pub means : Means image p names
@@ -131,21 +131,21 @@ pub record StopsShort (c : Call) (status : ℕ) (limits : RunLimits) (names : Li
       ⊎ ((status ≡ OUT_OF_MEMORY) × Stopped limits image commands c end.Memory c.notes)
   pub part : IsPartOfSource c limits names p
 
--- How a call of `debug` with a script and files of these names, within limits, ends.
+-- The end of a call of `debug` with a script and files of these names, within limits.
 pub record DebugEnds (script : List ℕ) (names : List (List ℕ)) (limits : RunLimits) (c : Call) (status : ℕ) : Type 0 where
   pub comes : DebugComes script names limits c status
-  -- where the files were read and are accepted, and the script was read and has no fault, it goes as the run of the image of the program under
-  -- the debugger, whatever the status
+  -- if the files were read and are accepted, and the script was read and has no fault, it goes as the run of the image of the program under the debugger,
+  -- whatever the status
   pub debugged_exactly : (contents : List (List ℕ)) (p : List Class) (bytes : List ℕ) (commands : List DebugCommand)
       → AreKnown (shelf_of c.request) MOST_SOURCE_BYTES names contents → IsAccepted contents p
       → ScriptIsKnown (shelf_of c.request) script bytes contents → commands_for p names bytes ≡ Ok commands
       → Debugs limits (image_of (program_lines p names)) commands c status
-  -- where it has a fault, status 12 comes, and the note tells that
+  -- if it has a fault, the status is 12, and the note tells that
   pub misscripted_exactly : (contents : List (List ℕ)) (p : List Class) (bytes : List ℕ) (fault : ScriptFault)
       → AreKnown (shelf_of c.request) MOST_SOURCE_BYTES names contents → IsAccepted contents p
       → ScriptIsKnown (shelf_of c.request) script bytes contents → commands_for p names bytes ≡ Err fault
       → UnlessCutShort status ((status ≡ UNFIT) × Got c.notes (script_note script fault))
-  -- where it has none, it goes as `run`, unless it stops short, or memory ran out before anything was written or taken
+  -- if it has none, it goes as `run`, unless it stops short, or memory ran out before anything was written or taken
   pub debugged_headline : (contents : List (List ℕ)) (p : List Class) (bytes : List ℕ) (commands : List DebugCommand)
       → AreKnown (shelf_of c.request) MOST_SOURCE_BYTES names contents → IsAccepted contents p
       → ScriptIsKnown (shelf_of c.request) script bytes contents → commands_for p names bytes ≡ Ok commands → AreBytes c.request.input
@@ -161,6 +161,6 @@ pub record DebugEnds (script : List ℕ) (names : List (List ℕ)) (limits : Run
       → AreKnown (shelf_of c.request) MOST_SOURCE_BYTES names contents → ScriptIsKnown (shelf_of c.request) script bytes contents
       → IsFaultList contents faults → faults ≢ [] → UnlessCutShort status ((status ≡ REFUSED) × Got c.notes (refused_note names faults))
 
--- What `debug` does with a script and files of these names, within limits.
+-- The specification of `debug` with a script and files of these names, within limits.
 abbrev pub debugging : (script : List ℕ) → (names : List (List ℕ)) → RunLimits → Doing
 debugging script names limits = record { asked = unless_too_many names (script ∷ names); sources = Some names; takes = true; ends = DebugEnds script names limits }

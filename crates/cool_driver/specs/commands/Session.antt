@@ -1,5 +1,5 @@
--- What `session` promises: it reads commands from the input and puts their replies to the output, as a session over the input does, and ends
--- with the status and the note of its end.
+-- The promise of `session`: it reads commands from the input and puts their replies to the output, as a session over the input does, and ends with the
+-- status and the note of its end.
 use Rattle.std.specs.{Prelude.{◌≡◌, ◌⊎◌, ℕ, List, [], Result, Ok, Err, None, true}, List.{concat}}
 use Rattle.cool_session.specs.{declared.ending.Ending.{Ending}, declared.ending.Ending.TheVariants.{Over, BadCommand, EndsInFile, TooLarge}}
 use Rattle.cool_session.specs.{declared.ending.Interruption.{Interruption}, declared.ending.Interruption.TheVariants.{Memory}, Conversations.{Conversed}}
@@ -13,7 +13,7 @@ status_of_ending (BadCommand number) = UNFIT
 status_of_ending (EndsInFile number) = UNFIT
 status_of_ending (TooLarge number) = UNFIT
 
--- What is due for a session over an input: the status, the output, the note, and what is left of the input.
+-- The result that is due for a session over an input: the status, the output, the note, and the rest of the input.
 pub data DueToSession (input : List ℕ) : ℕ → List ℕ → List ℕ → List ℕ → Type 0 where
   -- it is whole: the replies of its commands, in order
   to_end : (replies : List (List ℕ)) (end : Ending) (left : List ℕ) → Exchange input replies end left
@@ -22,7 +22,7 @@ pub data DueToSession (input : List ℕ) : ℕ → List ℕ → List ℕ → Lis
   -- ended the session
   to_read : (replies : List (List ℕ)) (left : List ℕ) → Unread input replies left → DueToSession input READ_FAULT (concat replies) read_fault_note left
 
--- how the session of a call went, or whether a device that failed or want of memory cut it short
+-- the result of the session of a call, or the reason that cut it short: a failed device, or lack of memory
 abbrev pub SessionWent : Call → Result Ending Interruption → Type 0
 SessionWent c how = Conversed c.request.input how c.left c.out.held_before c.out.held_after
 
@@ -38,7 +38,7 @@ abbrev pub EndsAsSession : Call → ℕ → List (List ℕ) → Ending → List 
 EndsAsSession c status replies end left =
     (status ≡ status_of_ending end) × Got c.out (concat replies) × Got c.notes (ending_note end) × (c.left ≡ left)
 
--- How what is due to a session comes, by the status.
+-- The writing of the result that is due to a session, by the status.
 pub data SessionComes (c : Call) : ℕ → Type 0 where
   -- status 0 or 12: the session over the input is whole. The replies of its commands were put, in order, and nothing else; the note is that of
   -- its end, and what it leaves is left.
@@ -58,9 +58,9 @@ pub data SessionComes (c : Call) : ℕ → Type 0 where
   -- status 9: memory ran out. The replies of the commands that were done were put, and perhaps a prefix of that of one more.
   short : SessionShort c → SessionComes c OUT_OF_MEMORY
 
--- How a call of `session` ends.
+-- The end of a call of `session`.
 pub record SessionEnds (c : Call) (status : ℕ) : Type 0 where
-  -- the shelf is left alone
+  -- the shelf is not used
   pub calm : c.request.faults_after ≡ c.request.faults_before
   -- it goes as the session over its input, whatever the status
   pub session_ends : SessionComes c status
@@ -69,6 +69,6 @@ pub record SessionEnds (c : Call) (status : ℕ) : Type 0 where
   pub session_exactly : (replies : List (List ℕ)) (end : Ending) (left : List ℕ) → Exchange c.request.input replies end left
       → UnlessCutShort status ((status ≡ READ_FAULT) ⊎ EndsAsSession c status replies end left)
 
--- What `session` does.
+-- The specification of `session`.
 abbrev pub conversing : Doing
 conversing = record { asked = []; sources = None; takes = true; ends = SessionEnds }

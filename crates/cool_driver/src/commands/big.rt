@@ -29,7 +29,7 @@ use mips_isa::Image;
 use spim_machine::{Halt, Machine};
 use std::alloc::{AllocError, Global};
 
-/// How a program came out.
+/// The outcome of a program.
 #[derive(Clone, Copy)]
 struct Outcome {
     /// The bytes of its output, at most `MOST_BIG_OUTPUT`.
@@ -50,8 +50,8 @@ pub fn sum_up<O: Sink>(alloc: Global, n: u32, out: &mut O) -> Status
     }
 }
 
-/// The line about the large program of n: its bytes and classes, and those of its output and the status with which it ends when it is
-/// compiled and run within the usual limits over no input. `Err` comes only for want of memory.
+/// The line about the large program of n: its bytes and classes, and those of its output and the status with which it ends when it is compiled and run
+/// within the usual limits over no input. Returns `Err` only if memory runs out.
 fn big_line(alloc: Global, n: u32) -> Result<String, AllocError>
     requires { IsWithin 1 300 n }
     ensures { IfOk result (λ line. IsBigLine n (string_bytes line)) }
@@ -66,7 +66,7 @@ fn big_line(alloc: Global, n: u32) -> Result<String, AllocError>
     )
 }
 
-/// How files of these bytes come out. `Err` comes only for want of memory.
+/// The outcome of files of these bytes. Returns `Err` only if memory runs out.
 fn run_files(alloc: Global, files: &[Vec<u8>]) -> Result<Outcome, AllocError>
     requires one { length files.now ≡ 1 }
     requires bytes { AllByRecursion AreBytes (texts files.now) }
@@ -85,7 +85,7 @@ fn run_files(alloc: Global, files: &[Vec<u8>]) -> Result<Outcome, AllocError>
     }
 }
 
-/// How an image comes out. `Err` comes only for want of memory.
+/// The outcome of an image. Returns `Err` only if memory runs out.
 fn run_to_end(alloc: Global, image: &Image) -> Result<Outcome, AllocError>
     ensures { IfOk result (λ outcome. RunsTo (run_of usual_limits image.now []) outcome.output (code_of outcome.status)) }
 {

@@ -76,7 +76,7 @@ fn make_bytes<F: Shelf>(
     }
 }
 
-/// The bytes of a program whose files have these names, in a form. `Err` comes only for want of memory.
+/// The bytes of a program whose files have these names, in a form. Returns `Err` only if memory runs out.
 fn write_program(
     alloc: Global,
     form: Form,

@@ -37,7 +37,7 @@ use mips_isa::{AsmError, Image, Line};
 use spim_debug::{DebugCommand, DebugEnd, MOST_SCRIPT_BYTES, ScriptError, debug, read_script};
 use std::alloc::{AllocError, Global};
 
-/// What is debugged: the image of a program, and what the script says.
+/// The image of the debugged program, and the commands of the script.
 #[derive(Drop)]
 struct Scripted {
     image: Image,
@@ -180,7 +180,7 @@ fn script_program(
     }
 }
 
-/// The image of lines that have no fault. `Err` comes only for want of memory.
+/// The image of lines that have no fault. Returns `Err` only if memory runs out.
 fn assemble_lines(alloc: Global, lines: &[Line]) -> Result<Image, AllocError>
     requires few { length lines.now < 4294967292 }
     requires ranges { AreInRange (lines_of lines.now) }

@@ -73,7 +73,7 @@ fn compile_files<F: Shelf>(
     }
 }
 
-/// The program that is compiled: with `fold` the folded one. `Err` comes only for want of memory.
+/// The program that is compiled: with `fold` the folded one. Returns `Err` only if memory runs out.
 fn compiled_program(
     alloc: Global,
     fold: bool,

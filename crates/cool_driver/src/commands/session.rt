@@ -16,13 +16,13 @@ use cool_ports::{Sink, Source};
 use cool_session::{Ending, Interruption, converse};
 use std::alloc::{AllocError, Global};
 
-/// Of a command in no form.
+/// The note for a command of no valid form.
 const BAD_COMMAND: &str = "B3: bad command";
 
-/// Of an input that ends before all bytes of a file.
+/// The note for an input that ends before all bytes of a file.
 const ENDS_IN_FILE: &str = "B4: input ends in a file";
 
-/// Of a file for which a session has no room.
+/// The note for a file for which a session has no room.
 const TOO_LARGE: &str = "B5: session too large";
 
 /// Does what the commands in the input say, and writes why it ended.

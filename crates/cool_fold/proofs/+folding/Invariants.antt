@@ -1,4 +1,4 @@
--- Parts have smaller numbers. Of the parts some are folded, and the others are left.
+-- Parts have smaller numbers. Some of the parts are folded, and the others are left.
 use Rattle.std.proofs.Common.{◌+◌, ◌*◌, ◌<◌, ◌≤◌, List, length, drop}
 use Rattle.std.specs.List.{AllByRecursion}
 use Rattle.cool_syntax.specs.Tree.{trees_size, cases_size}

@@ -19,7 +19,7 @@ use Rattle.lists.specs.Different.{AreDifferent}
 use Rattle.cool_layout.proofs.AttributePlaces.{same_attribute}
 use Rattle.cool_simulation.proofs.forms.Invoking.{each_length}
 
--- Where names differ, an attribute's place is the number of those before it
+-- If names differ, an attribute's position is the number of attributes before it
 
 one_name : (p : List Class) (a x : AttributeRef) → is_attribute a x ≡ true → attribute_name p x ≡ attribute_name p a
 one_name p a x e =

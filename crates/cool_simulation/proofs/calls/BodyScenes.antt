@@ -52,7 +52,7 @@ both_long : {X : Type 0} (xs ys : List X) → length xs ≤ length (xs ++ ys)
 both_long [] ys = omega arith
 both_long (x ∷ xs) ys = let h = both_long xs ys in omega arith
 
--- what an object of a class that may be inherited has
+-- properties of an object of a class that may be inherited
 pub record IsOwn (p : List Class) (world : World) (m : Bytes) (map : Map) (made : fitting.World) (self : Value) (k : ClassId) (a : ℕ) : Type 0 where
   pub made_for : AreMade made (locations_of self) (attribute_classes p k (attributes p k))
   pub homes : (j : ℕ) → j < length (locations_of self) → map.home (get_or (locations_of self) j 0) ≡ a + 12 + 4 * j

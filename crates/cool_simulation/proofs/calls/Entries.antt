@@ -112,7 +112,7 @@ module _ (l : Loading) (k : ClassId) (self : Value) (vs : List Value) (made : fi
       let numbers = called.at.numbers in
       mark_out l.table l.world l.memory m (with_frame m q) map st q.gp q.sp vs called.pictures entry i (below_it q.sp (q.sp + 4 * length vs) (4 * i) (omega arith)) ∙ called.pictures.unmarked_room i (omega arith) (omega arith)
 
-  -- what the entry changes, seen from above the arguments
+  -- the changes of the entry, seen from above the arguments
   entry_grown : Grown map (entry_map map st vs q) st.drawn (length st.store) q.gp (q.sp + 4 * length vs)
   entry_grown =
       let laid = l.world.laid in
@@ -132,7 +132,7 @@ module _ (l : Loading) (k : ClassId) (self : Value) (vs : List Value) (made : fi
       let numbers = called.at.numbers in
       record { below = λ a less. frame_below m q a (omega arith); over = λ a more. frame_over m q a (omega arith) more }
 
-  -- Behind the body and the return.
+  -- The state after the body and the return.
   pub returned : (words pc : ℕ) (v : Value) (t : State) (u u' : Machine) → (done : Done l (record (entry_of q) { pc = pc }) (with_frame m q) (entry_map map st vs q) (located_in st vs) words v t u)
       → At l.world (record q { pc = q.ra; gp = done.gp; sp = q.sp + 4 * length vs; acc = done.acc }) done.memory done.console u'
       → Done l (record q { pc = q.ra; sp = q.sp + 4 * length vs }) m map st words v t u'

@@ -14,7 +14,7 @@ use Rattle.cool_simulation.proofs.ground.ObjectsStay.{object_remapped}
 use Rattle.lists.proofs.ItemsAt.{after_get, there_is}
 use Rattle.std.proofs.lemmas.List.{length-append}
 
--- where location number located + j is at home, the argument number j of so many: the last one is lowest
+-- the home of location number located + j, argument number j of so many: the last one is lowest
 abbrev pub argument_home : ℕ → ℕ → ℕ → ℕ → ℕ
 argument_home located count sp l = sp + 4 * (count - (l - located + 1))
 
@@ -38,7 +38,7 @@ got_back [] ys l j x n e = let same : j ≡ l = omega arith in subst (λ i. slic
 got_back (z ∷ xs) ys zero j x n e = absurd (omega arith)
 got_back (z ∷ xs) ys (suc l) j x n e = got_back xs ys l j x (omega arith) e
 
--- What is known at the entry: the arguments picture values and are no homes, and the memory changes within the frame's three words alone.
+-- Facts at the entry: the arguments picture values and are no homes, and the memory changes only within the frame's three words.
 pub record AtEntry (w : World) (m m' : Bytes) (map : Map) (drawn gp sp : ℕ) (vs : List Value) : Type 0 where
   pub from : HEAP_START ≤ gp
   pub room : gp + 12 ≤ sp

@@ -45,7 +45,7 @@ use Rattle.cool_codegen.specs.Code.{code}
 use Rattle.std.proofs.lemmas.List.Elements.{Contains-append_left, Contains-append_right}
 use Rattle.cool_simulation.proofs.ground.CodeOfParts.{in_rest}
 
--- what is in a list is in its image
+-- the image of a list contains the image of each item
 pub in_image : {X Y : Type 0} (f : X → Y) (xs : List X) (x : X) → Contains xs x → Contains (each f xs) (f x)
 in_image f [] x (k, less, e) = absurd (omega arith)
 in_image f (y ∷ xs) x (zero, less, e) = (0, omega arith, ap f e)
@@ -67,7 +67,7 @@ module _ (l : Loading) (loaded : IsLoaded l) (calls : Calls) (begun_in : Call �
   abbrev pub AreFree : ℕ → ℕ → List Feature → Type 0
   AreFree pc j fs = AreStoresFree (marks l.watch) l.table l.files (constants l) c pc (attributes_from j fs)
 
-  -- what these features' initial values do, from any machine inside the frame
+  -- the run of these features' initial values, from any machine inside the frame
   abbrev pub PartsRun : ℕ → List Feature → List AttributeRef → List AttributeRef → List ℕ → Type 0
   PartsRun j fs front more ls =
       (made : fitting.World) (q : Pointers) (m : Bytes) (map : Map) (console : Console) (st : State) (s : Machine) (n : ℕ) → n ≤ b → Inside l k self made q m map console st s

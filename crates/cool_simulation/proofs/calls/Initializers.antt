@@ -78,7 +78,7 @@ few_drop zero ls i less = let h : i < length ls = less in omega arith
 few_drop (suc n) [] i less = absurd (omega arith)
 few_drop (suc n) (l ∷ ls) i less = let h = few_drop n ls i less in omega arith
 
--- what the attributes in front begin, and behind these the others, all of them begin
+-- visits of the attributes in front, and of the others after these, are visits of all of them
 begun_front : (p : List Class) (calls : Calls) (begun_in : Call → Visits) (self : Value) (rs rs' : List AttributeRef) (ls : List ℕ) (st : State) (n : ℕ) (x : Visit) → initials_begun p calls begun_in self rs ls st n x
     → initials_begun p calls begun_in self (rs ++ rs') ls st n x
 begun_front p calls begun_in self [] rs' ls st n x h = absurd h
@@ -124,7 +124,7 @@ module _ (l : Loading) (loaded : IsLoaded l) (calls : Calls) (begun_in : Call �
   abbrev high_lines : ClassId → List Line → List Line
   high_lines c above = begin_init_lines (initializer l.table c) ++ (enter_lines ++ (above ++ (own_lines c ++ end_lines)))
 
-  -- what the initializer of a class does
+  -- the run of a class's initializer
   abbrev pub InitializerRuns : ClassId → Type 0
   InitializerRuns c =
       (self : Value) (k : ClassId) (made : fitting.World) (q : Pointers) (m : Bytes) (map : Map) (console : Console) (st : State) (s : Machine) (n : ℕ) → n ≤ b → Below l.table k c → Called l k self [] made q m map console st s
@@ -242,7 +242,7 @@ module _ (l : Loading) (loaded : IsLoaded l) (calls : Calls) (begun_in : Call �
     unfolding call_init_lines
     behind_call = has_back (whole_world l) (jal (initializer l.table parent) ∷ []) (own_lines c ++ end_lines) (q.pc + 36) (q.pc + 36 + 4) refl behind_enter
 
-    -- where the parent's initializer is called
+    -- the pointers at the call of the parent's initializer
     abbrev pub q2 : Pointers
     q2 = record (entry_of q) { pc = l.world.place (initializer l.table parent); ra = q.pc + 36 + 4 }
 
@@ -294,7 +294,7 @@ module _ (l : Loading) (loaded : IsLoaded l) (calls : Calls) (begun_in : Call �
         let (ds, is, (i, less, e)) = below_itself l.table loaded.buildable.typed.whole parent parent_within in
         below_trans l.table k c parent below (c ∷ ds, (refl, subst (λ (o : Option ClassId). IsChain l.table o ds) (sym above) is), (suc i, omega arith, e))
 
-    -- what both parts come to
+    -- the outcome of both parts
     abbrev pub first : Metered Value
     first = run_initials l.table calls self (attributes l.table parent) (locations_of self) st n
 
@@ -357,7 +357,7 @@ module _ (l : Loading) (loaded : IsLoaded l) (calls : Calls) (begun_in : Call �
             subst (λ (y : ℕ). Done l (record q { pc = q.ra; sp = y }) m map st words self t u2) same
             (back inner (record { numbers = let end = at2.numbers in omega arith; memory_is = at2.memory_is; input_is = at2.input_is; ended_is = at2.ended_is; output_is = at2.output_is }))
 
-    -- Behind the parent's initializer the machine stands inside the frame, and the locations of the class's own attributes are at home.
+    -- After the parent's initializer the machine stands inside the frame, and the locations of the class's own attributes are at home.
     pub own_part : (t : State) (left : ℕ) (u : Machine) (v : Value) → first.outcome ≡ Val v t left → (d : Done l (record q2 { pc = q.pc + 36 + 4 }) m1 map1 st first.words self t u)
         → (fine : IsFine {A = Value} l.table made n Any v t left) × Inside l k self fine.world (record q2 { pc = q.pc + 36 + 4; gp = d.gp; acc = d.acc; ra = d.ra }) d.memory d.map' d.console t u
         × ((more : List AttributeRef) × AreMade fine.world rest_locations (attribute_classes l.table k (own_attributes c 0 (features_of l.table c) ++ more)))
@@ -398,7 +398,7 @@ module _ (l : Loading) (loaded : IsLoaded l) (calls : Calls) (begun_in : Call �
           (λ i less. ap d.map'.home (get_or-drop (length (attributes p parent)) (locations_of self) i 0) ∙ own.homes (length (attributes p parent) + i) (few_drop (length (attributes p parent)) (locations_of self) i less) ∙ omega arith),
         )
 
-    -- behind the parent's initializer
+    -- the run after the parent's initializer
     own_runs : (t : State) (left : ℕ) (u : Machine) (v : Value) → first.outcome ≡ Val v t left → (d : Done l (record q2 { pc = q.pc + 36 + 4 }) m1 map1 st first.words self t u) → whole.words ≡ first.words + (run_initials l.table calls self (own_attributes c 0 (features_of l.table c)) rest_locations t left).words
         → Rest l q2 (12 * length (chain l.table parent)) first.words (run_initials l.table calls self (own_attributes c 0 (features_of l.table c)) rest_locations t left)
         → ((x : Visit) → initials_begun l.table calls begun_in self (own_attributes c 0 (features_of l.table c)) rest_locations t left x → Watched l.watch x)
@@ -430,7 +430,7 @@ module _ (l : Loading) (loaded : IsLoaded l) (calls : Calls) (begun_in : Call �
     abbrev Begun : List AttributeRef → Visit → Type 0
     Begun rs x = initials_begun l.table calls begun_in self rs (locations_of self) st n x
 
-    -- what both parts begin
+    -- visits of both parts are visits of all attributes
     begun_all : (x : Visit) → Begun (attributes l.table parent ++ own_attributes c 0 (features_of l.table c)) x → Begun (attributes l.table c) x
     begun_all x h = subst (λ (rs : List AttributeRef). Begun rs x) (sym (attributes_step l.table (rooted l.table loaded.buildable.typed.whole) c parent within above)) h
 

@@ -1,4 +1,4 @@
--- Within the frame of an initializer, between the parts of its code.
+-- States within the frame of an initializer, between the parts of its code.
 use Rattle.std.proofs.Common.{◌≡◌, ◌⊎◌, inl, inr, ℕ, ◌+◌, ◌<◌, ◌≤◌, arith}
 use Rattle.mips_isa.specs.declared.address_map.TheConstants.{STACK_END}
 use Rattle.mips_isa.specs.Bytes.{Bytes}

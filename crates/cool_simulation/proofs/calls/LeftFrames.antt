@@ -12,7 +12,7 @@ use Rattle.cool_simulation.proofs.ground.PicturesStay.{Staying, pic_stays}
 use Rattle.cool_simulation.proofs.ground.ObjectsStay.{object_remapped}
 use Rattle.cool_simulation.proofs.calls.Frames.{argument_home, without_arguments, either}
 
--- What is known at the return: the frame's words from low to sp are no homes, and those from sp on are homes of these locations.
+-- Facts at the return: the frame's words from low to sp are no homes, and those from sp on are homes of these locations.
 pub record AtReturn (map : Map) (t : State) (gp low sp located count : ℕ) : Type 0 where
   pub from : HEAP_START ≤ gp
   pub room : gp ≤ low

@@ -174,7 +174,7 @@ module _ (l : Loading) (loaded : IsLoaded l) (calls : Calls) (begun_in : Call �
         (record { gp = d.gp; acc = d.acc; ra = d.ra; memory = d.memory; map' = d.map'; console = d.console; at = d.at; shows = d.shows; pictures = d.pictures; value = d.value; kept = d.kept; grown = d.grown; drawn = d.drawn; located = d.located; gp_from = d.gp_from; gp_to = let to = d.gp_to in omega arith })
         (record { numbers = let last = at'.numbers in omega arith; memory_is = at'.memory_is; input_is = at'.input_is; ended_is = at'.ended_is; output_is = at'.output_is })))
 
-    -- what its body begins
+    -- the visits of its body
     abbrev pub Begun : Visit → Type 0
     Begun = begun l.table calls begun_in owner i self (located (formal_names def.formals) (numbers (length st.store) (length vs)) ++ environment_of l.table self) 0 def.body (located_in st vs) n
 
@@ -196,12 +196,12 @@ module _ (l : Loading) (loaded : IsLoaded l) (calls : Calls) (begun_in : Call �
         later_of some = after_on st (located_in st vs) comes.outcome (later_same st (located_in st vs) refl refl)
             ((eval_later l.table calls later self (located (formal_names def.formals) (numbers (length st.store) (length vs)) ++ environment_of l.table self) def.body).later (located_in st vs) n)
 
-    -- what the call comes to
+    -- the outcome of the call
     pub called_is : run_method l.table calls self vs (Some def) st n ≡ join 0 0 0 comes
     called_is =
         ap (λ (x : Metered (List ℕ)). seq x (λ xs. eval l.table calls self (located (formal_names def.formals) xs ++ environment_of l.table self) def.body)) (located_all vs st n)
 
-    -- what the call begins
+    -- the visits of the call
     begun_is : (x : Visit) → Begun x → method_begun l.table calls begun_in owner i self vs (Some def) st n x
     begun_is x h = (numbers (length st.store) (length vs), located_in st vs, n, ap (λ (y : Metered (List ℕ)). y.outcome) (located_all vs st n), h)
 

@@ -121,7 +121,7 @@ module _ (l : Loading) (loaded : IsLoaded l) where
   abbrev pub with_pushed : Bytes → Pointers → ℕ → Bytes
   with_pushed m q acc = set_word m (q.sp - 4) acc
 
-  -- what a push leaves
+  -- the state after a push
   pub record IsPushed (q : Pointers) (m : Bytes) (map : Map) (st : State) (gp acc : ℕ) (v : Value) : Type 0 where
     pub same : Same m (with_pushed m q acc) gp q.sp
     pub pictures : Pictures l.table l.world l.memory (with_pushed m q acc) map st gp (q.sp - 4)

@@ -31,7 +31,7 @@ use Rattle.cool_simulation.proofs.ground.FirstParts.{rule_runs}
 use Rattle.cool_simulation.proofs.ground.Passages.{quiet}
 use Rattle.cool_codegen.specs.Spans.{span, spans}
 
--- what an assignment comes to
+-- the outcome of an assignment
 value_stored : (env : Environment) (name : List ℕ) (st : State) (n i : ℕ) (v : Value) → location_of env name ≡ Some i → assign env name v st n ≡ free (Val v (record st { store = slice_set st.store i v }) n)
 value_stored env name st n i v there = ap (λ (o : Option ℕ). (given o >>= λ l. store l v >> give v) st n) there
 

@@ -22,7 +22,7 @@ use Rattle.cool_simulation.proofs.forms.Received.{Received}
 use Rattle.cool_simulation.proofs.forms.RoutinesDone.{RoutineRuns, joined, routine_done, same_memory, passes_as}
 use Rattle.cool_simulation.proofs.ground.WordsOfNumbers.{word_read}
 
--- what is shown once bytes were written
+-- the console after bytes were written
 pub shows_wrote : (st : State) (c : Console) (bytes : List ℕ) → Shows st c → Shows (record st { output = st.output ++ bytes }) (wrote c bytes)
 shows_wrote st c bytes h = record { input = h.input; output = ap (λ (o : List ℕ). o ++ bytes) h.output; ended = h.ended; bytes = h.bytes }
 

@@ -61,7 +61,7 @@ abbrev pub first_among : List ClassId → List Entry → Option Entry
 first_among ds [] = None
 first_among ds (e ∷ es) = if among ds e.class then Some e else first_among ds es
 
--- what a branch does with a value
+-- the effect of a branch on a value
 abbrev pub does : List Class → Calls → Value → Environment → Entry → Branch
 does p calls self env e = λ v. locate v >>= λ l. eval p calls self (record { name = e.name; location = l } ∷ env) e.tree
 
@@ -194,7 +194,7 @@ none_among [] = refl
 none_among (e ∷ es) = none_among es
 
 module _ (p : List Class) (table : IsTable p) where
-  -- what a chain has is as deep as the classes above it are many
+  -- the depth of each class on a chain is less than the length of the chain, and more than that of those above it
   pub chain_deep : (o : Option ClassId) (ds : List ClassId) → IsChain p o ds → AllByRecursion (λ (d : ClassId). d.0 < length p) ds → AllByRecursion (λ (e : ClassId). depth_of p e < length ds) ds × Climbs p ds
   unfolding chain
   chain_deep None [] h within = (tt, tt)

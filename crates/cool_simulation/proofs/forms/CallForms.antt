@@ -91,7 +91,7 @@ module _ (l : Loading) (loaded : IsLoaded l) where
       (text_here l loaded m map st p.gp p.sp from pictures _ _ loaded.colon_text) (text_here l loaded m map st p.gp p.sp from pictures _ _ loaded.dispatch_text))))
 
   module _ (calls : Calls) (begun_in : Call → Visits) (b : ℕ) (later : CallsLater calls) (sound : AllCallsSound l.table calls b) where
-    -- what the call does, from where the machine stands behind the receiver's code
+    -- the run of the call, from the state after the receiver's code
     abbrev pub CallRuns : ClassId → ClassId → Value → List Binding → Environment → Pointers → ℕ → ℕ → Ty → List Ty → (List Value → Value → ClassId → Computation Value) → (List Value → Value → ClassId → Visits) → Type 0
     CallRuns c k self scope env q pc2 pc3 receiver given G begins =
         (args : List Value) (v : Value) (j : ClassId) (made : fitting.World) (gp acc ra : ℕ) (m : Bytes) (map : Map) (console : Console) (st : State) (s : Machine) (n : ℕ)

@@ -62,7 +62,7 @@ pub all_entries : (P : Entry → Type 0) (p : List Class) (before es : List Entr
 all_entries P p before [] h k = h
 all_entries P p before (e ∷ es) h k = all_entries P p (with_entry p before e) es (all_entry P p before e h k.0) k.1
 
--- what holds of all holds of the first one, and its class is among those
+-- a property of all entries holds for the first one, and its class is among those
 pub first_has : (P : Entry → Type 0) (ds : List ClassId) (es : List Entry) (e : Entry) → AllByRecursion P es → first_among ds es ≡ Some e → P e × (among ds e.class ≡ true)
 first_has P ds [] e h is = absurd (cc)
 first_has P ds (a ∷ es) e h is = by (among ds a.class) refl is (λ f. first_has P ds es e h.1 f)
@@ -134,7 +134,7 @@ module _ (s : Context) (g : Constants) (vs : List Named) (d : ℕ) (end : Name) 
   next_placed w pc e has = has.1.0.labels.0
 
   module _ (l : Loading) (whole_table : IsWholeTable s.table) (few : length s.table < 32768) (file : Name) (line : ℕ) (j : ClassId) (j_in : j.0 < length s.table) (m : Bytes) (c : Console) (q : Pointers) (P : Span → Type 0) where
-    -- where the tests lead: to the code of a branch, or behind all
+    -- the target of the tests: the code of a branch, or the code after all
     abbrev pub Found : ℕ → Option Entry → Machine → Type 0
     Found pc None t = AtTag l.world (record q { pc = pc }) m c file line (tag s.table j) t
     Found pc (Some e) t =

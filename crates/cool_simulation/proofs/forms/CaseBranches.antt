@@ -38,7 +38,7 @@ use Rattle.cool_simulation.proofs.ground.Homes.{homed}
 use Rattle.cool_rules.specs.Typing.{with_name}
 use Rattle.cool_rules.specs.Conformance.{class_of as class_meant}
 
--- What a branch comes to stands later
+-- The outcome of a branch has a later state
 
 abbrev pub IsLater : Option Branch → Type 0
 IsLater None = Unit {0}
@@ -77,18 +77,18 @@ module _ (l : Loading) (is : IsLoaded l) (calls : Calls) (begun_in : Call → Vi
     (q : Pointers) (m : Bytes) (map : Map) (st t1 : State) (u : Machine) (words pc1 : ℕ) (v : Value) (j : Done l (record q { pc = pc1 }) m map st words v t1 u)
     (begins : Begins l c k self scope vs env made d (record q { pc = pc1; gp = j.gp; acc = j.acc; ra = j.ra }) j.memory j.map' j.console t1 u)
   where
-    -- behind the value of the case
+    -- the pointers after the value of the case
     abbrev pub behind : Pointers
     behind = record q { pc = pc1; gp = j.gp; acc = j.acc; ra = j.ra }
 
-    -- where the value was pushed
+    -- the pointers after the push of the value
     abbrev pub bound_at : ℕ → Pointers
     bound_at pc = record q { pc = pc; gp = j.gp; acc = j.acc; ra = j.ra; sp = q.sp - 4 }
 
     abbrev pub bound_memory : Bytes
     bound_memory = set_word j.memory (q.sp - 4) j.acc
 
-    -- what the body comes to
+    -- the outcome of the body
     abbrev pub body : Entry → ℕ → Metered Value
     body e n = eval l.table calls self (record { name = e.name; location = length t1.store } ∷ env) e.tree (record t1 { store = t1.store ++ v ∷ [] }) n
 

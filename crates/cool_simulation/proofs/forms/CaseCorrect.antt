@@ -94,7 +94,7 @@ times_more : (a n : ℕ) → 1 ≤ n → a ≤ a * n
 times_more a n some = grind arith
 
 module _ (l : Loading) (loaded : IsLoaded l) (calls : Calls) (begun_in : Call → Visits) (b : ℕ) (sound : AllCallsSound l.table calls b) (later : CallsLater calls) where
-  -- what follows the value of a case
+  -- the computation after the value of a case
   abbrev pub rest_of : Value → Environment → Place → Cases → Value → ClassId → Computation Value
   rest_of self env at cs v c = working (branch_count cs * length (chain l.table c)) (take_branch at c v (nearest l.table (branch_of l.table calls self env cs) (chain l.table c)))
 
@@ -113,7 +113,7 @@ module _ (l : Loading) (loaded : IsLoaded l) (calls : Calls) (begun_in : Call �
     abbrev last : ℕ
     last = pc1 + 28 + 20 + sizes (arms l c f vs d end at ordered) + 8
 
-    -- what is to be shown of what follows the class
+    -- the claim for the computation after the class
     abbrev Goes : Computation ClassId → Type 0
     Goes Y = whole ≡ words + ((Y >>= rest_of self env at cs v) t1 n).words → Rest l q 16 words ((Y >>= rest_of self env at cs v) t1 n)
         → Runs l u n (64 * ((Y >>= rest_of self env at cs v) t1 n).work + 60) (Done l (record q { pc = last }) m map st whole) ((Y >>= rest_of self env at cs v) t1 n).outcome
@@ -129,7 +129,7 @@ module _ (l : Loading) (loaded : IsLoaded l) (calls : Calls) (begun_in : Call �
         (void_pic w j.memory j.map' t1.drawn j.gp j.acc v e j.value)) (omega arith)
         (λ u1 g. void_stops l loaded j.memory j.map' t1 q1 from j.pictures at c f j.console u1 named small j.shows g))
 
-    -- where the branch that evaluation takes is the first one that fits
+    -- the case that the branch that evaluation takes is the first one that fits
     abbrev Takes : ClassId → Option Branch → Type 0
     Takes jc o = whole ≡ words + (0 + (take_branch at jc v o t1 n).words)
         → Rest l q 16 words (join 0 0 0 (working (branch_count cs * length (chain l.table jc)) (take_branch at jc v o) t1 n))

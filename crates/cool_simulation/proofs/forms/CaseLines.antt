@@ -34,7 +34,7 @@ pub record AtTag (w : World) (p : Pointers) (m : Bytes) (c : Console) (file : Na
   pub line_is : s.core.registers 25 ≡ line
   pub tag_is : s.core.registers 9 ≡ tag
 
--- what `sltiu` and `bne` found
+-- the result of `sltiu` and `bne`
 below : (x y z : ℕ) → z ≡ 0 → not (flag (nat_lt x y) == z) ≡ true → x < y
 below x y z h e = grind arith
 
@@ -167,7 +167,7 @@ module _ (w : World) where
         })),
       )
 
-  -- behind the last branch
+  -- the code after the last branch
   pub goes_to_no_branch : (file : Name) (line tag : ℕ) (end : Name) (p : Pointers) (m : Bytes) (c : Console) (s : State) → HasLines w p.pc (case_end_lines end) → AtTag w p m c file line tag s
       → Reaches w s 0 1 (stands (AtTag w (record p { pc = w.place case_abort }) m c file line tag))
   unfolding case_end_lines
@@ -182,7 +182,7 @@ module _ (w : World) where
         tag_is = there.tag_is;
       }))
 
-  -- behind a branch: to the end of the case, where its variable is popped
+  -- the code after a branch: to the end of the case, where its variable is popped
   pub branch_ends : (end next : Name) (pc' : ℕ) (p : Pointers) (m : Bytes) (c : Console) (s : State) → HasLines w p.pc (turn_lines end next) → HasLines w pc' (case_end_lines end) → At w p m c s → p.sp + 4 ≤ 2147483648
       → Reaches w s 0 2 (stands (At w (record p { pc = pc' + 8; sp = p.sp + 4 }) m c))
   unfolding turn_lines case_end_lines

@@ -1,4 +1,4 @@
--- What the branches of a case are known to have: their types, what their code asks for, and that it is correct.
+-- Facts about the branches of a case: their types, the constants that their code uses, and the correctness of the code.
 use Rattle.std.proofs.Common.{◌≡◌, ℕ, ◌+◌, ◌<◌, ◌≤◌, List, [], ◌∷◌, length, ap, sym, ◌∙◌, subst, arith}
 use Rattle.std.specs.List.{AllByRecursion}
 use Rattle.cool_syntax.specs.Tree.{Cases, NoCase, CaseOf, tree_size, cases_size}

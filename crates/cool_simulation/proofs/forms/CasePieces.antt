@@ -1,4 +1,4 @@
--- Where a case stands in the text: behind the code of its value the tests and the ends, without a mark, and between them the branches.
+-- The position of a case in the text: after the code of its value come the tests and the ends, without a mark, and between them the branches.
 use Rattle.std.proofs.Common.{◌≡◌, ℕ, ◌+◌, List, [], ◌++◌, map as each, ap, sym, refl, subst, arith}
 use Rattle.std.specs.Prelude.{Contains, codes}
 use Rattle.std.proofs.lemmas.List.Elements.{Contains-append_right}
@@ -67,7 +67,7 @@ module _ (l : Loading) (c : ClassId) (f : ℕ) (vs : List Named) (d first pc : �
   same_arms : written ≡ in_order
   same_arms = arms_are (context l c f) (constants l) vs d end_of cs (first + tree_size t) []
 
-  -- where the case ends
+  -- the end of the case
   pub case_size : behind_value + 28 + 20 + sizes (arms l c f vs d end_of at sorted) + 8 ≡ pc + sizes (code (context l c f) (constants l) vs d first (trees.Case at t cs))
   case_size =
       let w = l.world in

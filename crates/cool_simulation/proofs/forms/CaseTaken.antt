@@ -65,23 +65,23 @@ module _ (l : Loading) (is : IsLoaded l) (calls : Calls) (begun_in : Call → Vi
     abbrev pub IsTold : Span → Type 0
     IsTold y = Contains (told (context l c f) (constants l) vs d end (pc1 + 28 + 20) es) y
 
-    -- what the branch begins that is taken
+    -- the visits of the branch that is taken
     abbrev pub AllWatched : ℕ → Type 0
     AllWatched n = (e : Entry) → first_among (chain l.table jc) es ≡ Some e → (x : Visit)
         → begun l.table calls begun_in c f self (record { name = e.name; location = length t1.store } ∷ env) e.first e.tree (record t1 { store = t1.store ++ v ∷ [] }) n x → Watched l.watch x
 
-    -- what the value comes to
+    -- the outcome of the value
     abbrev pub taken : Option Entry → ℕ → Metered Value
     taken o n = take_branch at jc v (branch l.table calls self env o) t1 n
 
-    -- where the case ends
+    -- the address at which the case ends
     abbrev pub final : ℕ
     final = pc1 + 28 + 20 + sizes branches + 8
 
     pub few_classes : length l.table < 32768
     few_classes = let few = is.buildable.fits.table.classes in omega arith
 
-    -- what is pictured where the value was pushed
+    -- the state that is pictured after the push of the value
     pushed_pictures : Pictures l.table l.world l.memory (bound_memory l is calls begun_in b c f k self scope vs env made d end q m map st t1 u words pc1 v j begins) j.map' t1 j.gp (q.sp - 4)
     pushed_pictures =
         let laid = l.world.laid in
@@ -126,7 +126,7 @@ module _ (l : Loading) (is : IsLoaded l) (calls : Calls) (begun_in : Call → Vi
         (record { lines = lines; integers = has.0.asks.integers_there; strings = has.0.asks.strings_there; within = has.0.limits; small = has.0.small; spans = λ y h. placed y (inside y h) }) turn ends
         (record { heap = omega arith; stack = omega arith; way = rest.way }) (omega arith) (watched e eq))
 
-    -- where the tests lead: to the code of a branch, or behind all
+    -- the target of the tests: the code of a branch, or the code after all
     abbrev pub Taken : Option Entry → Machine → Type 0
     Taken =
         Found (context l c f) (constants l) vs d end l is.buildable.typed.whole few_classes file at.line jc jc_in (bound_memory l is calls begun_in b c f k self scope vs env made d end q m map st t1 u words pc1 v j begins) j.console
@@ -146,7 +146,7 @@ module _ (l : Loading) (is : IsLoaded l) (calls : Calls) (begun_in : Call → Vi
         (λ u2 g2. tries (context l c f) (constants l) vs d end l is.buildable.typed.whole few_classes file at.line jc jc_in m2 j.console
         (bound_at l is calls begun_in b c f k self scope vs env made d end q m map st t1 u words pc1 v j begins 0) IsTold es (in_table es good) (pc1 + 28 + 20) stand.bodies stand.free (λ y h. h) u2 g2))
 
-    -- from the lines behind the value on
+    -- the run from the lines after the value
     pub taken_runs : (n nB whole : ℕ) → n ≤ b → length es ≤ nB → Stands → Rest l q 16 words (taken (first_among (chain l.table jc) es) n) → words + (taken (first_among (chain l.table jc) es) n).words ≤ whole
         → ((y : Span) → IsTold y → Placed l c f y) → AllWatched n
         → Runs l u n (64 * (nB + (taken (first_among (chain l.table jc) es) n).work) + 60) (Done l (record q { pc = final }) m map st whole) (taken (first_among (chain l.table jc) es) n).outcome

@@ -69,7 +69,7 @@ default_words (IsClass d) = by (nat_eq d.0 2) (nat_eq d.0 3) (nat_eq d.0 4)
     by false false true = omega arith
     by false false false = omega arith
 
--- What the code of a default leaves, by the type: void, or the default of a basic class.
+-- The result of the code of a default, by the type: void, or the default of a basic class.
 module _ (p : List Class) (typed : IsTypedTable p) (Leaves : List Line → Value → Type 0) (leaves_void : Leaves take_void_lines Void) (leaves_int : Leaves (take_lines default_int) (Int (pos 0)))
     (leaves_false : Leaves (take_lines false_constant) (Bool false)) (leaves_string : Leaves (take_lines default_string) (Str [])) where
   default_leaves : (name : List ℕ) (t : Ty) → Denotes p name t → Leaves (default_code t) (default_of name)

@@ -78,7 +78,7 @@ module _ (l : Loading) (loaded : IsLoaded l) where
     is = placed_text l.files at (codes "Division by zero.") small;
   }
 
-  -- Where $t0 is not 0, the run ends by the error.
+  -- If $t0 is not 0, the run ends by the error.
   pub refused : (e : Error) (at : Place) (fits_label name : Name) (q : Pointers) (m : Bytes) (map : Map) (console : Console) (t : State) (f : ℕ) (s : Machine) → EndsSo l e at name → at.line < 2147483648
       → Contains (constants l).strings (get_or l.files at.file []) → HasLines l.world q.pc (ends_where_lines fits_label (string_constant (string_number (constants l).strings (get_or l.files at.file []))) at.line name)
       → Flagged l.world q m console f s → 0 < f → Shows t console → Pictures l.table l.world l.memory m map t q.gp q.sp → Reaches l.world s 0 23 (exits 3 (Stopped l e t))

@@ -54,7 +54,7 @@ module _ (p : List Class) (c : ClassId) where
         by true more h = (e, refl)
         by false more h = more h
 
-    -- what the body of that entry begins is what the branch does
+    -- visits of that entry's body are visits of the branch
     pub begun_by_name : (d : ClassId) (f : ℕ) (self : Value) (env : Environment) (k : ℕ) (v : Value) (name : List ℕ) (cs : Cases) (st : State) (n : ℕ) (x : Visit) (e : Entry) → entry_named k cs name ≡ Some e
         → behind (locate v) (λ i. begun p calls begun_in d f self (record { name = e.name; location = i } ∷ env) e.first e.tree) st n x → branch_begun p calls begun_in d f self env k v name cs st n x
     begun_by_name d f self env k v name NoCase st n x e is h = absurd cc

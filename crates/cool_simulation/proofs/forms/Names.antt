@@ -61,7 +61,7 @@ module _ (w : World) where
   home_small a gp sp (inl h) to = let laid = w.laid in let high = h.1 in omega arith
   home_small a gp sp (inr h) to = let high = h.1 in omega arith
 
--- What evaluation loads
+-- The value that evaluation loads
 
 value_loaded : (env : Environment) (name : List ℕ) (st : State) (n i : ℕ) (v : Value) → location_of env name ≡ Some i → slice_get st.store i ≡ Some v → (given (location_of env name) >>= load) st n ≡ free (Val v st n)
 value_loaded env name st n i v there stored = ap (λ (o : Option ℕ). (given o >>= load) st n) there ∙ given_stored

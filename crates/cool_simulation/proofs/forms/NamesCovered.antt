@@ -1,4 +1,4 @@
--- What a scope says of names, the scope of their variables says, too.
+-- A typing scope agrees with the scope of the corresponding variables (`Covers`).
 use Rattle.std.proofs.Common.{◌≡◌, ℕ, List, Some, ap, ◌∙◌}
 use Rattle.std.specs.Option.{option_map}
 use Rattle.cool_classes.specs.declared.class_id.Ty.{Ty}

@@ -47,7 +47,7 @@ unfolding create_self_lines
 sizes_create_self = refl
 
 module _ (l : Loading) (is : IsLoaded l) (calls : Calls) (begun_in : Call → Visits) (b : ℕ) (correct : AllCallsCorrect l calls begun_in b) (later : CallsLater calls) where
-  -- from where code begins, a new object may be made
+  -- a new object may be made at the beginning of code
   pub making_of : (c k : ClassId) (self : Value) (scope : List Binding) (vs : List Named) (env : Environment) (made : fitting.World) (d : ℕ) (q : Pointers) (m : Bytes) (map : Map) (console : Console) (st : State) (s : Machine)
       → Begins l c k self scope vs env made d q m map console st s → Making l is made q m map console st s
   making_of c k self scope vs env made d q m map console st s begins =

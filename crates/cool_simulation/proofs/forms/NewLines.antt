@@ -40,7 +40,7 @@ use Rattle.cool_simulation.proofs.ground.Passages.{passes, passes_then, passes_w
 use Rattle.cool_simulation.proofs.ground.QuietTexts.{at_over}
 
 module _ (w : World) where
-  -- from the first line to Object.copy: one instruction at least
+  -- the run from the first line to Object.copy: at least one instruction
   pub takes_prototype : (proto init : Name) (p : Pointers) (m : Bytes) (c : Console) (s : State) → HasLines w p.pc (create_lines proto init) → At w p m c s
       → Reaches w s 1 3 (stands (At w (record p { pc = w.place copy; acc = w.place proto; ra = p.pc + 12 }) m c))
   unfolding create_lines
@@ -54,7 +54,7 @@ module _ (w : World) where
   unfolding create_lines
   initializer_there proto init pc has = has_at w (jal init ∷ []) (pc + 8 + 4) (pc + 12) (omega arith) (has.1.1.0, tt)
 
-  -- from Object.copy on: the prototype is copied, and the machine stands at the initializer
+  -- the run from Object.copy: the prototype is copied, and the machine stands at the initializer
   pub creates : (proto init : Name) (size : ℕ) (p : Pointers) (m : Bytes) (c : Console) (s : State) → Limits w → HasLines w (w.place copy) (routine_lines routines.Copy) → HasLines w (p.pc + 12) (jal init ∷ [])
       → At w (record p { pc = w.place copy; acc = w.place proto; ra = p.pc + 12 }) m c s → Lies w p.gp (w.place proto) (4 * size) → 3 ≤ size → word m (w.place proto + 4) ≡ size → p.gp + 4 * size + 4 ≤ w.top → OnTheWay w c.output c.input
       → Reaches w s 0 (7 * size + 17) (stands (At w (record p { pc = w.place init; gp = p.gp + 4 * size + 4; acc = p.gp + 4; ra = p.pc + 16 }) (with_copy m p.gp (w.place proto) size) c))
@@ -145,7 +145,7 @@ module _ (w : World) where
         ),
       )
 
-  -- from Object.copy on: the prototype of self's class is copied, and the machine stands at its initializer
+  -- the run from Object.copy: the prototype of self's class is copied, and the machine stands at its initializer
   pub creates_own : (size tag prototype initializer : ℕ) (p : Pointers) (m : Bytes) (c : Console) (s : State) → Limits w → HasLines w (w.place copy) (routine_lines routines.Copy) → HasLines w (p.pc + 28) second
       → At w (record p { pc = w.place copy; acc = prototype; ra = p.pc + 28 }) m c s → Lies w p.gp p.self 12 → word m p.self ≡ tag → RowAt m tag prototype initializer → Lies w p.gp prototype (4 * size) → 3 ≤ size → word m (prototype + 4) ≡ size
       → p.gp + 4 * size + 4 ≤ w.top → OnTheWay w c.output c.input

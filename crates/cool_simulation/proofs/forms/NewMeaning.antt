@@ -1,4 +1,4 @@
--- What `new` comes to: the defaults at new locations, an identity, and what the call of the initial values comes to.
+-- The outcome of `new`: the defaults at new locations, an identity, and the outcome of the call of the initial values.
 use Rattle.std.proofs.Common.{◌≡◌, ℕ, suc, ◌+◌, ◌<◌, List, [], ◌∷◌, ◌++◌, length, Option, Some, Bool as Truth, true, false, ap, sym, ◌∙◌, refl, subst, arith, append_assoc, append-nil, length-append}
 use Rattle.std.specs.Prelude.{slice_get, ◌==◌, if◌then◌else◌, pos}
 use Rattle.std.specs.List.{AllByRecursion}
@@ -44,7 +44,7 @@ located_all (v ∷ vs) st n =
     ∙ (ap (λ (k : ℕ). free (Val (length st.store ∷ numbers k (length vs)) (record st { store = (st.store ++ v ∷ []) ++ vs }) n)) long
     ∙ ap (λ (xs : List Value). free (Val (length st.store ∷ numbers (suc (length st.store)) (length vs)) (record st { store = xs }) n)) joined)
 
--- what the call of the initial values comes to, and then the object
+-- the outcome of the call of the initial values, and then the object
 unfoldable pub outcome_with : Value → Outcome Value → Outcome Value
 outcome_with v (Val u t left) = Val v t left
 outcome_with v (Stop e t) = Stop e t
@@ -101,7 +101,7 @@ object_made p calls c st n =
       peak_is = omega arith;
     }
 
--- which of the four it is
+-- the choice among the four
 
 pub plain_number : (c : ClassId) → MayInherit c → ((c.0 == 2) ≡ false) × ((c.0 == 3) ≡ false) × ((c.0 == 4) ≡ false)
 plain_number c may =

@@ -38,7 +38,7 @@ module _ (l : Loading) (is : IsLoaded l) where
   pub limits_of : Limits l.world
   limits_of = record { heap = is.routines routines.HeapLimit; stack = is.routines routines.StackLimit }
 
-  -- Where a new object is to be made by an expression: the machine, what it pictures, and room on the stack.
+  -- The state in which an expression makes a new object: the machine, the source state that it pictures, and room on the stack.
   pub record Making (made : fitting.World) (q : Pointers) (m : Bytes) (map : Map) (console : Console) (st : State) (s : Machine) : Type 0 where
     pub at : At l.world q m console s
     pub shows : Shows st console
@@ -51,7 +51,7 @@ module _ (l : Loading) (is : IsLoaded l) where
   abbrev pub size_of : ClassId → ℕ
   size_of c = 3 + length (new_fields l.table c)
 
-  -- where its initializer is called, with the copy of the prototype
+  -- the pointers at the call of its initializer, with the copy of the prototype
   abbrev pub entry : Pointers → ClassId → ℕ → Pointers
   entry q c ra = record q { pc = l.world.place (initializer l.table c); gp = q.gp + 4 * size_of c + 4; acc = q.gp + 4; ra = ra }
 
@@ -71,7 +71,7 @@ module _ (l : Loading) (is : IsLoaded l) where
     abbrev pub st1 : State
     st1 = with_values st (made_values l.table c)
 
-    -- what the copy pictures
+    -- the state that the copy pictures
     record Copied (m1 : Bytes) (gp1 : ℕ) : Type 0 where
       pictures : Pictures l.table l.world l.memory m1 map1 st1 gp1 q.sp
       kept : Kept m m1 map.marked q.gp q.sp
@@ -108,7 +108,7 @@ module _ (l : Loading) (is : IsLoaded l) where
           value = made_value l.table w l.memory m m1 map st c vs q.gp gp1 q.sp numbers'.gp_from numbers'.gp_even (omega arith) under within plain many' same head values making.pictures;
         }
 
-    -- behind the initializer: what was made and what it did together
+    -- the state after the initializer: the new objects and its effects together
     initialized : (m1 : Bytes) (gp1 ra words : ℕ) (t : State) (u : Machine) → gp1 ≡ q.gp + 4 * (4 + length (attributes l.table c)) → q.sp % 4 ≡ 0 → Copied m1 gp1
         → Done l (record q { pc = ra; gp = gp1; acc = q.gp + 4; ra = ra }) m1 map1 st1 words (made_object l.table c st) t u
         → Done l (record q { pc = ra }) m map st (4 + length (attributes l.table c) + words) (made_object l.table c st) t u

@@ -47,12 +47,12 @@ module _ (l : Loading) (is : IsLoaded l) (calls : Calls) (begun_in : Call → Vi
     abbrev pub computed : Computation Value
     computed = working 1 (holding (length (chain l.table c)) (spend (new_object l.table calls c)))
 
-    -- from the code that copies the prototype and calls the initializer
+    -- the run from the code that copies the prototype and calls the initializer
     abbrev Copies : ℕ → ℕ → Type 0
     Copies ra a = q.gp + 4 * size_of l is c + 4 ≤ l.world.top → OnTheWay l.world console.output console.input
         → Passes l s 1 (7 * size_of l is c + a) (stands (At l.world (entry l is q c ra) (copy_of l is m q c) console))
 
-    -- what the object's initial values begin
+    -- the visits of the object's initial values
     abbrev begun_by : Visits
     begun_by = behind_step (behind (locate_all (made_values l.table c)) (λ ls. behind draw (λ i. begun_in (Initials c (Obj c i ls)))))
 

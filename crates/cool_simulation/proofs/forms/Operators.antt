@@ -34,7 +34,7 @@ use Rattle.cool_simulation.proofs.ground.PartsBehind.{Gone}
 use Rattle.cool_simulation.proofs.forms.ExactResults.{exact_runs, refused, ends_by_zero}
 use Rattle.cool_simulation.proofs.ground.Passages.{passes}
 
--- What the flags say
+-- The meaning of the flags
 
 sum_word : (x y : ℤ) → fits x ≡ true → fits y ≡ true → fits (x +ℤ y) ≡ true → wrap (word_of x + word_of y) ≡ word_of (x +ℤ y)
 sum_word x y h k e = let a = raised_fits x h in let b = raised_fits y k in let c = raised_fits (x +ℤ y) e in let s = raised_sum x y h k in omega arith

@@ -39,7 +39,7 @@ pub record Received (l : Loading) (j : ClassId) (self : Value) (vs : List Value)
   pub self_fits : Fits l.table made self j
   pub fits : AllFit l.table made st.store made
 
--- What the routine of a basic method does is what the method means: with its receiver and its arguments, and with the place of its call.
+-- The routine of a basic method does the same as the method means: with its receiver and its arguments, and with the place of its call.
 abbrev pub BasicCorrect : Loading → Type 0
 BasicCorrect l = (x : BasicMethod) (at : Place) (self : Value) (j : ClassId) (vs : List Value) (made : fitting.World) (q : Pointers) (m : Bytes) (map : Map) (console : Console) (st : State) (s : Machine) (n : ℕ)
     → Received l j self vs made q m map console st s → q.pc ≡ l.world.place (method_label l.table (Basic x))
@@ -86,7 +86,7 @@ module _ (l : Loading) where
     fits = h.fits;
   }
 
-  -- behind the code of the arguments and that of the receiver
+  -- the state after the code of the arguments and of the receiver
   pub receives : (j : ClassId) (self : Value) (vs : List Value) (made : fitting.World) (q : Pointers) (m : Bytes) (map : Map) (st st1 st2 : State) (pc1 pc2 words1 words2 : ℕ) (s1 s2 : Machine)
       → (d1 : AllDone l (record q { pc = pc1 }) m map st words1 vs st1 s1)
       → (d2 : Done l (record q { pc = pc2; gp = d1.gp; sp = q.sp - 4 * length vs; acc = d1.acc; ra = d1.ra }) d1.memory d1.map' st1 words2 self st2 s2)

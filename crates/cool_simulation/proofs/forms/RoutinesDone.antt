@@ -1,4 +1,4 @@
--- What a routine of a basic method leaves, as what a call comes to.
+-- The result of a run-time routine, stated as the result of the method call that it implements.
 use Rattle.std.proofs.Common.{◌≡◌, ℕ, ◌+◌, ◌-◌, ◌*◌, ◌≤◌, List, length, refl, subst, arith}
 use Rattle.mips_isa.specs.declared.address_map.TheConstants.{HEAP_START}
 use Rattle.mips_isa.specs.Bytes.{Bytes}
@@ -18,19 +18,19 @@ use Rattle.cool_simulation.proofs.forms.Received.{Received}
 use Rattle.cool_simulation.proofs.ground.PicturesStay.{kept_same, not_grown, pictures_same, pictures_console, pictures_higher}
 use Rattle.cool_simulation.proofs.ground.Passages.{passes, passes_weaker, passes_wider}
 
--- what the routine of a basic method comes to, within what a dispatch leaves to it
+-- the run of a basic method's routine, within the bounds that a dispatch leaves to it
 abbrev pub RoutineRuns : Loading → List Value → Pointers → Bytes → Map → State → Machine → ℕ → Metered Value → Type 0
 RoutineRuns l vs q m map st s n r = Runs l s n (64 * (length vs + r.work) + 51) (Done l (record q { pc = q.ra; sp = q.sp + 4 * length vs }) m map st r.words) r.outcome
 
 module _ (l : Loading) where
-  -- behind a value that is there at once
+  -- the run for a value that is there at once
   pub joined : (vs : List Value) (q : Pointers) (m : Bytes) (map : Map) (st : State) (s : Machine) (n : ℕ) (r : Metered Value) → RoutineRuns l vs q m map st s n r → RoutineRuns l vs q m map st s n (join 0 0 0 r)
   joined vs q m map st s n r h =
       let none : r.words ≡ 0 + r.words = omega arith in
       run_wider l r.outcome s n (64 * (length vs + r.work) + 51) (64 * (length vs + (0 + r.work)) + 51) _ (omega arith)
       (subst (λ (w : ℕ). Runs l s n (64 * (length vs + r.work) + 51) (Done l (record q { pc = q.ra; sp = q.sp + 4 * length vs }) m map st w) r.outcome) none h)
 
-  -- the value stands in a memory that is the same but for what is new on the heap; the console may be another
+  -- the value stands in a memory that is the same except for the new part of the heap; the console may be another
   pub routine_done : (j : ClassId) (self : Value) (vs : List Value) (made : fitting.World) (q : Pointers) (m : Bytes) (map : Map) (console : Console) (st : State) (s : Machine) → Received l j self vs made q m map console st s
       → (gp sp acc words : ℕ) (m' : Bytes) (console' : Console) (input output : List ℕ) (v : Value) (t : Machine) → At l.world (record q { pc = q.ra; gp = gp; sp = sp; acc = acc }) m' console' t → sp ≡ q.sp + 4 * length vs
       → Same m m' q.gp q.sp → q.gp ≤ gp → gp ≤ q.gp + 4 * words → Shows (record st { input = input; output = output }) console' → Pic l.world m' map st.drawn gp v acc

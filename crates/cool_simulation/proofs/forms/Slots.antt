@@ -23,7 +23,7 @@ module _ (p : List Class) (whole : IsWholeTable p) where
   pub slot_there : (c : ClassId) (f : List ℕ) (n : MethodRef) → implementation p (chain p c) f ≡ Some n → (k : ℕ) × (slot p c f ≡ Some k)
   slot_there c f n is = some_value (slot p c f) (position_is f (slots p c) ∙ slots_any p (chain p c) f ∙ ap (λ (o : Option MethodRef). is_some o) is)
 
-  -- which is the place in the classes below
+  -- it is the slot in the classes below, too
   pub slot_kept : (d c : ClassId) → d.0 < length p → Below p d c → (f : List ℕ) (k : ℕ) → slot p c f ≡ Some k → slot p d f ≡ Some k
   slot_kept d c within (ds, h, there) f k e = same_slot p rooted f k d within ds h c there e
 

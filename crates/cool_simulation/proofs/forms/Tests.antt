@@ -43,7 +43,7 @@ not_flag true = refl
 not_flag false = refl
 
 module _ (p : List Class) (w : World) (loaded m : Bytes) (map : Map) (st : State) (gp sp : ℕ) (pictures : Pictures p w loaded m map st gp sp) where
-  -- void alone is the address 0
+  -- only void is the address 0
   void_flag : (v : Value) (a : ℕ) → Pic w m map st.drawn gp v a → flag (nat_lt a 1) ≡ flag (is_void v)
   void_flag Void a pic = ap (λ x. flag (nat_lt x 1)) pic
   void_flag (Int n) a pic = let from = pic.0.lies.from in no_flag a (omega arith)

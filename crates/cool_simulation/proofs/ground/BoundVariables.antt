@@ -117,7 +117,7 @@ module _ (l : Loading) where
             (still_fits l.table made (made ++ class_meant k t ∷ []) grows v (class_meant k t) fit);
       }
 
-  -- Behind the body, and the pop.
+  -- The state after the body and the pop.
   pub bound_done : (q : Pointers) (m : Bytes) (map : Map) (console : Console) (st : State) (v v' : Value) (t : State) (words pc pc' : ℕ) (s s2 u : Machine) → At l.world q m console s → Pictures l.table l.world l.memory m map st q.gp q.sp
       → (done : Done l (record q { pc = pc; sp = q.sp - 4 }) (set_word m (q.sp - 4) q.acc) (homed map (length st.store) (q.sp - 4)) (record st { store = st.store ++ v ∷ [] }) words v' t s2)
       → At l.world (record q { pc = pc'; gp = done.gp; acc = done.acc; ra = done.ra }) done.memory done.console u → Done l (record q { pc = pc' }) m map st words v' t u
@@ -155,7 +155,7 @@ module _ (l : Loading) where
         gp_to = done.gp_to;
       })
 
-  -- Behind a value, and the store into the home of a location.
+  -- The state after a value, and after the store into the home of a location.
   pub stored_done : (q : Pointers) (m : Bytes) (map : Map) (st : State) (words pc pc' i : ℕ) (v : Value) (t : State) (u s : Machine) → (done : Done l (record q { pc = pc }) m map st words v t u) → 0 < done.map'.home i → q.sp % 4 ≡ 0
       → At l.world (record q { pc = pc'; gp = done.gp; acc = done.acc; ra = done.ra }) (set_word done.memory (done.map'.home i) done.acc) done.console s
       → Done l (record q { pc = pc' }) m map st words v (record t { store = slice_set t.store i v }) s

@@ -1,4 +1,4 @@
--- What arguments and dispatches come to stands later than where they began, where this is so of calls.
+-- The outcomes of arguments and dispatches have later states than those in which they began, if this is so for calls.
 use Rattle.std.proofs.Common.{ℕ, List, [], ◌∷◌, Option, Some, None, refl}
 use Rattle.cool_syntax.specs.declared.place.Place.{Place}
 use Rattle.cool_syntax.specs.Tree.{Trees, Last, More}

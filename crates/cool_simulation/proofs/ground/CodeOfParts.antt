@@ -16,7 +16,7 @@ use Rattle.cool_codegen.specs.Asked.{integers_in, strings_in}
 use Rattle.cool_simulation.specs.Loadings.{Loading, constants, context, whole}
 use Rattle.cool_simulation.specs.Simulation.{CodeAt, Placed}
 
--- what a piece of code asks for is among the constants
+-- the constants that a piece of code uses are among the constants
 pub record Asks (l : Loading) (integers : List ℕ) (strings : List (List ℕ)) : Type 0 where
   pub integers_there : (n : ℕ) → Contains integers n → Contains (constants l).integers n
   pub strings_there : (bytes : List ℕ) → Contains strings bytes → Contains (constants l).strings bytes

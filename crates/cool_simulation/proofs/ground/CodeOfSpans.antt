@@ -25,7 +25,7 @@ use Rattle.cool_codegen.specs.Spans.{Span, spans, arguments_spans, items_spans, 
 use Rattle.cool_codegen.proofs.SpansStand.{span_stands}
 
 module _ (files : List (List ℕ)) (I : ℕ → Type 0) (X : List ℕ → Type 0) where
-  -- what code asks for is there
+  -- the constants that code uses are there
   pub record Asked (is : List ℕ) (xs : List (List ℕ)) : Type 0 where
     pub integers : (n : ℕ) → Contains is n → I n
     pub strings : (bytes : List ℕ) → Contains xs bytes → X bytes

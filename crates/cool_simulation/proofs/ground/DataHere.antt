@@ -1,4 +1,4 @@
--- What was loaded stands in every memory that pictures a state: constants, default values, prototypes, names, tables and texts.
+-- The loaded data is in every memory that pictures a state: constants, default values, prototypes, names, tables and texts.
 use Rattle.std.proofs.Common.{◌≡◌, ◌≢◌, ℕ, zero, suc, ◌+◌, ◌*◌, ◌/◌, ◌<◌, ◌≤◌, List, [], ◌∷◌, length, map as each, get_or, Bool as Truth, true, false, refl, sym, ap, ◌∙◌, subst, arith}
 use Rattle.std.proofs.lemmas.List.{length-map}
 use Rattle.std.specs.Prelude.{pos, slice_get, Some, Contains, codes, bytes_eq, nat_eq, if◌then◌else◌, ◌++◌}
@@ -111,7 +111,7 @@ module _ (l : Loading) (is : IsLoaded l) (m : Bytes) (map : Map) (st : State) (g
       → ObjectAt l.world m gp (l.world.place (prototype l.table c)) (tag l.table c) (3 + length (new_fields l.table c)) (l.world.place (dispatch_table l.table c)) (each (item_word l.world) (new_fields l.table c))
   prototype_here c within = object_moved l.world l.memory m gp from at.as_loaded _ _ _ _ _ (is.prototypes c within)
 
-  -- those of Int, Bool and String are values
+  -- the defaults of Int, Bool and String are values
 
   int_is : name_of l.table (class_number 2) ≡ codes "Int"
   int_is = basic_name l.table is.buildable.typed 2 (omega arith)

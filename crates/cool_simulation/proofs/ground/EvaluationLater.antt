@@ -1,4 +1,4 @@
--- What an evaluation comes to stands later than its state, where that of calls does.
+-- The outcome of an evaluation has a later state than its first one, if this is so for calls.
 use Rattle.std.proofs.Common.{ℕ, zero, suc, ℤ, ◌+ℤ◌, ◌-ℤ◌, ◌*ℤ◌, List, refl}
 use Rattle.std.specs.Prelude.{Option, Some, None, if◌then◌else◌, Bool as Truth, true, false, int_div, int_lt, int_le}
 use Rattle.cool_syntax.specs.declared.place.Place.{Place}

@@ -28,7 +28,7 @@ module _ (l : Loading) (loaded : IsLoaded l) (calls : Calls) (begun_in : Call �
     (env : Environment) (made : fitting.World) (d first : ℕ) (q : Pointers) (m : Bytes) (map : Map) (console : Console) (st : State) (s : Machine) (n : ℕ) (less : n ≤ b)
     (begins : Begins l c k self scope vs env made d q m map console st s) (t : Tree) (type : Ty) (correct : Correct l calls begun_in b t) (has : HasType l.table c scope t type) (at : CodeAt l c f vs d first q.pc t)
     (watched : (x : Visit) → begun l.table calls begun_in c f self env first t st n x → Watched l.watch x) where
-  -- what follows a part that came to a value
+  -- the run after a part that came to a value
   abbrev pub Following : {B : Type 0} → (Value → Computation B) → (B → State → Machine → Type 0) → ℕ → ℕ → Type 0
   Following F L besides extra =
       (v : Value) (t1 : State) (left : ℕ) (u : Machine) → (eval l.table calls self env t st n).outcome ≡ Val v t1 left

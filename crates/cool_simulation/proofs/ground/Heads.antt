@@ -68,7 +68,7 @@ module _ (l : Loading) (p : Pointers) (m : Bytes) (c : Console) (s : Machine) (a
           let clash : true ≡ false = sym mark ∙ none in
           absurd cc
 
-  -- what holds over the whole text
+  -- a run over the whole text is also one over the text of the world
   pub under : (p' : Pointers) (m' : Bytes) (lo hi : ℕ) → Passes l s lo hi (stands (At (whole l) p' m' c)) → Passes l s lo hi (stands (At l.world p' m' c))
   under p' m' lo hi h = passes_weaker l s lo hi _ _ (stands_as _ _ (λ t. at_under l.world (whole_text l) p' m' c t)) h
 

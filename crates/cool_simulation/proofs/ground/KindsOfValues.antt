@@ -1,4 +1,4 @@
--- What the words of a value show of it: its tag, its number, its bytes; and values of different kinds.
+-- The words of a value in memory: its tag, its number, its bytes; and values of different kinds.
 use Rattle.std.proofs.Common.{◌≡◌, ◌≢◌, ℕ, ◌+◌, ◌<◌, ◌≤◌, ◌⊎◌, List, [], length, refl, sym, ap, ◌∙◌, subst, arith}
 use Rattle.std.specs.Prelude.{false}
 use Rattle.mips_isa.specs.declared.address_map.TheConstants.{HEAP_START}
@@ -117,7 +117,7 @@ module _ (l : Loading) (loaded : IsLoaded l) (m : Bytes) (map : Map) (st : State
       let at = pictures.objects i pic.1 in
       absurd (plain_tag (map.class i) 4 at.within (omega arith) at.plain.no_string (ap (tag l.table) (sym pic.2) ∙ (e ∙ ap (λ t. t.string) loaded.tags)))
 
-  -- What stands at a value's address
+  -- The words at a value's address
 
   pub tagged : (v : Value) (a : ℕ) → Pic l.world m map st.drawn gp v a → (a ≡ 0 → ⊥) → Tagged l.world m gp a (tag_of l.world l.table v)
   tagged Void a pic some = absurd (some pic)

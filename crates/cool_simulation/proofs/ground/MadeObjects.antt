@@ -103,7 +103,7 @@ module _ (p : List Class) (w : World) (loaded m m' : Bytes) (map : Map) (st : St
               ap map'.home e ∙ (home_new n k (gp + 16) map.home (n + j) (omega arith) (omega arith) ∙ omega arith);
         }
 
-    -- where a location is: an old one, or the object's at this place
+    -- a location is an old one, or the object's at this position
     data Place (l : ℕ) : Type 0 where
       Old : map.home l ≡ map'.home l → 0 < map.home l → Place l
       New : (j : ℕ) → j < k → l ≡ n + j → map'.home l ≡ gp + 16 + 4 * j → Place l

@@ -24,7 +24,7 @@ pub fits_word : (n : ℤ) → fits n ≡ true → word_of n < 4294967296
 fits_word (pos n) fit = grind arith
 fits_word (negsuc n) fit = omega arith
 
--- what a routine made: the heap grew to gp', the value is at an address, all else is the same
+-- the result of a routine: the heap grew to gp', the value is at an address, all else is the same
 pub record Made (w : World) (m m' : Bytes) (map : Map) (drawn gp gp' sp : ℕ) (v : Value) (a : ℕ) : Type 0 where
   pub value : Pic w m' map drawn gp' v a
   pub same : Same m m' gp sp
@@ -50,7 +50,7 @@ module _ (w : World) where
       let to' = string.length_is.lies.to in
       (string, fresh_unmarked p loaded m map st gp sp a _ at even from (omega arith), fresh_unmarked p loaded m map st gp sp (word m' (a + 12)) 16 at even from' (omega arith))
 
-  -- where the String's head points to its length
+  -- the pointer from the String's head to its length
   head_pointer : (m : Bytes) (gp n : ℕ) → gp < 2147483648 → word (with_string_head w m gp n) (gp + 24 + 12) ≡ gp + 4
   unfolding with_head
   head_pointer m gp n small =
@@ -89,7 +89,7 @@ module _ (w : World) where
       let lies = copy.lies in
       record { lies = omega arith; head = copy.head; head_fits = copy.fits; value = ap (word (with_copy m gp a 4)) (sym there) ∙ copy.attributes 0 (omega arith); bit = at.bit }
 
-  -- what `in_int` and the operators make
+  -- the numbers that `in_int` and the operators make
   pub number_made : (p : List Class) (loaded m : Bytes) (map : Map) (st : State) (gp sp a : ℕ) (n : ℤ) → HEAP_START ≤ gp → gp % 4 ≡ 0 → gp + 20 ≤ sp → Pictures p w loaded m map st gp sp → fits n ≡ true
       → IntAt w m gp a 0 → Made w m (with_int m gp w.tags.int (w.place int_table) (word_of n)) map st.drawn gp (gp + 20) sp (Int n) (gp + 4)
   number_made p loaded m map st gp sp a n from even room at fit proto =
@@ -98,7 +98,7 @@ module _ (w : World) where
         same = made_int_same w m gp sp w.tags.int (w.place int_table) (word_of n) room;
       }
 
-  -- what `in_string`, `concat` and `substr` make
+  -- the strings that `in_string`, `concat` and `substr` make
   pub text_read : (p : List Class) (loaded m : Bytes) (map : Map) (st : State) (gp sp : ℕ) (bytes other : List ℕ) → HEAP_START ≤ gp → gp < 2147483648 → gp % 4 ≡ 0 → gp + 44 + 4 * (length bytes / 4) ≤ sp
       → Pictures p w loaded m map st gp sp → IntAt w m gp (w.place int_prototype) 0 → StringAt w m gp (w.place string_prototype) other → IsText bytes → length bytes < 1073741824
       → Made w m (with_string_head w (with_text m gp bytes) gp (length bytes)) map st.drawn gp (gp + 44 + 4 * (length bytes / 4)) sp (Str bytes) (gp + 24)
@@ -144,7 +144,7 @@ module _ (w : World) where
         same = made.1;
       }
 
-  -- what `copy` makes of an Int, a Bool and a String
+  -- the copies that `copy` makes of an Int, a Bool and a String
   pub number_copied : (p : List Class) (loaded m : Bytes) (map : Map) (st : State) (gp sp a : ℕ) (n : ℤ) → HEAP_START ≤ gp → gp % 4 ≡ 0 → gp + 20 ≤ sp → Pictures p w loaded m map st gp sp
       → Pic w m map st.drawn gp (Int n) a → Made w m (with_copy m gp a 4) map st.drawn gp (gp + 20) sp (Int n) (gp + 4)
   number_copied p loaded m map st gp sp a n from even room at pic =

@@ -1,4 +1,4 @@
--- How a part of an expression begins: where the part before it ended, perhaps with its value pushed.
+-- The beginning of a part of an expression: at the end of the part before it, perhaps with the value of that part pushed.
 use Rattle.std.proofs.Common.{◌≡◌, ℕ, ◌+◌, ◌-◌, ◌≤◌, List, length, refl, sym, subst, arith}
 use Rattle.mips_isa.specs.Bytes.{Bytes, set_word}
 use Rattle.mips_isa.specs.Calls.{State as Machine}
@@ -42,7 +42,7 @@ variables_gone map map' drawn located gp sp q q' scope vs env fresh grown same_f
 }
 
 module _ (l : Loading) (loaded : IsLoaded l) (calls : Calls) (b : ℕ) (sound : AllCallsSound l.table calls b) (c k : ClassId) (self : Value) where
-  -- Behind a part with a value: the store fits what was made meanwhile, and a next part may begin.
+  -- The state after a part with a value: the store fits the objects made meanwhile, and a next part may begin.
   pub record Next (scope : List Binding) (vs : List Named) (env : Environment) (made : fitting.World) (type : Ty) (d : ℕ) (q : Pointers) (m : Bytes) (map : Map) (console : Console) (v : Value) (st : State) (left n : ℕ) (s : Machine) : Type 0 where
     pub made' : fitting.World
     pub later : growing.Grown made made'
@@ -50,7 +50,7 @@ module _ (l : Loading) (loaded : IsLoaded l) (calls : Calls) (b : ℕ) (sound : 
     pub fewer : left ≤ n
     pub begins : Begins l c k self scope vs env made' d q m map console st s
 
-  -- what soundness says of a part that comes to a value
+  -- soundness of a part that comes to a value
   pub fine_of : (t : Tree) (scope : List Binding) (env : Environment) (made : fitting.World) (st t1 : State) (type : Ty) (n left : ℕ) (v : Value) → Scene l.table made c k self scope env → AllFit l.table made st.store made
       → HasType l.table c scope t type → n ≤ b → (eval l.table calls self env t st n).outcome ≡ Val v t1 left → IsFine l.table made n (λ w v. Fits l.table w v (class_meant k type)) v t1 left
   fine_of t scope env made st t1 type n left v scene fits has less e =

@@ -101,7 +101,7 @@ module _ (w : World) where
             (pic_stays w m m' map map' s.drawn s'.drawn gp gp' at.value (word m (map.home l)) le more stay at.picture);
       }
 
-  -- the same where homes and marks are others alone
+  -- the same if only homes and marks are others
   pub object_remapped : (p : List Class) (m m' : Bytes) (map : Map) (home' : ℕ → ℕ) (marked' : ℕ → Truth) (drawn gp i : ℕ) → i < drawn → Staying m m' map (record map { home = home'; marked = marked' }) drawn gp
       → ((l : ℕ) → 0 < map.home l → map.home l < gp → home' l ≡ map.home l) → ObjectStands p w m map gp i → ObjectStands p w m' (record map { home = home'; marked = marked' }) gp i
   object_remapped p m m' map home' marked' drawn gp i less stay homes at =

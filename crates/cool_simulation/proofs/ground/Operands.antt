@@ -36,11 +36,11 @@ use Rattle.cool_simulation.proofs.ground.FirstParts.{part_runs, rule_runs}
 pub limits_of : (l : Loading) → IsLoaded l → Limits l.world
 limits_of l loaded = record { heap = loaded.routines routines.HeapLimit; stack = loaded.routines routines.StackLimit }
 
--- where a console shows a state that is on the way
+-- a console that shows a state on the way is on the way
 pub shown_way : (l : Loading) (t : State) (console : Console) → Shows t console → OnTheWay l.world t.output t.input → OnTheWay l.world console.output console.input
 shown_way l t console shows way = subst (λ o. OnTheWay l.world o console.input) (sym shows.output) (subst (λ i. OnTheWay l.world t.output i) (sym shows.input) way)
 
--- Behind both operands: the first value is in the word on the stack, the second one in $a0.
+-- The state after both operands: the first value is in the word on the stack, the second one in $a0.
 pub record TwoDone (l : Loading) (q : Pointers) (pc : ℕ) (m : Bytes) (map : Map) (st : State) (words : ℕ) (v w : Value) (t : State) (s : Machine) : Type 0 where
   pub gp : ℕ
   pub acc : ℕ

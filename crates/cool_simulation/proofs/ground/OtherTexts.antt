@@ -1,5 +1,4 @@
--- What memory pictures does not speak of the text: it is so in a world with another text, and where a machine pictures a visit in the one, it
--- does in the other.
+-- The simulation relation does not depend on the text: it also holds in a world with another text, and so do visits.
 use Rattle.std.proofs.Common.{ℕ, List, Option}
 use Rattle.mips_isa.specs.Bytes.{Bytes}
 use Rattle.mips_isa.specs.Calls.{State as Machine}

@@ -1,4 +1,4 @@
--- What stands behind a part of code: what a whole piece of code changed, from what its parts changed.
+-- Composition of effects: the changes of a piece of code to memory and map (`Gone`), computed from those of its parts.
 use Rattle.std.proofs.Common.{◌≡◌, ℕ, ◌+◌, ◌-◌, ◌*◌, ◌/◌, ◌%◌, ◌<◌, ◌≤◌, inl, inr, ℤ, List, length, true, false, refl, ap, ◌∙◌, arith}
 use Rattle.mips_isa.specs.declared.address_map.TheConstants.{HEAP_START}
 use Rattle.mips_isa.specs.Bytes.{Bytes, word, set_word}
@@ -17,7 +17,7 @@ use Rattle.cool_simulation.specs.Pictures.{Map, Pic, Pictures, Kept, Grown, Show
 use Rattle.cool_simulation.specs.Simulation.{Done}
 use Rattle.cool_simulation.proofs.ground.PicturesStay.{pic_stays, staying_of, kept_same, kept_then, not_grown, grown_then}
 
--- From a memory, a map and a state to others: what was there is kept, and the heap grew by so many words at most.
+-- The relation between a memory, a map and a state, and later ones: all earlier data is kept, and the heap grew by at most so many words.
 pub record Gone (m : Bytes) (map : Map) (st : State) (gp sp words : ℕ) (m' : Bytes) (map' : Map) (t : State) (gp' : ℕ) : Type 0 where
   pub kept : Kept m m' map.marked gp sp
   pub grown : Grown map map' st.drawn (length st.store) gp sp

@@ -15,7 +15,7 @@ use Rattle.cool_simulation.specs.Loadings.{Loading}
 use Rattle.cool_simulation.specs.Simulation.{Passes, Runs, Way, Room}
 use Rattle.cool_simulation.proofs.ground.Passages.{passes, passes_then, passes_weaker, passes_wider}
 
--- what is less than said of a state where the run goes on
+-- a weaker property of a state where the run goes on
 pub stands_as : (P Q : Machine → Type 0) → ((t : Machine) → P t → Q t) → (o : MachineOutcome) → stands P o → stands Q o
 stands_as P Q as' (Running s) h = as' s h
 stands_as P Q as' (Exited code s) h = h
@@ -74,13 +74,13 @@ module _ (l : Loading) where
   run_bind (On t) wk ws pk F s n extra part K L le first more = passes_wider l s n n part (64 * wk + extra) _ (omega arith) (omega arith) first
   run_bind Stuck wk ws pk F s n extra part K L le first more = tt
 
-  -- what a rule adds
+  -- the work that a rule adds
   pub run_rule : {A : Type 0} (r : Metered A) (s : Machine) (n : ℕ) (K : A → State → Machine → Type 0) → Runs l s n (64 * r.work + 60) K r.outcome → Runs l s n (64 * (1 + r.work) - 4) K r.outcome
   run_rule r s n K h = run_wider r.outcome s n (64 * r.work + 60) (64 * (1 + r.work) - 4) K (omega arith) h
 
   -- Room
 
-  -- what was written before is on the way too
+  -- earlier output is on the way, too
   way_before : (s t : State) (more : List ℕ) → Later s t → OnTheWay l.world (t.output ++ more) t.input → OnTheWay l.world s.output s.input
   way_before s t more later way = record {
     written = (
@@ -103,7 +103,7 @@ module _ (l : Loading) where
   way_of s (On t) after some way = way_on s t after way
   way_of s Stuck after some way = absurd (some refl)
 
-  -- where no rule applies, nothing is to be shown
+  -- if no rule applies, there is nothing to show
   pub unless_stuck : {A : Type 0} (o : Outcome A) (s : Machine) (n a : ℕ) (K : A → State → Machine → Type 0) → ((o ≡ Stuck → ⊥) → Runs l s n a K o) → Runs l s n a K o
   unless_stuck (Val v t left) s n a K h = h (λ e. absurd cc)
   unless_stuck (Stop e t) s n a K h = h (λ e. absurd cc)
@@ -151,11 +151,11 @@ module _ (l : Loading) where
   pub room_ruled : {A : Type 0} (q : Pointers) (b : ℕ) (r : Metered A) → Room l q b (record { outcome = r.outcome; work = 1 + r.work; words = r.words; peak = 1 + r.peak }) → Room l q (b + 16) r
   room_ruled q b r room = let stack = room.stack in record { heap = room.heap; stack = omega arith; way = room.way }
 
-  -- from the rest to the room of a part where the heap was used up to gp and words were pushed
+  -- the room of a part, from the rest, if the heap was used up to gp and words were pushed
   pub room_rest : {A : Type 0} (q q' : Pointers) (a b words : ℕ) (r : Metered A) → q'.gp ≤ q.gp + 4 * words → q.sp + b ≤ q'.sp + a → Rest q a words r → Room l q' b r
   room_rest q q' a b words r used pushed rest = let heap = rest.heap in let stack = rest.stack in record { heap = omega arith; stack = omega arith; way = rest.way }
 
-  -- what runs, and then a stretch from its value
+  -- a run, and then a stretch from its value
   pub run_on : {A : Type 0} (o : Outcome A) (s : Machine) (n a b total : ℕ) (K L : A → State → Machine → Type 0) → a + b ≤ total → Runs l s n a K o → ((v : A) (t : State) (u : Machine) → K v t u → Reaches l.world u 0 b (stands (L v t)))
       → Runs l s n total L o
   run_on (Val v t left) s n a b total K L le h more =

@@ -1,4 +1,4 @@
--- What passes words that are watched: runs one after another, and runs over lines without a mark.
+-- `Passes` for sequences of runs, and for runs over lines that start no span.
 use Rattle.std.proofs.Common.{◌≡◌, ℕ, zero, suc, ◌+◌, ◌-◌, ◌<◌, ◌≤◌, ◌⊎◌, inl, inr, List, Option, None, Some, Bool as Truth, true, false, refl, sym, ap, ◌∙◌, subst, arith, ◌%◌}
 use Rattle.mips_isa.specs.Calls.{State as Machine, Outcome, Running, Exited, Trapped}
 use Rattle.mips_isa.specs.Decoding.{decoded}
@@ -17,7 +17,7 @@ use Rattle.cool_simulation.proofs.ground.QuietRuns.{same_running}
 use Rattle.cool_simulation.proofs.ground.QuietTexts.{lines_quiet, run_quiet}
 use Rattle.mips_isa.specs.declared.address_map.TheConstants.{TEXT_START}
 
--- the world's text is the whole one but for the marks, where words are missing
+-- the world's text is the whole one except at the marks, where words are missing
 same_word : {table : List Class} {files : List (List ℕ)} {world : World} → (h : Option (Watch table files world)) → (a : ℕ) → a % 4 ≡ 0 → TEXT_START ≤ a → marks h a ≡ false → word_of_text world.text a ≡ word_of_text (watched_text h) a
 same_word None a even from free = refl
 same_word (Some h) a even from free = h.same a even from free
@@ -38,7 +38,7 @@ module _ (l : Loading) where
   pub quiet : (lines : List Line) (pc to : ℕ) → pc + sizes lines ≤ to → IsFree (marks l.watch) pc to → HasLines (whole l) pc lines → HasLines l.world pc lines
   quiet = lines_quiet l.world (whole_text l) (marks l.watch) (same_word l.watch) (no_word l.watch)
 
-  -- what is visited by a run of so many instructions from a state
+  -- the visits of a run of so many instructions from a state
   abbrev pub Visiting : ℕ → Machine → Type 0
   Visiting k s = (m : ℕ) (t : Machine) → m < k → run (whole_text l) l.world.segments m s ≡ Running t → marks l.watch t.core.pc ≡ true → (x : Visit) × Watched l.watch x × Shown l x t
 
@@ -78,7 +78,7 @@ module _ (l : Loading) where
     visits = r.visits;
   }
 
-  -- what follows from the goal
+  -- a weaker goal
   pub passes_weaker : (s : Machine) (lo hi : ℕ) (goal goal' : Goal) → ((o : Outcome) → goal o → goal' o) → Passes l s lo hi goal → Passes l s lo hi goal'
   passes_weaker s lo hi goal goal' as' r = record {
     reaches = record { count = r.reaches.count; within = r.reaches.within; ends = ends_as lo r.reaches.count goal goal' (run (whole_text l) l.world.segments r.reaches.count s) as' r.reaches.ends };
@@ -131,7 +131,7 @@ module _ (l : Loading) where
   pub passes_exits : (s : Machine) (lo hi n : ℕ) (P Q : Machine → Type 0) → ((t : Machine) → P t → Q t) → Passes l s lo hi (exits n P) → Passes l s lo hi (exits n Q)
   passes_exits s lo hi n P Q as' r = passes_weaker s lo hi (exits n P) (exits n Q) (exit_as n P Q as') r
 
--- Where nothing is watched, the text is whole, and nothing is asked of visits.
+-- If nothing is watched, the text is whole, and nothing is required of visits.
 
 text_whole : {table : List Class} {files : List (List ℕ)} {world : World} (h : Option (Watch table files world)) → h ≡ None → watched_text h ≡ world.text
 text_whole None e = refl

@@ -1,5 +1,4 @@
--- What a memory pictures stays where nothing below the heap's next address changes but homes, and where nothing is pushed or popped but
--- words that are no homes.
+-- The simulation relation is preserved if only homes change below the heap's next address, and only words that are no homes are pushed or popped.
 use Rattle.std.proofs.Common.{◌≡◌, ℕ, ◌+◌, ◌*◌, ◌/◌, ◌%◌, ◌<◌, ◌≤◌, ◌⊎◌, inl, inr, List, length, Bool as Truth, true, false, refl, sym, ◌∙◌, subst, arith, true≢false}
 use Rattle.mips_isa.specs.declared.address_map.TheConstants.{HEAP_START, STACK_END}
 use Rattle.mips_isa.specs.Bytes.{Bytes, word}
@@ -11,7 +10,7 @@ use Rattle.cool_runtime.proofs.MadeStrings.{head_moved}
 use Rattle.cool_meaning.specs.Values.{Value, Void, Int, Bool, Str, Obj, State}
 use Rattle.cool_simulation.specs.Pictures.{Map, Pic, ObjectStands, Pictures, Kept, Grown, Unmarked}
 
--- what is as it was below gp: unmarked bytes, marks, and what is known of the identities that were drawn
+-- unchanged data below gp: unmarked bytes, marks, and the map of the identities that were drawn
 pub record Staying (m m' : Bytes) (map map' : Map) (drawn gp : ℕ) : Type 0 where
   pub bytes : (q : ℕ) → q < gp → map.marked (q / 4) ≡ false → m' q ≡ m q
   pub marks : (k : ℕ) → 4 * k < gp → map'.marked k ≡ map.marked k
@@ -163,7 +162,7 @@ module _ (w : World) where
     unmarked_room = λ k h less. at.unmarked_room k (omega arith) less;
   }
 
-  -- what is written and taken is no part of pictures
+  -- output and input are no part of pictures
   pub pictures_console : (p : List Class) (loaded m : Bytes) (map : Map) (st : State) (input output : List ℕ) (gp sp : ℕ) → Pictures p w loaded m map st gp sp
       → Pictures p w loaded m map (record st { input = input; output = output }) gp sp
   pictures_console p loaded m map st input output gp sp at = record {

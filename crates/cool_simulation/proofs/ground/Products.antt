@@ -72,7 +72,7 @@ long_product (negsuc a) (negsuc b) h k =
     let bound = product_bound (suc a) (suc b) (omega arith) (omega arith) in
     (λ i. long_neg a x i * long_neg b y i % 18446744073709551616) ∙ both_below a b x y bound
 
--- how far a product may go
+-- the range of a product
 abbrev IsProduct : ℤ → Type 0
 IsProduct (pos k) = k ≤ 4611686018427387904
 IsProduct (negsuc k) = k < 4611686018427387904

@@ -57,7 +57,7 @@ module _ (w : World) where
       (walk w stack_limit_lines 0 _ _ _ _ (w.place stack_limit) lo 0 goal limits.stack (omega arith)
       (ExitWith, (let z = full.zero_is in omega arith, inr (record { why = inr (let z = full.zero_is in omega arith, why); console = same_way _ _ _ _ full.output_is full.input_is way })))))
 
-  -- what goes on behind it has at least what the exit takes
+  -- the run after it takes at least as long as the exit
   pub pushes : (p : Pointers) (m : Bytes) (c : Console) (s : State) (lo hi : ℕ) (goal : Goal) → Limits w → HasLines w p.pc push_lines → At w p m c s → w.low + 4 ≤ p.sp → OnTheWay w c.output c.input → 3 ≤ hi
       → ((t : State) → At w (record p { pc = p.pc + 20; sp = p.sp - 4 }) (set_word m (p.sp - 4) p.acc) c t → Reaches w t lo hi goal) → Reaches w s lo (4 + hi) goal
   pushes p m c s lo hi goal limits has at room way enough more =

@@ -22,7 +22,7 @@ same_running s t e = cc
 
 module _ (quiet whole : List ℕ) (marked : ℕ → Truth) (same : (a : ℕ) → a % 4 ≡ 0 → TEXT_START ≤ a → marked a ≡ false → word_of_text quiet a ≡ word_of_text whole a)
     (traps : (a : ℕ) → a % 4 ≡ 0 → TEXT_START ≤ a → marked a ≡ true → decoded (word_of_text quiet a) ≡ None) (b : Segments) where
-  -- where the machine may fetch
+  -- the addresses from which the machine may fetch
   lying : (s : State) → lies TEXT_START b.text_end s.core.pc 4 ≡ true → TEXT_START ≤ s.core.pc
   lying s h = grind (arith, h)
 
@@ -35,7 +35,7 @@ module _ (quiet whole : List ℕ) (marked : ℕ → Truth) (same : (a : ℕ) →
       if not aligned then Stop (record { kind = Unaligned; address = s.core.pc; pc = s.core.pc })
       else (if not may then Stop (record { kind = BadAddress; address = s.core.pc; pc = s.core.pc }) else act_or_none b o s.core)
 
-  -- where a word is missing, the machine traps
+  -- if a word is missing, the machine traps
   missing : (s : State) → marked s.core.pc ≡ true → (t : Trap) × (cycle quiet b s ≡ Trapped t s)
   missing s mark = by (s.core.pc % 4 == 0) (lies TEXT_START b.text_end s.core.pc 4) refl refl
     where

@@ -1,4 +1,4 @@
--- The pieces of code between the parts of expressions have no mark, where marks are at the first words of spans alone: no span begins there.
+-- The pieces of code between the parts of expressions have no mark, if only the first words of spans are marked: no span begins there.
 use Rattle.std.proofs.Common.{◌≡◌, ℕ, zero, suc, ◌+◌, ◌-◌, ◌%◌, ◌<◌, ◌≤◌, ◌⊎◌, inl, inr, List, [], ◌∷◌, ◌++◌, map as each, Bool as Truth, true, false, refl, sym, ap, ◌∙◌, subst, arith}
 use Rattle.std.specs.Prelude.{Contains, codes}
 use Rattle.std.specs.List.{AllByRecursion}
@@ -108,7 +108,7 @@ module _ (marked : ℕ → Truth) where
     abbrev pub AllQuiet : List Span → Type 0
     AllQuiet xs = AllByRecursion (IsQuiet marked s g) xs
 
-    -- of a branch, wherever it begins
+    -- the same for a branch, wherever it begins
     abbrev BranchQuiet : Spanned → Type 0
     BranchQuiet b = (pc : ℕ) → Marked (pc + 16) (pc + sizes b.arm.lines - 4) (b.inside pc) → AllQuiet (b.inside pc)
 

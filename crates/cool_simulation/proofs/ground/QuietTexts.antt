@@ -17,7 +17,7 @@ use Rattle.cool_simulation.specs.Quiet.{IsFree}
 use Rattle.cool_simulation.proofs.ground.QuietRuns.{IsLive, same_run}
 use Rattle.mips_isa.specs.declared.address_map.TheConstants.{TEXT_START}
 
--- What does not speak of the text is said of a world with another text, too.
+-- Statements that do not depend on the text also hold in a world with another text.
 module _ (w : World) (text : List ℕ) where
   abbrev pub over : World
   over = record w { text = text }

@@ -42,7 +42,7 @@ minus_fits (suc k) h = let x : k < 2147483648 = omega arith in grind arith
 pos_fits : (k : ℕ) → k < 2147483648 → fits (pos k) ≡ true
 pos_fits k h = grind arith
 
--- The quotient of the machine is that of the numbers. It fits but for the smallest number by -1.
+-- The quotient of the machine is that of the numbers. It fits, except for the smallest number by -1.
 pub quotient_is : (m n : ℤ) → fits m ≡ true → fits n ≡ true → is_zero n ≡ false → signed_quotient (word_of m) (word_of n) ≡ word_of (int_div m n)
 quotient_is (pos a) (pos b) h k some = quotient_parts (pos a) (pos b) h k
 quotient_is (pos a) (negsuc b) h k some = let x = small_of a h in quotient_parts (pos a) (negsuc b) h k ∙ minus_word (a / suc b) (omega (arith, div-le_self a (suc b)))

@@ -1,4 +1,4 @@
--- Where an expression's code may begin, that of a later one may, too: behind a part, and behind a push.
+-- If a state satisfies the preconditions to run an expression's code, so does the state after a subexpression or a push.
 use Rattle.std.proofs.Common.{◌≡◌, ℕ, ◌+◌, ◌-◌, ◌*◌, ◌<◌, ◌≤◌, ◌⊎◌, inl, inr, List, [], ◌∷◌, length, Option, Some, None, Bool, true, false, sym, subst, arith}
 use Rattle.std.specs.Prelude.{pos, if◌then◌else◌, ◌==◌}
 use Rattle.std.specs.List.{AllByRecursion}
@@ -78,7 +78,7 @@ module _ (l : Loading) where
   pub under_stack : (m : Bytes) (gp sp v : ℕ) → gp + 4 ≤ sp → Same m (set_word m (sp - 4) v) gp sp
   under_stack m gp sp v room = record { below = λ q h. byte_other m (sp - 4) v q (inl (omega arith)); over = λ q h. byte_other m (sp - 4) v q (inr (omega arith)) }
 
--- what a value that is not stuck has with it
+-- properties of a value that is not stuck
 pub fine_value : {A : Type 0} (p : List Class) (made : fitting.World) (n : ℕ) (Q : fitting.World → A → Type 0) (o : Outcome A) (v : A) (t : State) (left : ℕ) → o ≡ Val v t left → NotStuck p made n Q o → IsFine p made n Q v t left
 fine_value p made n Q o v t left e h = subst (NotStuck p made n Q) e h
 

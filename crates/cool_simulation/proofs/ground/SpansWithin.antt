@@ -67,7 +67,7 @@ told_within (b ∷ bs) pc h =
     let pc1 = pc + sizes b.arm.lines in
     two (pc + 16) (pc1 - 4) pc1 (pc1 + sizes (lines_of bs)) pc (pc + sizes (b.arm.lines ++ lines_of bs)) (b.inside pc) (told pc1 bs) (omega arith) (omega arith) (omega arith) (omega arith) (h.0.within pc) (told_within bs pc1 h.1)
 
--- what all branches have, all have with one more that has it
+-- a property of all branches also holds for all with one more that has it
 pub all_put : (P : Spanned → Type 0) (bs : List Spanned) (b : Spanned) → AllByRecursion P bs → P b → AllByRecursion P (with_branch bs b)
 all_put P [] b h k = (k, tt)
 all_put P (a ∷ bs) b h k = by (nat_lt a.arm.depth b.arm.depth) (all_put P bs b h.1 k)

@@ -18,7 +18,7 @@ use Rattle.cool_runtime.proofs.Walking.{walk, walk_more}
 use Rattle.cool_runtime.proofs.Words.{load_eq, store_eq}
 use Rattle.cool_codegen.specs.Pieces.{pop_lines, load_lines, store_lines, take_self_lines, take_void_lines, take_lines, test_lines, turn_lines, repeat_lines}
 
--- what `bne` found
+-- the result of `bne`
 pub is_none : (x z : ℕ) → z ≡ 0 → not (x == z) ≡ false → x ≡ 0
 is_none x z e h = grind arith
 

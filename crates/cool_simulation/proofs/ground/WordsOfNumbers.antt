@@ -21,7 +21,7 @@ signed_by false r small e = (omega arith, grind arith)
 pub signed_word : (n : ℕ) → (word_of (signed n) ≡ n % 4294967296) × (fits (signed n) ≡ true)
 signed_word n = signed_by (nat_lt (n % 4294967296) 2147483648) (n % 4294967296) (omega arith) refl
 
--- digits with the low 32 bits alone
+-- digits with only the low 32 bits
 
 digits_same : (bytes : List ℕ) (n m : ℕ) → m < 4294967296 → n % 4294967296 ≡ m → digits_from n bytes % 4294967296 ≡ machine.digits_from m bytes
 digits_same [] n m small same = same

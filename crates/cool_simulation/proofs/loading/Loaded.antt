@@ -53,7 +53,7 @@ module _ (p : List Class) (files : List (List ℕ)) (b : IsBuildable p files) (l
     pub has_image : HasImage (program_text p files) (program_data p files) (loading top low output left).world
     has_image = record { sound = programs_sound p files b; text_is = refl; place_is = refl; text_end = refl; data_end = refl }
 
-    -- where the strings are texts, which a zero can end
+    -- the case that the strings are texts, which a zero can end
     pub is_loaded : AllByRecursion IsText (program_constants p files).strings → IsLoaded (loading top low output left)
     is_loaded texts = record {
       buildable = b;

@@ -17,7 +17,7 @@ use Rattle.mips_asm.proofs.FirstPasses.{after_both}
 use Rattle.cool_runtime.proofs.LinesOfImages.{text_length}
 use Rattle.cool_runtime.proofs.DataOfImages.{bytes_length}
 
--- where text and data end
+-- the ends of text and data
 
 text_over : (target known : Name → Type 0) (p : Position) (text : List Line) (more bytes : ℕ) → AreText target known text → HasRoom p Text (text_room text + more) bytes → HasRoom (after_lines p text) Text more bytes
 text_over target known p [] more bytes all room = let w = room.words_left in record { in_segment = room.in_segment; words_left = omega arith; bytes_left = room.bytes_left }

@@ -25,7 +25,7 @@ use Rattle.cool_simulation.proofs.loading.LoadedImages.{data_over, bytes_grow, d
 use Rattle.mips_asm.specs.Passes.{after_lines}
 use Rattle.mips_asm.proofs.FirstPasses.{after_both}
 
--- what holds of all lines holds of those of a part
+-- a property of all lines holds for those of a part
 pub all_part : {X : Type 0} (P : X → Type 0) (front part back : List X) → AllByRecursion P (front ++ (part ++ back)) → AllByRecursion P part
 all_part P [] [] back all = tt
 all_part P [] (x ∷ part) back all = (all.0, all_part P [] part back all.1)

@@ -98,7 +98,7 @@ module _ (text items : List Line) (w : World) (g : HasImage text items w) where
   fits_nth zero (item ∷ list) less fit = subst (λ v. v < 4294967296) (value_word w item) fit.0
   fits_nth (suc k) (item ∷ list) less fit = fits_nth k list (omega arith) fit.1
 
-  -- where an object lies
+  -- the addresses of an object
   pub lies_there : (name : Name) (tag size : ℕ) (table : Name) (fields : List WordItem) → size ≡ 3 + length fields → HasObject text items w g name (object_words tag size table fields) → Lies w HEAP_START (w.place name) (4 * size)
   lies_there name tag size table fields long o =
       let to = o.own.to in

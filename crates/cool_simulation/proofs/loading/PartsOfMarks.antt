@@ -31,7 +31,7 @@ free_of marked from to ys marks apart i even low high = by (marked i) refl
         never y (inl less) is = absurd (omega arith)
         never y (inr more) is = absurd (omega arith)
 
--- of a part of the addresses
+-- the marks of a part of the addresses
 pub marks_part : (marked : ℕ → Truth) (from to from' to' : ℕ) (ys : List SpanOf) → from ≤ from' → to' ≤ to → AreMarks marked from to ys → AreMarks marked from' to' ys
 marks_part marked from to from' to' ys a b h i even low high mark = h i even (omega arith) (omega arith) mark
 

@@ -30,7 +30,7 @@ use Rattle.cool_simulation.specs.Quiet.{AreStoresFree, IsFree, IsQuiet, IsQuietI
 use Rattle.cool_simulation.proofs.loading.PartsOfMarks.{AreMarks, AreWithin, EachWithin, along_within, free_of, marks_back, marks_front, marks_part}
 use Rattle.cool_layout.specs.Members.{offset}
 
--- what is in the image of a list is the image of one in it
+-- each item in the image of a list is the image of an item of the list
 pub out_of_image : {X Y : Type 0} (f : X → Y) (xs : List X) (y : Y) → Contains (each f xs) y → (x : X) × Contains xs x × (f x ≡ y)
 out_of_image f [] y (k, less, e) = absurd (omega arith)
 out_of_image f (x ∷ xs) y (zero, less, e) = (x, (0, omega arith, refl), e)
@@ -171,7 +171,7 @@ module _ (p : List Class) (files : List (List ℕ)) (w : World) (marked : ℕ �
         let same : x.from ≡ y.span.from = ap (λ (z : SpanOf). z.span.from) is in
         omega arith
 
-    -- of one attribute
+    -- the same for one attribute
     value_quiet : (k : ℕ) (a : AttributeDef) (o : Option Tree) → slice_get (features_of p c) k ≡ Some (Attribute a) → a.init ≡ o → (pc : ℕ)
         → AreMarks marked pc (pc + sizes (initial_value_code (context_of p files c k) g o)) (each (in_feature k) (initial_value_spans sizes (context_of p files c k) g pc o))
         → IfSome o (λ t. IsFree marked (pc + sizes (code (context_of p files c k) g (attributes_in p c) 0 0 t)) (pc + sizes (initial_value_code (context_of p files c k) g (Some t))))
@@ -193,7 +193,7 @@ module _ (p : List Class) (files : List (List ℕ)) (w : World) (marked : ℕ �
         own : (i : ℕ) (xs : List Span) → (y : SpanOf) × Contains (each (in_feature k) xs) y × (y.span.from ≡ i) → (x : Span) × Contains xs x × (x.from ≡ i)
         own i xs (y, h, e) = let (x, among, is) = out_of_image (in_feature k) xs y h in (x, among, ap (λ (z : SpanOf). z.span.from) is ∙ e)
 
-    -- what is known of the attributes that are left
+    -- facts about the attributes that are left
     abbrev AreThere : List Placed → Type 0
     AreThere fs = (f : Placed) → Contains fs f → slice_get (features_of p c) f.place ≡ Some f.feature
 

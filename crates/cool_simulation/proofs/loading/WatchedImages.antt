@@ -29,7 +29,7 @@ use Rattle.cool_simulation.proofs.loading.QuietFeatures.{IsSettled, out_of_image
 use Rattle.cool_simulation.proofs.loading.QuietPrograms.{initializer_quiet, method_quiet, routines_free}
 use Rattle.cool_runtime.specs.Instructions.{label}
 
--- where the spans of the program begin
+-- the addresses at which the spans of the program begin
 abbrev pub froms : List Class → List (List ℕ) → List ℕ
 froms p files = each (λ (x : SpanOf). x.span.from) (program_spans sizes p files TEXT_START)
 

@@ -1,4 +1,4 @@
--- What calls begin is shown, by induction on the steps: a call of a program runs a body or initial values, whose own calls have fewer steps.
+-- `Shown` for calls, by induction on the steps: a call of a program runs a body or initial values, whose own calls have fewer steps.
 use Rattle.std.proofs.Common.{ℕ, zero, suc, ◌<◌, subst, arith, ◌≡◌, None}
 use Rattle.cool_syntax.specs.declared.file_tree.Feature.TheVariants.{Method, Attribute}
 use Rattle.cool_syntax.specs.Tree.{Tree}

@@ -1,4 +1,4 @@
--- What arguments begin is shown: each behind the push of the one before it.
+-- `Shown` for arguments: the machine reaches each argument after the push of the one before it.
 use Rattle.std.proofs.Common.{ℕ, ◌+◌, ◌-◌, ◌≤◌, List, [], ◌∷◌, ◌++◌, refl, arith, ◌≡◌, None}
 use Rattle.std.specs.Prelude.{Contains}
 use Rattle.std.proofs.lemmas.List.Elements.{Contains-append_left, Contains-append_right}
@@ -40,7 +40,7 @@ use Rattle.cool_simulation.proofs.shown.PartsShown.{comes_behind_part, part_code
 module _ (l : Loading) (loaded : IsLoaded l) (none : l.watch ≡ None) (calls : Calls) (begun_in : Call → Visits) (b : ℕ) (sound : AllCallsSound l.table calls b) (later : CallsLater calls) (c : ClassId) (f : ℕ) (k : ClassId) (self : Value)
     (scope : List Binding) (vs : List Named) (env : Environment) (d0 first pc : ℕ) (whole : Tree) (code_at : CodeAt l c f vs d0 first pc whole)
     (among : (y : Span) → Contains (spans sizes (context l c f) (constants l) vs d0 first pc whole) y → IsSpan l c f y) where
-  -- what is done with a first argument
+  -- the computation after a first argument
   abbrev F : Trees → Value → Computation (List Value)
   F ts v = holding 1 (eval_all l.table calls self env ts >>= λ us. give (v ∷ us))
 

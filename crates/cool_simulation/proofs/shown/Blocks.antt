@@ -1,4 +1,4 @@
--- What a block begins is shown: each item behind the one before it.
+-- `Shown` for a block: the machine reaches each item after the one before it.
 use Rattle.std.proofs.Common.{ℕ, ◌+◌, ◌≤◌, List, refl, arith, ◌≡◌, None}
 use Rattle.std.specs.Prelude.{Contains}
 use Rattle.std.proofs.lemmas.List.Elements.{Contains-append_left, Contains-append_right}
@@ -31,7 +31,7 @@ use Rattle.cool_simulation.proofs.shown.Comings.{Ample, ample_ruled, ample_then,
 use Rattle.cool_simulation.proofs.shown.PartsShown.{ample_of, comes_behind_part, own_shown, part_code, part_shown}
 use Rattle.cool_simulation.proofs.ground.CodeOfParts.{in_rest}
 
--- what each of some expressions begins is shown
+-- `Shown` for each of some expressions
 abbrev pub EachShown : Loading → Calls → (Call → Visits) → ℕ → Trees → Type 0
 EachShown l calls begun_in b Last = Unit {0}
 EachShown l calls begun_in b (More t ts) = AllShown l calls begun_in b t × EachShown l calls begun_in b ts

@@ -1,4 +1,4 @@
--- What a call of a method begins is shown: its body, behind the entry.
+-- `Shown` for a call of a method: the machine reaches its body after the entry.
 use Rattle.std.proofs.Common.{◌≡◌, ℕ, ◌+◌, ◌<◌, ◌≤◌, inl, List, ◌++◌, map as each, length, Option, Some, refl, subst, arith, None}
 use Rattle.std.specs.Prelude.{Contains, slice_get}
 use Rattle.mips_isa.specs.Bytes.{Bytes}

@@ -1,4 +1,4 @@
--- What a call by a dispatch begins is shown: from where the receiver and the arguments are, the machine comes to the entry of the method.
+-- `Shown` for a call by a dispatch: once the receiver and the arguments are evaluated, the machine reaches the entry of the method.
 use Rattle.std.proofs.Common.{◌≡◌, ℕ, zero, suc, ◌<◌, ◌≤◌, List, length, map as each, Option, Some, None, refl, arith}
 use Rattle.mips_isa.specs.Bytes.{Bytes}
 use Rattle.mips_isa.specs.Calls.{State as Machine}
@@ -29,7 +29,7 @@ use Rattle.cool_simulation.proofs.shown.Comings.{Ample, ample_as, comes_behind, 
 use Rattle.cool_simulation.specs.Simulation.{Shown}
 
 module _ (l : Loading) where
-  -- what is begun behind the class of a value, and the room that it has
+  -- the visits after the class of a value, and the room for them
   pub class_behind : (e : Error) (v : Value) (V : ClassId → Visits) (G : ClassId → Computation Value) (q : Pointers) (a : ℕ) (st : State) (n : ℕ) (x : Visit) → behind (class_or e v) V st n x → Ample l q a ((class_or e v >>= G) st n)
       → (j : ClassId) × (class_of v ≡ Some j) × V j st n x × Ample l q a (G j st n)
   class_behind e Void V G q a st n x h ample = absurd (value_behind (class_or e Void) V st n x h)

@@ -1,4 +1,4 @@
--- What the branch of a case begins that evaluation takes.
+-- `Shown` for the branch of a case that evaluation takes.
 use Rattle.std.proofs.Common.{◌≡◌, inl, inr, ℕ, ◌+◌, List, ◌∷◌, Option, Some, None, Bool as Truth, ap, ◌∙◌, refl}
 use Rattle.std.specs.Prelude.{if◌then◌else◌}
 use Rattle.cool_syntax.specs.Tree.{Cases, NoCase, CaseOf, tree_size}
@@ -14,13 +14,13 @@ use Rattle.cool_simulation.proofs.forms.BranchOrder.{Entry}
 use Rattle.cool_simulation.proofs.shown.Comings.{value_behind}
 use Rattle.cool_simulation.proofs.forms.NamedBranches.{entry_named}
 
--- what is begun behind what is given
+-- the visits after a given value
 pub given_behind : {A : Type 0} (o : Option A) (V : A → Visits) (st : State) (n : ℕ) (x : Visit) → behind (given o) V st n x → (a : A) × (o ≡ Some a) × V a st n x
 given_behind None V st n x h = absurd (value_behind (given None) V st n x h)
 given_behind (Some a) V st n x h = (a, refl, value_behind (given (Some a)) V st n x h)
 
 module _ (p : List Class) (c : ClassId) (calls : Calls) (begun_in : Call → Visits) where
-  -- what a branch begins is what the body of that entry does
+  -- visits of a branch are visits of that entry's body
   pub entry_begun : (d : ClassId) (f : ℕ) (self : Value) (env : Environment) (k : ℕ) (v : Value) (name : List ℕ) (cs : Cases) (st : State) (n : ℕ) (x : Visit)
       → branch_begun p calls begun_in d f self env k v name cs st n x
       → (e : Entry) × (entry_named p c k cs name ≡ Some e) × behind (locate v) (λ i. begun p calls begun_in d f self (record { name = e.name; location = i } ∷ env) e.first e.tree) st n x

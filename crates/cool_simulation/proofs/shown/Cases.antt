@@ -1,4 +1,4 @@
--- What a case begins is shown: its value, and behind it the body of the branch that is taken.
+-- `Shown` for a case: the machine reaches its value, and then the body of the branch that is taken.
 use Rattle.std.proofs.Common.{◌≡◌, ℕ, ◌+◌, ◌-◌, ◌*◌, ◌<◌, List, [], ◌∷◌, ◌++◌, length, get_or, Option, Some, ap, sym, ◌∙◌, refl, subst, arith, None}
 use Rattle.std.specs.Prelude.{Contains}
 use Rattle.std.specs.List.{AllByRecursion}
@@ -50,7 +50,7 @@ use Rattle.cool_simulation.proofs.shown.PartsShown.{ample_of, comes_behind_part,
 use Rattle.cool_simulation.proofs.forms.CasePieces.{end_of, sorted, tests_at, told_inside}
 use Rattle.cool_simulation.proofs.forms.NamedBranches.{chosen}
 
--- what the bodies of branches begin is shown
+-- `Shown` for the bodies of branches
 abbrev pub BodiesShown : Loading → Calls → (Call → Visits) → ℕ → Cases → Type 0
 BodiesShown l calls begun_in b NoCase = Unit {0}
 BodiesShown l calls begun_in b (CaseOf at name declared t cs) = AllShown l calls begun_in b t × BodiesShown l calls begun_in b cs

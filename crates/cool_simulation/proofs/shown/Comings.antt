@@ -15,19 +15,19 @@ use Rattle.cool_simulation.specs.Visits.{Visit, Visits, behind}
 use Rattle.cool_simulation.proofs.ground.PartsOfRuns.{part_room, rest_room, room_rest}
 use Rattle.cool_simulation.proofs.ground.Passages.{plain}
 
--- by one way or by the other
+-- a proof by two cases
 pub cases : {A B C : Type 0} → A ⊎ B → (A → C) → (B → C) → C
 cases (inl a) f g = f a
 cases (inr b) f g = g b
 
--- what holds of a value that an outcome has
+-- a property of the value of an outcome
 abbrev pub on_value : {A : Type 0} → (A → State → ℕ → Type 0) → Outcome A → Type 0
 on_value P (Val v t left) = P v t left
 on_value P (Stop e t) = ⊥
 on_value P (On t) = ⊥
 on_value P Stuck = ⊥
 
--- what is begun behind a computation is begun behind its value
+-- visits after a computation are visits after its value
 pub value_behind : {A : Type 0} (d : Computation A) (V : A → Visits) (st : State) (n : ℕ) (x : Visit) → behind d V st n x → on_value (λ v t left. V v t left x) (d st n).outcome
 value_behind d V st n x (v, t, left, e, h) = subst (λ o. on_value (λ v t left. V v t left x) o) (sym e) h
 
@@ -63,15 +63,15 @@ module _ (l : Loading) where
     pub room : Room l q besides r
     pub alive : r.outcome ≡ Stuck → ⊥
 
-  -- of a rule's premises
+  -- the room of a rule's premises
   pub ample_ruled : {A : Type 0} (q : Pointers) (besides : ℕ) (r : Metered A) → Ample q besides (record { outcome = r.outcome; work = 1 + r.work; words = r.words; peak = 1 + r.peak }) → Ample q (besides + 16) r
   ample_ruled q besides r h = record { room = let heap = h.room.heap in let stack = h.room.stack in record { heap = omega arith; stack = omega arith; way = h.room.way }; alive = h.alive }
 
-  -- of what takes no more
+  -- the room of a computation that takes no more
   pub ample_less : {A : Type 0} (q q' : Pointers) (a b : ℕ) (r : Metered A) → q'.gp ≤ q.gp → q.sp + b ≤ q'.sp + a → Ample q a r → Ample q' b r
   ample_less q q' a b r used pushed h = record { room = let heap = h.room.heap in let stack = h.room.stack in record { heap = omega arith; stack = omega arith; way = h.room.way }; alive = h.alive }
 
-  -- of the part that comes first
+  -- the room of the part that comes first
   pub room_first : {A B : Type 0} (r : Metered A) (F : A → Computation B) (q : Pointers) (besides : ℕ) → ((v : A) (t : State) (left : ℕ) → After t (F v t left).outcome) → Ample q besides (seq r F) → Room l q 0 r
   room_first r F q besides later h =
       let room = part_room l r.outcome r.work r.words r.peak F q besides later h.alive h.room in
@@ -87,7 +87,7 @@ module _ (l : Loading) where
       by : ((seq_of (Val v t left) wk ws pk F).outcome ≡ Stuck → ⊥) → (F v t left).outcome ≡ Stuck → ⊥
       by h = h
 
-  -- of what follows it, where the heap was used up to gp and words were pushed
+  -- the room of the computation after it, if the heap was used up to gp and words were pushed
   pub ample_then : {A B : Type 0} (r : Metered A) (F : A → Computation B) (q q' : Pointers) (a b : ℕ) (v : A) (t : State) (left : ℕ) → r.outcome ≡ Val v t left → Ample q a (seq r F) → q'.gp ≤ q.gp + 4 * r.words
       → q.sp + b ≤ q'.sp + a → Ample q' b (F v t left)
   ample_then r F q q' a b v t left e h used pushed = record {
@@ -95,7 +95,7 @@ module _ (l : Loading) where
     alive = still_alive r.outcome r.work r.words r.peak F v t left e h.alive;
   }
 
-  -- of the same outcome with meters no greater
+  -- the room of the same outcome with meters no greater
   pub ample_as : {A : Type 0} (q q' : Pointers) (a b : ℕ) (r r' : Metered A) → r.outcome ≡ r'.outcome → r'.words ≤ r.words → r'.peak ≤ r.peak → q'.gp ≤ q.gp → q.sp + b ≤ q'.sp + a → Ample q a r → Ample q' b r'
   ample_as q q' a b r r' same words peak used pushed h = record {
     room = let heap = h.room.heap in let stack = h.room.stack in record { heap = omega arith; stack = omega arith; way = subst (λ o. Way l o) same h.room.way };
@@ -106,6 +106,6 @@ module _ (l : Loading) where
   pub ample_held : {A : Type 0} (q q' : Pointers) (a held b : ℕ) (r : Metered A) → q'.gp ≤ q.gp → q.sp + b ≤ q'.sp + a + 16 * held → Ample q a (record { outcome = r.outcome; work = r.work; words = r.words; peak = held + r.peak }) → Ample q' b r
   ample_held q q' a held b r used pushed h = record { room = let heap = h.room.heap in let stack = h.room.stack in record { heap = omega arith; stack = omega arith; way = h.room.way }; alive = h.alive }
 
-  -- of the part that comes first, besides as much
+  -- the room of the part that comes first, with as much besides
   pub ample_first : {A B : Type 0} (r : Metered A) (F : A → Computation B) (q : Pointers) (besides : ℕ) → ((v : A) (t : State) (left : ℕ) → After t (F v t left).outcome) → Ample q besides (seq r F) → Ample q besides r
   ample_first r F q besides later h = record { room = part_room l r.outcome r.work r.words r.peak F q besides later h.alive h.room; alive = λ e. h.alive (stuck_first r.outcome r.work r.words r.peak F e) }

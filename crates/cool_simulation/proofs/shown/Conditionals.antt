@@ -1,4 +1,4 @@
--- What `if` begins is shown: the test, and behind it the branch that is taken.
+-- `Shown` for `if`: the machine reaches the test, and then the branch that is taken.
 use Rattle.std.proofs.Common.{◌≡◌, ℕ, ◌+◌, List, ◌++◌, refl, subst, arith, None}
 use Rattle.std.specs.Prelude.{Bool as Truth, true, false, codes, if◌then◌else◌}
 use Rattle.std.proofs.lemmas.List.Elements.{Contains-append_left, Contains-append_right}

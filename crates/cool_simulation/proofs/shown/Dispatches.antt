@@ -1,4 +1,4 @@
--- What dispatch and static dispatch begin is shown: the arguments, behind them the receiver, and behind it the method that is called.
+-- `Shown` for dispatch and static dispatch: the machine reaches the arguments, then the receiver, and then the method that is called.
 use Rattle.std.proofs.Common.{◌≡◌, ℕ, ◌+◌, ◌-◌, ◌*◌, ◌<◌, ◌≤◌, List, ◌++◌, ◌⊎◌, length, map as each, Option, Some, refl, ap, ◌∙◌, subst, arith, None}
 use Rattle.std.specs.Prelude.{Contains, pos, unwrap_or}
 use Rattle.std.proofs.lemmas.List.Elements.{Contains-append_left, Contains-append_right}
@@ -71,7 +71,7 @@ use Rattle.cool_simulation.proofs.ground.CodeOfParts.{in_rest}
 use Rattle.cool_simulation.proofs.ground.Passages.{plain_lines, unwatched}
 
 module _ (l : Loading) (loaded : IsLoaded l) (none : l.watch ≡ None) (calls : Calls) (begun_in : Call → Visits) (b : ℕ) (sound : AllCallsSound l.table calls b) (later : CallsLater calls) where
-  -- what the call begins, from where the machine stands behind the receiver's code
+  -- `Shown` for the call, from the state after the receiver's code
   abbrev CallShown : ClassId → ClassId → Value → List Binding → Environment → Pointers → ℕ → Ty → List Ty → (List Value → Value → ClassId → Computation Value) → (List Value → Value → ClassId → Visits) → Type 0
   CallShown c k self scope env q pc2 receiver given' G V =
       (args : List Value) (v : Value) (j : ClassId) (made : fitting.World) (gp acc ra : ℕ) (m : Bytes) (map : Map) (console : Console) (st : State) (s : Machine) (n : ℕ) (x : Visit)

@@ -1,4 +1,4 @@
--- What each expression begins is shown, where what calls with fewer steps begin is.
+-- `Shown` for each form of expression, assuming it for calls with fewer steps.
 use Rattle.std.proofs.Common.{ℕ, ◌≡◌, None}
 use Rattle.cool_syntax.specs.Tree.{Tree, Trees, Cases, Last, More, Without, With, NoCase, CaseOf}
 use Rattle.cool_syntax.specs.Tree as trees

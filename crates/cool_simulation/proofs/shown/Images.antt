@@ -1,4 +1,4 @@
--- What runs of the source begin is shown by the machine of the program's image.
+-- `Shown` for the machine of a program's image: it reaches each expression that a run of the source begins.
 use Rattle.std.proofs.Common.{◌≡◌, ℕ, ◌+◌, ◌-◌, ◌*◌, ◌<◌, ◌⊎◌, inl, inr, [], refl, sym, subst, arith, append-nil, None}
 use Rattle.mips_isa.specs.declared.address_map.TheConstants.{HEAP_START, STACK_END}
 use Rattle.mips_isa.specs.Bytes.{Segments, bytes_of_image}
@@ -28,7 +28,7 @@ programs_shown p names written w m loaded input q map console s n x starts room 
     let l : Loading = record { table = p; files = names; world = w; memory = m; watch = None } in
     program_shown l loaded refl n (all_calls_correct l loaded written n) (all_calls_shown l loaded refl written n) input q map console s starts room x visit
 
--- where the machine stands at a visit, or by which limit it ended
+-- the machine's state at a visit, or the limit by which it ended
 after : (w : World) (s : Machine) (lo m : ℕ) (P : Machine → Type 0) (o : Outcome) → machine.run w.text w.segments m s ≡ o → Ends w lo (stands P) m o
     → ((t : Machine) × (machine.run w.text w.segments m s ≡ Running t) × P t) ⊎ ((code : ℕ) × (t : Machine) × (machine.run w.text w.segments m s ≡ Exited code t) × Limited w code t)
 after w s lo m P (Running t) is h = inl (t, is, h.1)

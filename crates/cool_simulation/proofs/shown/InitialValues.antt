@@ -1,4 +1,4 @@
--- What the initial values of a class's own attributes begin is shown, one after another.
+-- `Shown` for the initial values of a class's own attributes, one after another.
 use Rattle.std.proofs.Common.{◌≡◌, ℕ, zero, suc, ◌+◌, ◌*◌, ◌<◌, ◌≤◌, ◌⊎◌, inr, List, [], ◌∷◌, ◌++◌, map as each, length, get_or, Option, Some, None, sym, ◌∙◌, ap, refl, subst, arith, append_assoc}
 use Rattle.std.specs.Prelude.{Contains, slice_get, IfSome}
 use Rattle.std.proofs.lemmas.List.Elements.{Contains-append_left, Contains-append_right}
@@ -51,7 +51,7 @@ use Rattle.cool_simulation.proofs.ground.NoMarks.{plain_placed, plain_free}
 use Rattle.cool_simulation.specs.Quiet.{IsFree}
 use Rattle.cool_codegen.specs.Code.{code}
 
--- what is in a list is in its image
+-- the image of a list contains the image of each item
 pub in_image : {X Y : Type 0} (f : X → Y) (xs : List X) (x : X) → Contains xs x → Contains (each f xs) (f x)
 in_image f [] x (k, less, e) = absurd (omega arith)
 in_image f (y ∷ xs) x (zero, less, e) = (0, omega arith, ap f e)
@@ -67,7 +67,7 @@ module _ (l : Loading) (loaded : IsLoaded l) (none : l.watch ≡ None) (calls : 
       (y : SpanOf) → Contains (along sizes (placed_code l.table l.files (constants l) c) (placed_spans sizes l.table l.files (constants l) c) pc (attributes_from j fs)) y
       → Contains (initializer_spans sizes l.table l.files (constants l) (l.world.place (initializer l.table c)) c) y
 
-  -- what these features' initial values begin, from any machine inside the frame
+  -- `Shown` for these features' initial values, from any machine inside the frame
   abbrev pub PartsShown : ℕ → List Feature → List AttributeRef → List AttributeRef → List ℕ → Type 0
   PartsShown j fs front more ls =
       (made : fitting.World) (q : Pointers) (m : Bytes) (map : Map) (console : Console) (st : State) (s : Machine) (n : ℕ) (x : Visit) → n ≤ b → Inside l k self made q m map console st s

@@ -1,4 +1,4 @@
--- What an initializer begins is shown: the initial values of the class above, and behind its initializer those of the class itself.
+-- `Shown` for an initializer: the machine reaches the initial values of the parent class, and after its initializer those of the class itself.
 use Rattle.std.proofs.Common.{◌≡◌, ◌⊎◌, inl, inr, ℕ, zero, suc, ◌+◌, ◌*◌, ◌<◌, ◌≤◌, List, [], ◌∷◌, ◌++◌, length, Option, Some, None, Bool as Truth, ap, sym, ◌∙◌, refl, subst, arith}
 use Rattle.std.specs.Prelude.{Contains, drop, if◌then◌else◌, slice_get}
 use Rattle.std.proofs.lemmas.Bool.{le-ltb}
@@ -47,7 +47,7 @@ use Rattle.cool_simulation.proofs.shown.Comings.{Ample, ample_as, ample_first, a
 use Rattle.cool_simulation.proofs.shown.InitialValues.{parts_shown}
 use Rattle.cool_simulation.proofs.ground.Passages.{unwatched}
 
--- what attributes begin is what those in front begin, or behind these the others
+-- visits of attributes are visits of those in front, or after these of the others
 split_begun : (p : List Class) (calls : Calls) (begun_in : Call → Visits) (self : Value) (rs rs' : List AttributeRef) (ls : List ℕ) (st : State) (n : ℕ) (x : Visit) → initials_begun p calls begun_in self (rs ++ rs') ls st n x
     → initials_begun p calls begun_in self rs ls st n x ⊎ behind (run_initials p calls self rs ls) (λ v. initials_begun p calls begun_in self rs' (drop (length rs) ls)) st n x
 split_begun p calls begun_in self [] rs' ls st n x h = inr (self, st, n, refl, h)
@@ -66,7 +66,7 @@ split_begun p calls begun_in self (r ∷ rs) rs' (i ∷ ls) st n x (inr (u, t, l
 module _ (l : Loading) (loaded : IsLoaded l) (none : l.watch ≡ None) (calls : Calls) (begun_in : Call → Visits) (b : ℕ) (later : CallsLater calls) (sound : AllCallsSound l.table calls b) (IsGood : Tree → Type 0)
     (forms : (t : Tree) → IsGood t → Correct l calls begun_in b t) (shown : (t : Tree) → IsGood t → AllShown l calls begun_in b t)
     (goods : (c : ClassId) (j : ℕ) (a : AttributeDef) (t : Tree) → c.0 < length l.table → slice_get (features_of l.table c) j ≡ Some (Attribute a) → a.init ≡ Some t → IsGood t) where
-  -- what the initializer of a class begins is shown
+  -- `Shown` for the initializer of a class
   abbrev InitializerShown : ClassId → Type 0
   InitializerShown c =
       (self : Value) (k : ClassId) (made : fitting.World) (q : Pointers) (m : Bytes) (map : Map) (console : Console) (st : State) (s : Machine) (n : ℕ) (x : Visit) → n ≤ b → Below l.table k c

@@ -1,4 +1,4 @@
--- What `let` begins is shown: the initial value where there is one, and behind the push of the value the body.
+-- `Shown` for `let`: the machine reaches the initial value if there is one, and after the push of the value the body.
 use Rattle.std.proofs.Common.{◌≡◌, ℕ, ◌+◌, ◌-◌, ◌<◌, ◌≤◌, List, [], ◌∷◌, ◌++◌, length, refl, sym, subst, arith, None}
 use Rattle.std.specs.Prelude.{Contains}
 use Rattle.std.proofs.lemmas.List.Elements.{Contains-append_left, Contains-append_right}

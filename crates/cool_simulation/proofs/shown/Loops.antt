@@ -1,4 +1,4 @@
--- What `while` begins is shown: in each turn the test, and where it holds, the body.
+-- `Shown` for `while`: the machine reaches the test in each iteration, and the body if the test is true.
 use Rattle.std.proofs.Common.{◌≡◌, ℕ, zero, suc, ◌+◌, ◌≤◌, List, ◌++◌, refl, subst, arith, None}
 use Rattle.std.specs.Prelude.{Bool as Truth, true, codes, if◌then◌else◌, Contains}
 use Rattle.std.proofs.lemmas.List.Elements.{Contains-append_left, Contains-append_right}
@@ -78,7 +78,7 @@ module _ (l : Loading) (loaded : IsLoaded l) (none : l.watch ≡ None) (calls : 
     module _ (in_test : (y : Span) → Contains (spans sizes (context l c f) (constants l) vs d first pc test) y → Contains (spans sizes (context l c f) (constants l) vs d first pc whole) y)
         (in_body : (y : Span) → Contains (spans sizes (context l c f) (constants l) vs d (first + tree_size test) pc2 body) y → Contains (spans sizes (context l c f) (constants l) vs d first pc whole) y)
         (tests : HasLines l.world pc1 (test_lines end)) (ends : HasLines l.world pc3 (repeat_lines begin end)) (at_begin : l.world.place begin ≡ pc) where
-      -- of so many turns at most, from a state at the begin of the loop
+      -- `Shown` for at most so many iterations, from a state at the begin of the loop
       abbrev TurnsShown : ℕ → Type 0
       TurnsShown j =
           (made : fitting.World) (q : Pointers) (m : Bytes) (map : Map) (console : Console) (st : State) (s : Machine) (n : ℕ) (x : Visit) → n ≤ b → Begins l c k self scope vs env made d (record q { pc = pc }) m map console st s

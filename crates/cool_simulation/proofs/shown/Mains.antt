@@ -1,4 +1,4 @@
--- What the run of a loaded program begins is shown: the initial values of the new Main, and then what `main` begins.
+-- `Shown` for the run of a loaded program: the machine reaches the initial values of the new Main, and then the body of `main`.
 use Rattle.std.proofs.Common.{◌≡◌, ℕ, zero, suc, ◌+◌, ◌*◌, List, [], length, Option, Some, sym, ap, ◌∙◌, refl, subst, arith, None}
 use Rattle.std.specs.Prelude.{codes, max}
 use Rattle.mips_isa.specs.Calls.{State as Machine}
@@ -40,7 +40,7 @@ module _ (l : Loading) (is : IsLoaded l) (none : l.watch ≡ None) (n : ℕ) (co
   abbrev object : Value
   object = main.object l is n correct input q map console s starts
 
-  -- behind the new object: what `main` begins
+  -- `Shown` for `main`, after the new object
   main_shown : (t : State) (left : ℕ) (u : Machine) (d : Done l (record q { pc = q.pc + 16 }) l.memory map (start input) (make l.table (calls_within l.table n) (Some class) (start input) n).words object t u)
       (fine : IsFine l.table [] n (λ w y. Fits l.table w y class) object t left) (x : Visit) → Ample l (record q { gp = d.gp }) 12 (main.after_new l is n correct object t left)
       → behind_step (called_begun l.table (calls_within l.table n) (begun_within l.table n) object [] (implementation l.table (chain l.table class) (codes "main"))) t left x → Comes l.world u (Shown l x)

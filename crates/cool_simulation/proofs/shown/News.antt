@@ -1,4 +1,4 @@
--- What `new` begins is shown: the initial values of the new object, behind the copy of its prototype.
+-- `Shown` for `new`: the machine reaches the initial values of the new object after the copy of its prototype.
 use Rattle.std.proofs.Common.{◌≡◌, ◌≢◌, ℕ, zero, suc, ◌+◌, ◌*◌, ◌<◌, ◌≤◌, List, ◌++◌, length, Option, Some, sym, ap, ◌∙◌, refl, subst, arith, None}
 use Rattle.std.specs.Prelude.{Bool as Truth, if◌then◌else◌}
 use Rattle.mips_isa.specs.Bytes.{Bytes}
@@ -58,7 +58,7 @@ unfolding outcome_with
 with_stuck v o e = ap (outcome_with v) e
 
 module _ (l : Loading) (is : IsLoaded l) (none : l.watch ≡ None) (calls : Calls) (begun_in : Call → Visits) (b : ℕ) (correct : AllCallsCorrect l calls begun_in b) (later : CallsLater calls) (shown : AllCallsShown l calls begun_in b) where
-  -- what a new object of a class begins
+  -- the visits of a new object of a class
   abbrev begun_by : ClassId → Visits
   begun_by c = behind_step (behind (locate_all (default_values l.table (attributes l.table c))) (λ ls. behind draw (λ i. begun_in (Initials c (Obj c i ls)))))
 

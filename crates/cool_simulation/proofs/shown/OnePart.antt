@@ -1,4 +1,4 @@
--- What expressions with one part, or with none, begin is shown.
+-- `Shown` for expressions with one part, or with none.
 use Rattle.std.proofs.Common.{ℕ, ◌≤◌, List, refl, arith, ◌≡◌, None}
 use Rattle.std.specs.Prelude.{Bool as Truth, not, neg_ℤ, Contains}
 use Rattle.cool_syntax.specs.declared.place.Place.{Place}
@@ -31,7 +31,7 @@ use Rattle.cool_simulation.proofs.shown.PartsShown.{ample_of, own_shown, part_sh
 use Rattle.cool_simulation.proofs.ground.CodeOfParts.{in_rest}
 
 module _ (l : Loading) (loaded : IsLoaded l) (none : l.watch ≡ None) (calls : Calls) (begun_in : Call → Visits) (b : ℕ) (sound : AllCallsSound l.table calls b) where
-  -- of an expression whose part stands first
+  -- `Shown` for an expression whose part is first
   pub first_shown : (whole t : Tree) (F : Value → Computation Value) → ((v : Value) → ComesLater (F v)) → AllShown l calls begun_in b t → (c : ClassId) (f : ℕ) (k : ClassId) (self : Value) (scope : List Binding) (vs : List Named)
       (env : Environment) (made : fitting.World) (d first : ℕ) (q : Pointers) (m : Bytes) (map : Map) (console : Console) (st : State) (s : Machine) (n : ℕ) (type : Ty) (x : Visit) → n ≤ b
       → Begins l c k self scope vs env made d q m map console st s → HasType l.table c scope t type → CodeAt l c f vs d first q.pc whole → Ample l q 0 (rule (eval l.table calls self env t >>= F) st n)

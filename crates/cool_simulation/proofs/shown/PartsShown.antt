@@ -1,4 +1,4 @@
--- What an expression begins: itself, where the machine stands, and what its parts begin, from where they do.
+-- The expressions that an expression begins: itself, where the machine stands, and those that its parts begin, from where they begin.
 use Rattle.std.proofs.Common.{◌≡◌, ℕ, ◌+◌, ◌-◌, ◌*◌, ◌≤◌, List, refl, sym, subst, None}
 use Rattle.std.specs.Prelude.{Contains}
 use Rattle.mips_isa.specs.Bytes.{Bytes}
@@ -63,7 +63,7 @@ module _ (l : Loading) (loaded : IsLoaded l) (none : l.watch ≡ None) (calls : 
         ((eval_sound l.table loaded.buildable.typed calls b sound c k self t made scope env type begins.scene has).sound st n less begins.fits);
   }
 
-  -- behind a part that comes to a value
+  -- the state after a part that comes to a value
   pub comes_behind_part : (t : Tree) (type : Ty) (Q : Machine → Type 0) (v : Value) (t1 : State) (left : ℕ) → Correct l calls begun_in b t → HasType l.table c scope t type → CodeAt l c f vs d first q.pc t
       → Room l q 0 (eval l.table calls self env t st n) → (eval l.table calls self env t st n).outcome ≡ Val v t1 left
       → ((u : Machine) → (j : Done l (record q { pc = q.pc + sizes (code (context l c f) (constants l) vs d first t) }) m map st (eval l.table calls self env t st n).words v t1 u)

@@ -30,7 +30,7 @@ use Rattle.cool_simulation.specs.Simulation.{IsSpan}
 use Rattle.cool_simulation.proofs.ground.CodeOfParts.{in_rest}
 
 module _ (l : Loading) where
-  -- where one of the parts stands that stand one behind the other, with what is told of it
+  -- the position of one of several consecutive parts, with its rows
   part_stands : {X Y : Type 0} (code : X → List Line) (inside : ℕ → X → List Y) (xs : List X) (x : X) (pc : ℕ) → HasLines l.world pc (flat_map code xs) → Contains xs x
       → (pc' : ℕ) × HasLines l.world pc' (code x) × ((y : Y) → Contains (inside pc' x) y → Contains (along sizes code inside pc xs) y)
   part_stands code inside [] x pc has (k, less, is) = absurd (omega arith)

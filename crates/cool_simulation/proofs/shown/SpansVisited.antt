@@ -1,5 +1,6 @@
--- What stands on the way of the machine of an image is visited by the runs of the source: wherever it comes to the first word of a row of the table of code, it pictures
--- an expression that the run begins. The world of the proof is to reach as far as the run needs, whatever the limits are: where they are less, the way ends by one.
+-- The converse of `Shown`: wherever the machine of an image comes to the first word of a row of the table of code, it pictures an expression that the run
+-- of the source begins. In the proof, heap and stack of the world are as large as the run needs. If the limits are smaller, the run of the machine ends by
+-- a limit.
 use Rattle.std.proofs.Common.{[], refl, sym, subst, arith, append-nil, None, ◌≡◌, ℕ, ◌+◌, ◌-◌, ◌*◌, ◌<◌, ◌≤◌, ◌⊎◌, inl, inr, Some, ap, ◌∙◌, List, true}
 use Rattle.mips_isa.specs.Bytes.{Segments, bytes_of_image}
 use Rattle.mips_isa.specs.ImageBounds.{ImageParts}
@@ -66,7 +67,7 @@ module _ (l : Loading) (s t : Machine) (count : ℕ) (there : machine.run (whole
   pictured_by : (lo hi : ℕ) (goal : Goal) → Passes l s lo hi goal → ((u : Machine) → goal (Running u) → count < lo) → Pictured
   pictured_by lo hi goal h early = h.visits count t (before_end (whole l) lo count h.reaches.count goal s t (machine.run (whole_loaded_text l) l.world.segments h.reaches.count s) refl h.reaches.ends there early) there mark
 
-  -- where the run of the source has more steps than that
+  -- the case that the run of the source has more steps than that
   pictured : (n most : ℕ) (output left : List ℕ) (e : End) → count < n → (e ≡ IsStuck → ⊥) → PassesTo l s n most output left e → Pictured
   pictured n most output left source_run.Done less some h = pictured_by 0 most _ h (λ u k. absurd k)
   pictured n most output left (Failed x) less some h = pictured_by 0 most _ h (λ u k. absurd k)

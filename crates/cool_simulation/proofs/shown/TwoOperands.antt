@@ -1,4 +1,4 @@
--- What expressions with two operands begin is shown: the first operand, and behind the push of its value the second.
+-- `Shown` for expressions with two operands: the machine reaches the first operand, and after the push of its value the second.
 use Rattle.std.proofs.Common.{ℕ, ◌+◌, ◌-◌, ◌≤◌, List, ◌++◌, ◌⊎◌, refl, arith, ◌≡◌, None}
 use Rattle.std.specs.Prelude.{Contains}
 use Rattle.std.proofs.lemmas.List.Elements.{Contains-append_left, Contains-append_right}

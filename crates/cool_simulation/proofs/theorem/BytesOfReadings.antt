@@ -1,4 +1,4 @@
--- Where the tokens of a concrete tree have bytes as their strings, so does its plain form.
+-- If the strings in the tokens of a concrete tree are bytes, so are those of its plain form.
 use Rattle.std.proofs.Common.{List, [], ◌∷◌, ◌++◌, true, false, sym, subst}
 use Rattle.std.specs.List.{AllByRecursion}
 use Rattle.cool_syntax.specs.declared.place.Place.{Place}
@@ -152,6 +152,6 @@ file_bytes (Class before heading features rbrace semi) h =
     all_append (λ (c : ClassDef). AllByRecursion FeatureHasBytes c.features) (plain_file before) (plain_class heading features ∷ []) (file_bytes before (front_of (file_reading before) (heading_reading heading) ab))
     (features_bytes features (back_of (file_reading before ++ heading_reading heading) (features_reading features) abc), tt)
 
--- what is parsed from tokens whose strings are bytes has bytes as its strings
+-- definitions parsed from tokens whose strings are bytes have bytes as their strings
 pub parsed_bytes : (tokens : List Token) (classes : List ClassDef) → AreByteTokens tokens → Parses tokens classes → ClassesHaveBytes classes
 parsed_bytes tokens classes h (file, shaped, read, is) = subst ClassesHaveBytes is (file_bytes file (subst AreByteTokens (sym read) h))

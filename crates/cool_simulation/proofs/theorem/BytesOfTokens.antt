@@ -164,6 +164,6 @@ tokens_small file bytes at rest (i ∷ is) to left h leads =
     (token_small i.form (place_at file bytes i.offset) (subst IsByteForm leads.1.is_form (form_small (take i.size rest) (taken_bytes i.size rest h))))
     (tokens_small file bytes (at + i.size) (drop i.size rest) is to left (bytes_left i.size rest h) leads.2)
 
--- what bytes are lexed to has bytes as its strings
+-- the strings of tokens that are lexed from bytes are bytes
 pub lexed_bytes : (file : ℕ) (bytes : List ℕ) (tokens : List Token) → AreBytes bytes → Lexes file bytes tokens → AreByteTokens tokens
 lexed_bytes file bytes tokens h l = subst AreByteTokens (sym l.lexemes) (tokens_small file bytes 0 bytes l.items (length bytes) [] h l.leads)

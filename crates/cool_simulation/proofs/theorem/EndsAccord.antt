@@ -1,4 +1,4 @@
--- Where a machine comes to the runs of the source, its end accords with them.
+-- If a machine comes to the same ends as the runs of the source, its end accords with them.
 use Rattle.std.proofs.Common.{◌≡◌, ℕ, ◌+◌, ◌-◌, ◌*◌, ◌<◌, ◌≤◌, ◌⊎◌, inl, inr, List, [], ◌++◌, sym, ap, ◌∙◌, subst, arith, append_assoc, append-nil}
 use Rattle.mips_isa.specs.Bytes.{Segments}
 use Rattle.mips_isa.specs.Calls.{State, Outcome, Running, Exited, Trapped}
@@ -27,7 +27,7 @@ then_prefix xs ys zs h k = (h.0 ++ k.0, k.1 ∙ (ap (λ (l : List ℕ). l ++ k.0
 then_suffix : (xs ys zs : List ℕ) → IsSuffix ys xs → IsSuffix zs ys → IsSuffix zs xs
 then_suffix xs ys zs h k = (h.0 ++ k.0, h.1 ∙ (ap (λ (l : List ℕ). h.0 ++ l) k.1 ∙ sym (append_assoc h.0 k.0 zs)))
 
--- what was written and is left, against a run
+-- the output and the input left, against a run
 
 pub record Under (r : Run) (o : Outcome) : Type 0 where
   pub written : IsPrefix (output_of o) r.output
@@ -68,7 +68,7 @@ Told r limits (Exited code s) = Ended r limits code s
 Told r limits (Trapped trap s) = ⊥
 
 module _ (text : List ℕ) (b : Segments) where
-  -- where it is known after more instructions than the budget, it is known after the budget
+  -- a fact known after more instructions than the budget is known after the budget
   told_before : (r : Run) (limits : Limits) (m : ℕ) (o : Outcome) → limits.budget < m → m ≤ 64 * r.work → Came r limits m (and_then o (machine.run text b (m - limits.budget))) → Told r limits o
   told_before r limits m (Running s) less most h =
       let k = m - limits.budget in

@@ -50,7 +50,7 @@ AreFilled = AllByRecursion (λ line. IsFilled line.statement)
 
 -- Methods
 
--- what is on a chain that ends at Object has the method `abort`
+-- each class on a chain that ends at Object has the method `abort`
 chain_aborts : (p : List Class) → IsRooted p → (c : ClassId) (ds : List ClassId) → c.0 < length p → IsChain p (Some c) ds → is_some (implementation p ds (codes "abort")) ≡ true
 chain_aborts p r c [] within h = absurd h
 chain_aborts p r c (d ∷ ds) within h = by (parent_of p c) refl h.1 (own_method p d (codes "abort")) refl (λ q low rest. chain_aborts p r q ds low rest)
@@ -97,7 +97,7 @@ module _ (p : List Class) (files : List (List ℕ)) (b : IsBuildable p files) wh
       let within = there.1 in
       omega arith
 
-  -- what is made for each class by tag
+  -- the lines made for each class by tag
   by_tag_filled : (f : ClassId → List Line) → ((c : ClassId) → c.0 < length p → AreFilled (f c)) → AreFilled (flat_map f (preorder p))
   by_tag_filled f each = all_flat (λ (c : ClassId). c.0 < length p) IsFilledLine f (preorder p) each (preorder_in p (rooted p b.typed.whole))
 

@@ -41,7 +41,7 @@ folded_means files names p bytes named is fits =
     (program_texts (fold_table p) names b named.0
     (λ c k x within there. each_has_bytes p (table_bytes (definitions is.trees) p (accepted_meant files p is) have) c k x there))
 
--- What accords with runs of smaller meters
+-- Accord with runs of smaller meters implies accord with the larger ones
 
 module _ (runs less : ℕ → Run) (no_more : (n : ℕ) → NoMoreRun (runs n) (less n)) (limits : Limits) where
   inside : (n : ℕ) → Inside limits (runs n) → Inside limits (less n)
@@ -49,7 +49,7 @@ module _ (runs less : ℕ → Run) (no_more : (n : ℕ) → NoMoreRun (runs n) (
       let h = no_more n in
       record { work = omega (arith, i.work, h.work); words = omega (arith, i.words, h.words); peak = omega (arith, i.peak, h.peak) }
 
-  -- what accords with these accords with those
+  -- accord with these implies accord with those
   accord_of_more : (status : ℕ) (output left : List ℕ) → Accord less limits status output left → Accord runs limits status output left
   accord_of_more status output left a =
       let last = no_more (limits.budget + 1) in

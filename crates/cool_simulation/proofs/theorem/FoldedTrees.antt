@@ -1,4 +1,4 @@
--- A folded expression has no empty block and no empty case, and bytes alone in its strings, where the expression has.
+-- A folded expression has no empty block and no empty case, and only bytes in its strings, if the expression has.
 use Rattle.std.proofs.Common.{◌≡◌, ℕ, ℤ, neg_ℤ, List, ◌++◌, Option, Some, None, Bool as Truth, true, false, refl, sym, ◌∙◌, subst}
 use Rattle.std.specs.Prelude.{slice_get, option_map, int_lt, int_le, if◌then◌else◌, IfSome}
 use Rattle.cool_syntax.specs.declared.place.Place.{Place}
@@ -29,7 +29,7 @@ use Rattle.cool_simulation.specs.ByteStrings.{HasBytes, HaveBytes, MaybeHasBytes
 
 -- The rows
 
--- What holds of each constant, of a static dispatch where it holds of the dispatch, and of both parts of a conditional where it holds of that.
+-- A property that holds for each constant, for a static dispatch if it holds for the dispatch, and for both parts of a conditional if it holds for that.
 record HoldsInRows (P : Tree → Type 0) : Type 0 where
   number : (at : Place) (n : ℕ) → P (trees.Int at n)
   truth : (at : Place) (b : Truth) → P (trees.Bool at b)

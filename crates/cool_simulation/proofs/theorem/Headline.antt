@@ -1,4 +1,4 @@
--- What a machine comes to accords with the program, where the program runs as it means.
+-- The outcome of a machine accords with the program, if the program always runs as it means.
 use Rattle.std.proofs.Common.{ℕ, List, refl, sym, subst, arith}
 use Rattle.std.specs.List.{AllByRecursion}
 use Rattle.mips_isa.specs.ImageBounds.{ImageParts}

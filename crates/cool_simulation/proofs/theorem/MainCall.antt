@@ -86,7 +86,7 @@ run_meters p names Stuck w g k = (refl, refl, refl)
 before_text : (w : World) (output text input : List ℕ) → OnTheWay w (output ++ text) input → OnTheWay w output input
 before_text w output text input way = record { written = (text ++ way.written.0, way.written.1 ∙ append_assoc output text way.written.0); taken = way.taken }
 
--- what a run writes and takes is on the way, and so what its evaluation does
+-- the output and input of a run are on the way, and so are those of its evaluation
 pub run_way : (l : Loading) (o : Outcome Value) (w g k : ℕ) → OnTheWay l.world (run_of l.table l.files o w g k).output (run_of l.table l.files o w g k).left → Way l o
 run_way l (Val v t left) w g k way = before_text l.world t.output done_text t.input way
 run_way l (Stop e t) w g k way = way
@@ -113,7 +113,7 @@ module _ (l : Loading) (is : IsLoaded l) (n : ℕ) (correct : AllCallsCorrect l 
   abbrev pub after_new : Value → Computation Value
   after_new v = class_or (DispatchVoid nowhere) v >>= λ d. dispatch p calls nowhere d (codes "main") v []
 
-  -- where main ended: at the lines of the end
+  -- the state after main ended: at the lines of the end
   record Behind (pc : ℕ) (t : State) (s : Machine) : Type 0 where
     q : Pointers
     m : Bytes
@@ -137,7 +137,7 @@ module _ (l : Loading) (is : IsLoaded l) (n : ℕ) (correct : AllCallsCorrect l 
     start_lines : StartAt l.world q.pc
     start_lines = start_at l.world q.pc (subst (λ a. HasLines l.world a (routine_lines routines.Start)) (sym starts.pc) (is.routines routines.Start))
 
-    -- from the start to the initializer, under the names of Start and under those of the class
+    -- the run from the start to the initializer, under the names of Start and under those of the class
     abbrev Creates : Name → Name → Type 0
     Creates proto init = Lies l.world q.gp (l.world.place proto) (4 * size_of l is main) → word m (l.world.place proto + 4) ≡ size_of l is main → q.gp + 4 * size_of l is main + 4 ≤ l.world.top → OnTheWay l.world console.output console.input
         → Reaches l.world s 1 (7 * size_of l is main + 20)
@@ -165,7 +165,7 @@ module _ (l : Loading) (is : IsLoaded l) (n : ℕ) (correct : AllCallsCorrect l 
         run_wider l (make p calls (Some main) st n).outcome s n (64 * (make p calls (Some main) st n).work - 4) (64 * (make p calls (Some main) st n).work) _ (omega arith)
         (makes l is calls begun_in n correct (within_later p n) main within (main_plain p is.buildable.typed) [] q m map console st s making (q.pc + 16) 20 n ra_fits (omega arith) (omega arith) (λ fits way. passes l s 1 (7 * size_of l is main + 20) _ (creates proto.lies proto.head.size_is fits way)) room watched)
 
-    -- what main does on the new object
+    -- the effect of main on the new object
 
     abbrev pub object : Value
     object = made_object p main st
@@ -212,7 +212,7 @@ module _ (l : Loading) (is : IsLoaded l) (n : ℕ) (correct : AllCallsCorrect l 
           let e : q.pc + 16 + 4 ≡ q.pc + 20 = omega arith in
           subst (λ ra. Reaches l.world u 1 1 (stands (At l.world (record q1 { ra = ra }) d.memory d.console))) e (calls_main l.world _ d.memory d.console u start_lines.third d.at)
 
-      -- what the call of main begins
+      -- the visits of the call of main
       abbrev Begun : Option MethodRef → ℕ → Visit → Type 0
       Begun o k x = behind_step (visits.called p calls begun_in object [] o) t k x
 
@@ -250,7 +250,7 @@ module _ (l : Loading) (is : IsLoaded l) (n : ℕ) (correct : AllCallsCorrect l 
         let later = within_later p n in
         (bind_later (class_later p calls later (DispatchVoid nowhere) v) (λ c. dispatch_later p calls later nowhere c (codes "main") v [])).later t left
 
-    -- what the run begins
+    -- the visits of the run
     abbrev Begins : Option ClassId → Visit → Type 0
     Begins o x = (visits.made p calls begun_in o or visits.behind (make p calls o) (λ v. visits.behind (class_or (DispatchVoid nowhere) v) (λ c. dispatched p calls begun_in c (codes "main") v []))) st n x
 
@@ -316,7 +316,7 @@ module _ (l : Loading) (is : IsLoaded l) (n : ℕ) (correct : AllCallsCorrect l 
 pub passes_main : (l : Loading) → IsLoaded l → ((n : ℕ) → AllCallsCorrect l (calls_within l.table n) (begun_within l.table n) n) → PassesMain l
 passes_main l is correct input q map console s n starts room watched = comes l is n (correct n) input q map console s starts room watched
 
--- where nothing is watched
+-- the case that nothing is watched
 reaches_end : (l : Loading) (s : Machine) (n most : ℕ) (output left : List ℕ) (e : End) → l.watch ≡ None → PassesTo l s n most output left e → ComesTo l.world s n most output left e
 reaches_end l s n most output left source_run.Done none h = plain l none s 0 most _ h
 reaches_end l s n most output left (Failed e) none h = plain l none s 0 most _ h

@@ -47,7 +47,7 @@ module _ (w : World) where
       walk_more w (la 4 main_prototype) (jal copy ∷ []) s.core.registers s.core.pc s.core.memory (beside s) p.pc 0 0 _ (omega arith) has (omega arith)
       (omega arith, here w _ _ (record { numbers = omega arith; memory_is = at.memory_is; input_is = at.input_is; ended_is = at.ended_is; output_is = at.output_is }))
 
-  -- from the first line to the initializer, with the copy
+  -- the run from the first line to the initializer, with the copy
   pub start_creates : (size : ℕ) (p : Pointers) (m : Bytes) (c : Console) (s : State) → Limits w → HasLines w (w.place copy) (routine_lines routines.Copy) → StartAt p.pc → At w p m c s
       → Lies w p.gp (w.place main_prototype) (4 * size) → 3 ≤ size → word m (w.place main_prototype + 4) ≡ size → p.gp + 4 * size + 4 ≤ w.top → OnTheWay w c.output c.input
       → Reaches w s 1 (7 * size + 20) (stands (At w (record p { pc = w.place main_init; gp = p.gp + 4 * size + 4; acc = p.gp + 4; ra = p.pc + 16 }) (with_copy m p.gp (w.place main_prototype) size) c))

@@ -97,7 +97,7 @@ module _ (x : Name) (none : is_name x ≡ false) where
   no_mark : (s : Context) (g : Constants) (vs : List Named) (d k : ℕ) (t : Tree) → marks x (code s g vs d k t) ≤ 0
   no_mark s g vs d k t = omega (arith, code_marks x s g vs d k t, no_hits s.class.0 s.feature k (tree_size t))
 
--- where no other text stands among names, all are names
+-- if no other text is among names, all are names
 all_named : (names : List Name) → ((x : Name) → is_name x ≡ false → times x names ≤ 0) → AllByRecursion IsName names
 all_named [] h = tt
 all_named (y ∷ ys) h = (by (is_name y) refl, all_named ys (λ x e. let all : one (bytes_eq x y) + times x ys ≤ 0 = h x e in omega arith))
@@ -115,7 +115,7 @@ code_named s g vs d k t = all_named (labels_of (code s g vs d k t)) (λ x none. 
 
 -- Features
 
--- the name at a place among features holds bytes of names alone
+-- the name at a place among features contains only bytes of names
 feature_in_name : (n : ℕ) (fs : List Feature) (k : ℕ) → AllByRecursion (IsFeatureWithin n) fs → AreInName (name_in (slice_get fs k))
 feature_in_name n [] k all = refl
 feature_in_name n (Method m ∷ fs) zero all = object_in_name m.name all.0.1

@@ -66,7 +66,7 @@ strings_named of_int of_string k (bytes ∷ bs) =
     (numbered_is_name (codes "__length") k refl, (numbered_is_name (codes "str_const") k refl, strings_named of_int of_string (k + 1) bs))
 
 module _ (p : List Class) (files : List (List ℕ)) (b : IsBuildable p files) where
-  -- what is made for each class by tag
+  -- the lines made for each class by tag
   by_tag_named : (f : ClassId → List Line) → ((c : ClassId) → c.0 < length p → AreNamed (f c)) → AreNamed (flat_map f (preorder p))
   by_tag_named f each = named_each (λ (c : ClassId). c.0 < length p) f (preorder p) each (preorder_in p (rooted p b.typed.whole))
 

@@ -1,4 +1,4 @@
--- The names of features hold bytes of names alone.
+-- The names of features contain only bytes of names.
 use Rattle.std.proofs.Common.{◌≡◌, ℕ, List, [], ◌∷◌, Option, Some, None, Bool, true, false, ◌&&◌, ◌==◌, refl, sym, ◌∙◌, subst, true≢false}
 use Rattle.std.specs.Prelude.{if◌then◌else◌, not, map}
 use Rattle.std.specs.List.{list_all}
@@ -13,7 +13,7 @@ use Rattle.cool_syntax.specs.TreesWithinLimits.{IsObjectName}
 use Rattle.cool_simulation.proofs.theorem.NamesOfLabels.{AreInName, in_word_in_name, word_in_name}
 use Rattle.std.proofs.lemmas.Bool.{and_from}
 
--- a lexeme that, if it is the name of a feature or a variable, holds bytes of names alone; and a form that is such a lexeme, if it is one
+-- a lexeme that, if it is the name of a feature or a variable, contains only bytes of names; and a form that is such a lexeme, if it is one
 
 abbrev IsGoodKind : TokenKind → Type 0
 IsGoodKind (kind.ObjectId name) = AreInName name
@@ -137,7 +137,7 @@ good_form classes.Equals b bs h = good_equals bs
 good_form (classes.Single s) b bs h = good_alone (Lexeme (kind.Sign s)) bs tt
 good_form classes.Stray b bs h = tt
 
--- the name of a feature holds bytes of names alone
+-- the name of a feature contains only bytes of names
 pub object_in_name : (name : List ℕ) → IsObjectName name → AreInName name
 object_in_name [] h = refl
 object_in_name (b ∷ bs) h = subst IsGood h (good_form (class_of b) b bs (letter_in_name b))

@@ -20,7 +20,7 @@ use Rattle.cool_simulation.proofs.theorem.NamedCode.{AreNamed, text_named}
 use Rattle.cool_simulation.proofs.theorem.NamedData.{data_named, program_named}
 use Rattle.lists.proofs.AllItems.{all_append, all_left, all_right}
 
--- what holds of all names holds of one that stands among them
+-- a property of all names holds for one that is among them
 all_there : (P : Name → Type 0) (names : List Name) (name : Name) → AllByRecursion P names → Contains names name → P name
 all_there P [] name all (k, l, e) = absurd (omega arith)
 all_there P (x ∷ names) name all (zero, l, e) = subst P e all.0
@@ -110,6 +110,6 @@ pub programs_printable : (files names : List (List ℕ)) (p : List Class) → Ar
 programs_printable files names p named same is =
     buildable_printable p names (record { fits = subst (Fits p) (sym same) is.fits; typed = is.typed; names = named.1 })
 
--- what is printed of them is read as these lines
+-- their printed text is read as these lines
 pub programs_read : (files names : List (List ℕ)) (p : List Class) → AreFileNames names → length names ≡ length files → IsAccepted files p → Reads (printed (program_lines p names)) (program_lines p names)
 programs_read files names p named same is = printed_is_read (program_lines p names) (programs_printable files names p named same is)

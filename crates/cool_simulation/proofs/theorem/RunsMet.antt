@@ -23,7 +23,7 @@ no_limit w heap stack code s h = by h.why
     by (inl (is, less)) = absurd (omega arith)
     by (inr (is, less)) = absurd (omega arith)
 
--- where heap and stack reach as far as the world says, what goes on is met
+-- if heap and stack reach as far as the world says, a run that goes on is met
 goes_on : (w : World) → w.top ≤ w.segments.heap_end → w.segments.stack_low ≤ w.low → (output left : List ℕ) (n m : ℕ) (o : Outcome) → Ends w n (stands (Leaves output left)) m o → (n ≤ m) × GoesOnWith output left o
 goes_on w heap stack output left n m (Running s) h = (h.0, (h.1.wrote, h.1.leaves))
 goes_on w heap stack output left n m (Exited code s) (inl h) = absurd h

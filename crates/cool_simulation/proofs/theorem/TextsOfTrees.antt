@@ -90,7 +90,7 @@ module _ (files : List (List ℕ)) (named : AllByRecursion IsText files) where
       by None h b = tt
       by (Some t) h b = strings_text n t h b
 
--- what holds of all features of a class holds of those that are placed
+-- a property of all features of a class holds for those that are placed
 
 attributes_all : (P : Feature → Type 0) (j : ℕ) (fs : List Feature) → AllByRecursion P fs → AllByRecursion (λ (f : Placed). P f.feature) (attributes_from j fs)
 attributes_all P j [] all = tt

@@ -1,5 +1,5 @@
--- Where no block and no case of classes is empty, none is in the features of the table that they mean. (What the grammar gives is so: cool_syntax
--- has `parsed_writable`.)
+-- If class definitions have no empty block and no empty case, neither have the features of their class table. (The trees of the grammar have none:
+-- cool_syntax has `parsed_writable`.)
 use Rattle.std.proofs.Common.{◌≡◌, ℕ, zero, suc, List, [], ◌∷◌, map, get_or, Some, sym, subst}
 use Rattle.std.specs.Prelude.{slice_get}
 use Rattle.std.specs.List.{AllByRecursion}

@@ -31,7 +31,7 @@ pub(crate) fn trap_of(fault: MemFault, pc: u32) -> Trap
 }
 
 impl Cpu {
-    /// Stores a byte, as a system call does. `BadAddress` comes where no data, heap or stack is, and then nothing changes.
+    /// Stores a byte, as a system call does. Returns `BadAddress` if no data, heap or stack is there, and then nothing changes.
     pub fn store_byte(&mut self, a: u32, v: u8) -> Result<(), MemFault>
         ensures answer { result ≡ accessed 1 (writable (segments self.old.memory) a 1) a tt }
         ensures stored { OnOk result (core_of self.new ≡ record (core_of self.old) { memory = set_byte (core_of self.old).memory a v }) }

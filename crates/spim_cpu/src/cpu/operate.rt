@@ -22,10 +22,10 @@ use mips_isa::{
 use spim_memory::Operation;
 
 impl Cpu {
-    /// Executes the operation at pc, and answers the next pc. `Err` comes where it is a system call, or traps, which changes nothing.
+    /// Executes the operation at pc, and returns the next pc. Returns `Err` if it is a system call, or traps, which changes nothing.
     ///
-    /// One case for each operation of the instruction table. `C` names the caller alone, so that each instance has just one: that of a
-    /// loop of `advance` is compiled into it, and its answers stay in the processor's registers.
+    /// One case for each operation of the instruction table. `C` only names the caller, so that each instance has just one: that of a loop of `advance` is
+    /// compiled into it, and its answers stay in the processor's registers.
     #[inline(always)]
     pub(super) fn operate<C>(&mut self, operation: &Operation, pc: u32) -> Result<u32, Step>
         requires range { IfSome (instr_of operation.now) InRange }
@@ -269,7 +269,7 @@ impl Cpu {
         }
     }
 
-    /// What a register holds.
+    /// The value of a register.
     #[inline(always)]
     pub(super) fn read(&self, r: u8) -> u32
         requires { r < 32 }

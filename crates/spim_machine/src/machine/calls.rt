@@ -26,7 +26,7 @@ use mips_isa::system_call::{
 };
 use mips_isa::{Reg, STACK_END, Trap, TrapKind};
 
-/// What `sbrk` answers where the heap is too small: -1.
+/// The result of `sbrk` if the heap is too small: -1.
 const NO_ROOM: u32 = 0xffff_ffff;
 
 impl Machine {
@@ -139,7 +139,7 @@ impl Machine {
 
     /// Fills the buffer at `$a0` of `$a1` bytes, of which the last is a 0. Below 1 it does nothing.
     ///
-    /// `Trap` comes where not all of its bytes may be stored.
+    /// Returns `Trap` if not all of its bytes may be stored.
     fn read_string<S: Source>(&mut self, source: &mut S) -> Result<(), Halt>
         ensures took { Took self.old.ended self.new.ended (S.past source.old) (S.past source.new) (S.left source.old) (S.left source.new) }
         ensures does { (held : Option (List ℕ)) → OfAnyInput (S.past source.old) (S.past source.new) (λ before after. IsResultOf (calls.read_string (segments self.old.cpu.memory)) stores_string self.old before held result self.new after held) }
@@ -179,7 +179,7 @@ impl Machine {
         Ok(())
     }
 
-    /// Stores at most so many bytes of the input at an address, up to a newline, and answers the address after them.
+    /// Stores at most so many bytes of the input at an address, up to a newline, and returns the address after them.
     ///
     /// `Failed` comes at the first `take` that fails; the bytes before it are stored.
     fn store_line<S: Source>(
@@ -210,7 +210,7 @@ impl Machine {
         Ok(address + most)
     }
 
-    /// Stores a byte where it may be stored.
+    /// Stores a byte if it may be stored.
     fn store(&mut self, address: u32, byte: u8)
         requires { writable (segments self.old.cpu.memory) address 1 ≡ true }
         ensures core { core_of self.new.cpu ≡ record (core_of self.old.cpu) { memory = set_byte (core_of self.old.cpu).memory address byte } }
@@ -224,7 +224,7 @@ impl Machine {
         }
     }
 
-    /// Moves the break by `$a0`, and answers the old one in `$v0`; -1 where it would pass the heap's end.
+    /// Moves the break by `$a0`, and returns the old one in `$v0`; -1 if it would pass the heap's end.
     fn sbrk(&mut self)
         ensures does { (left held : Option (List ℕ)) → IsResultOf (calls.sbrk (segments self.old.cpu.memory)) stores_none self.old left held (Ok tt) self.new left held }
         ensures ended { self.new.ended ≡ self.old.ended }

@@ -1,4 +1,4 @@
-//! Strings and buffers, of which SPIM's system calls `print_string` and `read_string` ask.
+//! Strings and buffers, as SPIM's system calls `print_string` and `read_string` need them.
 
 ghost use Rattle.std.specs.Prelude.{◌≡◌, ◌+◌, ◌<◌, ◌≤◌, ◌==◌, ◌&&◌, true, Some, None, IfSome, IfNone};
 ghost use Rattle.mips_isa.specs.Bytes.{readable};
@@ -10,8 +10,7 @@ use super::{Memory, Place};
 use mips_isa::{DATA_START, HEAP_START, STACK_END, TEXT_START};
 
 impl Memory {
-    /// The end of the segment of data, heap or stack that has the byte at an address. `None` comes where it may not be
-    /// stored.
+    /// The end of the segment of data, heap or stack that has the byte at an address. Returns `None` if it may not be stored.
     fn storable_end(&self, a: u32) -> Option<u32>
         ensures end { result ≡ storable_end (segments self.now) a }
         ensures behind { IfSome result (λ end. a < end) }
@@ -24,7 +23,7 @@ impl Memory {
         }
     }
 
-    /// The end of the segment that has the byte at an address. `None` comes where no segment is.
+    /// The end of the segment that has the byte at an address. Returns `None` if no segment is there.
     fn segment_end(&self, a: u32) -> Option<u32>
         ensures end { result ≡ segment_end (segments self.now) a }
         ensures behind { IfSome result (λ end. a < end) }
@@ -43,9 +42,9 @@ impl Memory {
         matches!(self.load_byte(a), Ok(0))
     }
 
-    /// How many bytes stand from an address on up to a 0: the length of the string that SPIM's `print_string` writes.
+    /// The number of bytes from an address on up to a 0: the length of the string that SPIM's `print_string` writes.
     ///
-    /// `None` comes where no segment is, and where the segment ends before a 0 comes. The text is a segment, too.
+    /// Returns `None` if no segment has the address, or if the segment ends before a 0. The text is a segment, too.
     pub fn string_length(&self, a: u32) -> Option<u32>
         ensures found { IfSome result (λ n. string_at (segments self.now) (bytes_of self.now) a ≡ Some (bytes_from (bytes_of self.now) a n)) }
         ensures none { IfNone result (string_at (segments self.now) (bytes_of self.now) a ≡ None) }

@@ -4,7 +4,7 @@ use Rattle.std.specs.Result.{is_ok}
 use Rattle.cool_big.specs.BigPrograms.{numbered}
 use Rattle.cool_big.proofs.line.push_method.Goals as goal
 
--- what stands there where all could be added
+-- the text there, if all could be added
 added : {A E : Type 0} (r : Result A E) (old more new all : List ℕ)
     → new ≡ (if is_ok r then old ++ more else old) → old ++ more ≡ all → OnOk r (new ≡ all)
 added (Ok x) old more new all h e = h ∙ e

@@ -1,4 +1,4 @@
--- How long the text is.
+-- The length of the text.
 use Rattle.std.proofs.Common.{rules, ◌≡◌, ap, ◌∙◌, length}
 use Rattle.cool_big.specs.BigPrograms.{big_text}
 use Rattle.cool_big.proofs.TextIsLong.{big_length}

@@ -1,4 +1,4 @@
--- A class is contained where any class has its number.
+-- A class is contained if any class has its number.
 use Rattle.std.proofs.Common.{◌∙◌}
 use Rattle.cool_rules.proofs.ClassesAmong.{is_among_any}
 use Rattle.cool_check.proofs.binding.is_among.Goals as goal

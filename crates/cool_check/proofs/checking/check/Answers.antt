@@ -21,7 +21,7 @@ none_found (x ∷ xs) e = absurd (some (length xs) (sym e))
     some : (n : ℕ) → (suc n == 0) ≡ true → ⊥
     some n h = let same = equal (suc n) 0 h in omega arith
 
--- where no fault is found, the table is a typed one, and the types of its nodes were kept
+-- if no fault is found, the table is a typed one, and the types of its nodes were kept
 pub new-requires : goal.new-requires
 new-requires c =
     let none = none_found c.in_ok-faults.field-0.faults.items (c.if-is_empty.ensures ∙ ap (λ (n : ℕ). n == 0) c.in_ok-faults.field-0.faults.ok.0) in

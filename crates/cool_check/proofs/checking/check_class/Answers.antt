@@ -1,4 +1,4 @@
--- What a feature gives is found before what is left: its fault, or the types of its nodes.
+-- The result of a feature, its fault or the types of its nodes, comes before those of the features left.
 use Rattle.std.proofs.Common.{◌≡◌, ◌++◌, ◌∷◌, [], ◌+◌, ◌∙◌, List, Ok, Err, drop, ap, subst, sym}
 use Rattle.std.specs.Global.{Vec}
 use Rattle.std.specs.List.{AllByRecursion}

@@ -1,4 +1,4 @@
--- What the next class gives comes first of what is left, and its features stand in the files as well.
+-- The results of the next class come first among those left, and its features stand in the files as well.
 use Rattle.std.proofs.Common.{◌++◌, ◌+◌, ◌∙◌, List, drop, ap, arith, sym}
 use Rattle.std.specs.Global.{Vec}
 use Rattle.lists.proofs.JoinedLists.{none_both}

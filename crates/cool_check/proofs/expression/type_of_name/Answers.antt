@@ -1,4 +1,4 @@
--- What is found in either scope is a type.
+-- A type found in either scope is a type of the table.
 use Rattle.std.proofs.Common.{◌≡◌, ◌∙◌, Some, subst, sym, ap₂, rules}
 use Rattle.std.specs.Prelude.{IfSome}
 use Rattle.std.specs.Option.{option_or}

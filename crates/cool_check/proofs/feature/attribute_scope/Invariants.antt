@@ -1,4 +1,4 @@
--- What was entered has a type of the table, what is left to enter are attributes, and with them it is the scope.
+-- The names entered have types of the table, those left to enter are attributes, and together they are the scope.
 use Rattle.std.proofs.Common.{◌≡◌, map}
 use Rattle.std.specs.List.{AllByRecursion}
 use Rattle.cool_classes.specs.Features.{HasAttribute}

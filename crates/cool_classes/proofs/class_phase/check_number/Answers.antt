@@ -1,4 +1,4 @@
--- Where the definitions are not too many, none stands past the most.
+-- If the definitions are not too many, none stands past the most.
 use Rattle.std.proofs.Common.{◌++◌, List, ap, sym, ◌∙◌, append-nil}
 use Rattle.cool_syntax.specs.declared.file_tree.ClassDef.{ClassDef}
 use Rattle.cool_classes.specs.ClassFaults.{first_fault}

@@ -1,4 +1,4 @@
--- What three passes add, one after the other.
+-- The faults that three passes add, one after the other.
 use Rattle.cool_classes.specs.ClassFaults.{cycle_faults, main_faults, number_faults}
 use Rattle.cool_classes.proofs.FaultsLeft.{joined_three}
 use Rattle.cool_classes.proofs.class_phase.check_whole.Goals as goal

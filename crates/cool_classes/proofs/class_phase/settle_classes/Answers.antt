@@ -1,4 +1,4 @@
--- Parents of definitions are classes, definitions on cycles are there, and what the passes add is placed.
+-- Parents of definitions are classes, definitions on cycles are there, and the faults that the passes add have places.
 use Rattle.std.proofs.Common.{rules, ◌≡◌, ◌+◌, ◌<◌, ◌++◌, ℕ, List, length, sym, ap, ◌∙◌, subst}
 use Rattle.std.specs.List.{AllByRecursion}
 use Rattle.cool_syntax.specs.TokenFacts.{IsPlaced}

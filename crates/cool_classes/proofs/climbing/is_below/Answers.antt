@@ -1,4 +1,4 @@
--- A class is below another one where the climb from it comes to that one.
+-- A class is below another one if the climb from it comes to that one.
 use Rattle.std.proofs.Common.{◌≡◌, sym, ◌∙◌, refl}
 use Rattle.cool_classes.specs.Entries.{classes, depth_at}
 use Rattle.cool_classes.proofs.Climbs.{climbing_step, below_end}

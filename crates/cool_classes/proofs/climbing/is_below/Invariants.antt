@@ -1,4 +1,4 @@
--- What the first class is below, the class now is below, and the other way round.
+-- The first class and the class now are below the same classes.
 use Rattle.cool_classes.specs.Entries.{classes, depth_at}
 use Rattle.cool_classes.proofs.Climbs.{Climbing}
 use Rattle.cool_classes.proofs.climbing.is_below.Given as goal

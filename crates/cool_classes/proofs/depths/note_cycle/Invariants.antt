@@ -1,4 +1,4 @@
--- What is noted with what is left of the cycle is the whole of it.
+-- The definitions noted, with those left of the cycle, are the whole of it.
 use Rattle.std.proofs.Common.{◌≡◌, ◌++◌, length}
 use Rattle.cool_classes.specs.Walks.{cycle_of}
 use Rattle.cool_classes.proofs.depths.note_cycle.Given as goal

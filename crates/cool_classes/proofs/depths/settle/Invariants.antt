@@ -1,4 +1,4 @@
--- What is left of the path, noted below the depth now, gives what the whole path gives.
+-- The rest of the path, noted below the depth now, gives the same as the whole path.
 use Rattle.std.proofs.Common.{◌≡◌, ◌+◌, ◌^◌, ◌<◌, ℕ, length}
 use Rattle.std.specs.List.{AllByRecursion}
 use Rattle.cool_classes.specs.Walks.{settled}

@@ -1,4 +1,4 @@
--- What one more class adds is counted.
+-- The attributes and methods that one more class adds are counted.
 use Rattle.std.proofs.Common.{◌≡◌, ◌+◌, ◌++◌, ◌∷◌, [], ℕ, List, length, ap, sym, ◌∙◌, subst}
 use Rattle.cool_syntax.specs.declared.file_tree.Feature.{Feature}
 use Rattle.cool_classes.specs.declared.class_id.ClassId.{ClassId}

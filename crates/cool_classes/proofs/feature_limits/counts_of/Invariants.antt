@@ -1,4 +1,4 @@
--- What the classes before this one add is counted.
+-- The attributes and methods that the classes before this one add are counted.
 use Rattle.cool_classes.specs.Entries.{classes}
 use Rattle.cool_classes.specs.Lineages.{AreCounted}
 use Rattle.cool_classes.proofs.feature_limits.counts_of.Given as goal

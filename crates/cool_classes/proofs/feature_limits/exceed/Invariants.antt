@@ -1,4 +1,4 @@
--- What is left of the most, after what is counted for the classes before this one.
+-- The rest of the limit, after the counts of the classes before this one.
 use Rattle.std.proofs.Common.{◌≡◌, ◌+◌, ◌<◌, length, drop}
 use Rattle.std.specs.List.{AllByRecursion}
 use Rattle.cool_classes.specs.Lineages.{sum_at}

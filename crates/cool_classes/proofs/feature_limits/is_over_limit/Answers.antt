@@ -1,4 +1,4 @@
--- What is counted is what the class has.
+-- The counts are those of the class.
 use Rattle.std.proofs.Common.{ℕ, List, ◌∷◌, Some, length, ap, ◌∙◌, refl}
 use Rattle.std.specs.Prelude.{nat_lt}
 use Rattle.cool_classes.specs.declared.TheConstants.{MOST_ATTRIBUTES, MOST_METHODS}

@@ -7,7 +7,7 @@ use Rattle.cool_driver.proofs.LinesOfNotes.{line_at, lines_at, front_lines, some
 use Rattle.cool_driver.proofs.notes.tell_lines.Goals as goal
 use Rattle.lists.proofs.Results.{on_ok}
 
--- what is known of an answer that is an error, and of one that is none
+-- facts about an answer that is an error, and about one that is none
 on_err : {T E P : Type 0} (result : Result T E) → is_err result ≡ true → OnErr result P → P
 on_err (Ok x) e p = absurd cc
 on_err (Err x) e p = p

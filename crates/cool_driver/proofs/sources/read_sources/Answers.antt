@@ -38,7 +38,7 @@ returns-in-Err-Refused-clause-refused g c =
     c.refuse_unread.result (refused_at _ names c.args.most refused.name.now refused.fault (omega (arith, length-map c.args.names.now string_bytes, c.if-names-gt-MOST_FILES.false)) stop)
     c.refuse_unread.ensures
 
--- what the shelf was asked for
+-- the files that the shelf was asked for
 pub returns-then-names-gt-MOST_FILES-clause-asked : goal.returns-then-names-gt-MOST_FILES-clause-asked
 returns-then-names-gt-MOST_FILES-clause-asked g c = asked_none _ _
 

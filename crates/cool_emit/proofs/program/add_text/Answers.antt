@@ -52,7 +52,7 @@ loop-section-preserved c =
     (sym (last_of (features_in p) xs s (take (i + 1) c.args.sections.now) next))
     (λ g. sym (last_of (section_code p files g) xs s (take (i + 1) c.args.sections.now) next)) both
   where
-    -- what the last of some gives stands last
+    -- the output of the last section comes last
     last_of : {A : Type 0} (f : Section → List A) (xs : List Section) (x : Section) (all : List Section) → all ≡ xs ++ x ∷ [] → flat_map f all ≡ flat_map f xs ++ f x
     last_of f xs x all e = ap (flat_map f) e ∙ (flat_map-append f xs (x ∷ []) ∙ ap (λ ys. flat_map f xs ++ ys) (append-nil (f x)))
 

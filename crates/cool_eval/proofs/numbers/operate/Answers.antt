@@ -36,7 +36,7 @@ not_zero : (z : ℤ) → (of_z w64 z ≡ 0 → ⊥) → is_zero z ≡ false
 not_zero (pos n) some = grind (arith, some)
 not_zero (negsuc n) some = refl
 
--- by it a quotient is given where it fits
+-- a quotient by it is given if it fits
 divided : (o : Option ℤ) (x y : ℤ) → (of_z w64 y ≡ 0 → ⊥) → SomeIff o (CanDivide w64 x y) (int_div x y) → SomeIff o (FitsSigned w64 (int_div x y)) (int_div x y)
 divided None x y some none = λ fits. let above : 0 < of_z w64 y = omega (arith, some) in none (above, fits)
 divided (Some n) x y some (can, is) = (can.1, is)

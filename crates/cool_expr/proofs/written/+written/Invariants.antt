@@ -1,4 +1,4 @@
--- Parts have smaller numbers, and what is written goes on with the parts that are left.
+-- Parts have smaller numbers, and the tokens written so far, followed by those of the parts left, are all.
 use Rattle.std.proofs.Common.{◌≡◌, ◌+◌, ◌*◌, ◌<◌, ◌++◌, map, drop}
 use Rattle.std.specs.List.{AllByRecursion}
 use Rattle.cool_syntax.specs.Tree.{of_list, of_twigs}

@@ -1,4 +1,4 @@
--- What is written goes on with what is left.
+-- The tokens written so far, followed by those of the classes left, are all.
 use Rattle.std.proofs.Common.{◌≡◌, ◌++◌, drop}
 use Rattle.cool_syntax.specs.WrittenTrees.{written_classes}
 use Rattle.cool_expr.proofs.written_file.write_classes.Given as goal

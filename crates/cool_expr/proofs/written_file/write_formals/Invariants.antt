@@ -1,4 +1,4 @@
--- What is written goes on with the formals that are left.
+-- The tokens written so far, followed by those of the formals left, are all.
 use Rattle.std.proofs.Common.{◌≡◌, ◌++◌, drop}
 use Rattle.cool_syntax.specs.WrittenTrees.{written_formals, written_more_formals}
 use Rattle.cool_expr.proofs.written_file.write_formals.Given as goal

@@ -1,4 +1,4 @@
--- What was found goes on with what is found in the files left.
+-- The findings so far, followed by those of the files left, are all.
 use Rattle.std.proofs.Common.{drop}
 use Rattle.cool_faults.specs.Files.{bytes_of}
 use Rattle.cool_faults.specs.Phases.{IsLexed, IsLexical}

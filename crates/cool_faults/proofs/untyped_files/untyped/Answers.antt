@@ -1,4 +1,4 @@
--- Each phase refuses the files, or gives the next one what it asks.
+-- Each phase refuses the files, or satisfies the precondition of the next one.
 use Rattle.std.proofs.Common.{◌≤◌, List, length, ap, sym, subst, arith}
 use Rattle.std.specs.List.{AllByRecursion}
 use Rattle.std.proofs.lemmas.Result.{err_from_is_err_and}

@@ -1,4 +1,4 @@
--- With the methods that are left the class defines what it defines.
+-- The methods noted, with those that are left, are all that the class defines.
 use Rattle.std.proofs.Common.{◌≡◌, ℕ, List, Bool as Truth, drop}
 use Rattle.std.specs.Prelude.{◌&&◌, ◌||◌}
 use Rattle.std.specs.List.{list_any}

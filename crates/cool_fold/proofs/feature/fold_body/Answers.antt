@@ -1,4 +1,4 @@
--- What is folded is the expression of the feature, in the scope of its class and its formals.
+-- The expression folded is that of the feature, in the scope of its class and its formals.
 use Rattle.std.proofs.Common.{List, length, Some, ◌∙◌, ap, subst, arith}
 use Rattle.std.specs.Prelude.{option_map}
 use Rattle.std.specs.declared.alloc.AllocError.{AllocError}

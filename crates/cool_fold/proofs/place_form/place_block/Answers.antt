@@ -1,4 +1,4 @@
--- What is placed of a block is what the whole is folded to.
+-- The nodes placed for a block are those of the folded block.
 use Rattle.std.proofs.Common.{sym, subst}
 use Rattle.cool_syntax.specs.NodeLists.{trees_of}
 use Rattle.cool_fold.specs.PlacedForms.{PlacesBlock}

@@ -1,4 +1,4 @@
--- What is placed of a `case` is what the whole is folded to.
+-- The nodes placed for a `case` are those of the folded `case`.
 use Rattle.std.proofs.Common.{sym, subst}
 use Rattle.cool_syntax.specs.NodeLists.{tree_at, cases_of}
 use Rattle.cool_fold.specs.PlacedForms.{PlacesCase}

@@ -1,4 +1,4 @@
--- What is placed of a dispatch is what the whole is folded to.
+-- The nodes placed for a dispatch are those of the folded dispatch.
 use Rattle.std.proofs.Common.{◌∙◌, sym, subst}
 use Rattle.cool_syntax.specs.NodeLists.{tree_at, trees_of}
 use Rattle.cool_fold.specs.PlacedForms.{PlacesDispatch}

@@ -1,4 +1,4 @@
--- What is placed of a conditional that stays is what the whole is folded to.
+-- The nodes placed for a conditional that stays are those of the folded conditional.
 use Rattle.std.proofs.Common.{refl, sym, subst}
 use Rattle.cool_syntax.specs.NodeLists.{tree_at}
 use Rattle.cool_fold.specs.PlacedForms.{PlacesConditional}

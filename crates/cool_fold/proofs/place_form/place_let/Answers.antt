@@ -1,4 +1,4 @@
--- What is placed of a `let` is what the whole is folded to.
+-- The nodes placed for a `let` are those of the folded `let`.
 use Rattle.std.proofs.Common.{sym, subst}
 use Rattle.cool_syntax.specs.NodeLists.{tree_at, maybe_tree_of}
 use Rattle.cool_fold.specs.PlacedForms.{PlacesLet}

@@ -1,4 +1,4 @@
--- What is placed of a loop is what the whole is folded to.
+-- The nodes placed for a loop are those of the folded loop.
 use Rattle.std.proofs.Common.{sym, subst}
 use Rattle.cool_syntax.specs.NodeLists.{tree_at}
 use Rattle.cool_fold.specs.PlacedForms.{PlacesLoop}

@@ -1,4 +1,4 @@
--- What is placed of an operator with two operands is what the whole is folded to.
+-- The nodes placed for an operator with two operands are those of the folded operator.
 use Rattle.std.proofs.Common.{sym, subst}
 use Rattle.cool_syntax.specs.NodeLists.{tree_at}
 use Rattle.cool_fold.specs.PlacedForms.{PlacesBinary}

@@ -1,4 +1,4 @@
--- What is placed of an assignment or an operator with one operand is what the whole is folded to.
+-- The nodes placed for an assignment or an operator with one operand are those of the folded expression.
 use Rattle.std.proofs.Common.{sym, subst}
 use Rattle.cool_syntax.specs.NodeLists.{tree_at}
 use Rattle.cool_fold.specs.PlacedForms.{PlacesUnary}

@@ -1,4 +1,4 @@
--- One expression more comes to its place, and in the end the table is the folded one, with the types of its nodes.
+-- One more expression comes to its place, and in the end the table is the folded one, with the types of its nodes.
 use Rattle.std.proofs.Common.{◌∙◌, List, ap, sym, subst}
 use Rattle.cool_syntax.specs.declared.TheConstants.{MOST_FILES}
 use Rattle.cool_classes.specs.Chains.{Class}

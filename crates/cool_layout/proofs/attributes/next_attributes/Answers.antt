@@ -1,4 +1,4 @@
--- Those of the parent, and the class's own.
+-- The attributes of the parent, and the class's own.
 use Rattle.std.proofs.Common.{◌≡◌, ℕ, List, ◌++◌, length, Some, None, sym, ap, ◌∙◌, subst}
 use Rattle.std.specs.Prelude.{IfOk}
 use Rattle.std.specs.Global.{Vec}

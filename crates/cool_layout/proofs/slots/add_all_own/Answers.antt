@@ -1,4 +1,4 @@
--- Those of a basic class, or those among the features.
+-- The methods of a basic class, or those among the features.
 use Rattle.std.proofs.Common.{◌≡◌, Bool, true, false, sym, arith, OnOk, subst}
 use Rattle.std.specs.Prelude.{nat_lt, if◌then◌else◌}
 use Rattle.cool_classes.specs.Chains.{features_of}

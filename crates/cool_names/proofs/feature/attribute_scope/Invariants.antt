@@ -1,4 +1,4 @@
--- What is left to enter are attributes, and with them it is the scope.
+-- The items left to enter are attributes, and with them it is the scope.
 use Rattle.std.proofs.Common.{◌≡◌, map}
 use Rattle.std.specs.List.{AllByRecursion}
 use Rattle.cool_classes.specs.Features.{HasAttribute}

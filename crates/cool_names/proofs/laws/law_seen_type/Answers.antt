@@ -1,4 +1,4 @@
--- What is seen is what the rules say.
+-- The type seen is the one that the rules give.
 use Rattle.cool_names.proofs.SeenTypes.{seen_rightly}
 use Rattle.cool_names.proofs.laws.law_seen_type.Goals as goal
 

@@ -1,4 +1,4 @@
--- Files whose places alone differ are a base with what was kept.
+-- Files that differ only in places form a base with the stored results.
 use Rattle.std.proofs.Common.{List, refl, sym, subst}
 use Rattle.cool_lexer.specs.declared.lexer.Lexed.{Lexed}
 use Rattle.cool_faults.specs.declared.fault.Untyped.{Untyped}

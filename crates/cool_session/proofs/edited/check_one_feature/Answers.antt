@@ -43,7 +43,7 @@ same_base b few short kept =
       kept = kept_same kept b.kept i;
     }
 
--- what is known of the files, by what was found
+-- facts about the files, by the result of the search
 anew : (base : Base) (ls' : List Lexed) (number : ℕ) (run : Run) → IsLexing ls' → DifferInFeature base.untyped.lexed.items ls' number run
     → (all : List FeatureId) → all ≡ ids base.untyped.classes → (id : FeatureId) → id ≡ get_or all number id
     → (fs : List Feature) (x y : Feature)

@@ -1,4 +1,4 @@
--- What the typer answers is kept in the place of what was kept of the feature.
+-- The typer's result replaces the stored result of the feature.
 use Rattle.std.proofs.Common.{List, Option, slice_set, sym, ap, ◌∙◌, subst}
 use Rattle.cool_check.specs.TypingFaults.{feature_checked}
 use Rattle.cool_classes.specs.Chains.{features_of}

@@ -1,4 +1,4 @@
--- What a base keeps is kept of the features of its tokens.
+-- The results in a base are those of the features of its tokens.
 use Rattle.std.proofs.Common.{List, sym, subst}
 use Rattle.cool_lexer.specs.declared.lexer.Lexed.{Lexed}
 use Rattle.cool_session.specs.KeptChecks.{AreKeptAmong}

@@ -1,4 +1,4 @@
--- Of each feature in turn what is kept, or what the typer answers, is to be kept; and it is asked only where nothing is kept.
+-- The stored result or the typer's result of each feature is to be stored, in turn; the typer is called only if no result is stored.
 use Rattle.std.proofs.Common.{rules, ◌≡◌, ◌+◌, ◌<◌, ◌≤◌, ◌++◌, ◌∷◌, [], ℕ, List, length, take, Option, IfSome, refl, sym, ap, ◌∙◌, subst, arith}
 use Rattle.std.specs.Borrow.{Bor}
 use Rattle.std.proofs.lemmas.Option.{slice_get_within}

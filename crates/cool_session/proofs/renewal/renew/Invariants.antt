@@ -1,4 +1,4 @@
--- What is kept of the features so far, and how many of them were not kept.
+-- The results of the features so far, and the number of those without a stored result.
 use Rattle.std.proofs.Common.{◌≡◌, ◌≤◌, take}
 use Rattle.cool_session.specs.KeptFaults.{results, AreKeptOf}
 use Rattle.cool_session.specs.NewFeatures.{AreNew, calls_after, kinds_seen, runs_seen}

@@ -1,4 +1,4 @@
--- Behind the bytes the room is zero.
+-- After its bytes, a short name's room is zero.
 use Rattle.std.proofs.Common.{subst, ◌≡◌, ◌∙◌, ◌++◌, sym, ap, ℕ, List, length, drop, replicate, arith, refl}
 use Rattle.std.proofs.lemmas.List.{length-append, length-drop, drop_at, drop-replicate}
 use Rattle.cool_syntax.specs.declared.text.TheConstants.{MOST_SHORT_NAME}

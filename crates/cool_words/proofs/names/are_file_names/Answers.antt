@@ -9,7 +9,7 @@ use Rattle.clap.specs.Words.{Text}
 use Rattle.cool_words.specs.Plans.{is_file_name}
 use Rattle.cool_words.proofs.names.are_file_names.Goals as goal
 
--- of one name or more the test of each decides
+-- if there is a name, the tests of all decide
 test_of_each : (names : List (Bor Text)) (each : Bool) → 0 < length names → each ≡ (nat_lt 0 (length (texts names)) && each)
 test_of_each [] each some = absurd (omega (arith, some))
 test_of_each (name ∷ names) each some = grind arith

@@ -1,4 +1,4 @@
--- What a name is the label of, by the segment of its label and the words before it.
+-- The text label that a name is, by the segment of its label and the words before it.
 use Rattle.std.proofs.Common.{◌≡◌, sym, ◌∙◌, ap, ℕ, ◌+◌, ◌*◌, List, Option, Some, None, refl, arith}
 use Rattle.mips_isa.specs.declared.address_map.TheConstants.{TEXT_START}
 use Rattle.mips_isa.specs.declared.place.Segment.{Segment}
@@ -12,7 +12,7 @@ use Rattle.mips_asm.proofs.WordsOfText.{lines_fit}
 use Rattle.mips_asm.proofs.LabelsOfText.{label_in, label_by_segment}
 use Rattle.mips_asm.proofs.text_labels.text_label.Goals as goal
 
--- what a name is the label of, by the segment that was found and the words before the label
+-- the text label that a name is, by the segment that was found and the words before the label
 found : (start : Option ℕ) (end : ℕ) (lines : List Line) (name : Name) (words : ℕ) (segment : Option Segment)
     → address_or_start start end name (place_of lines name) ≡ text_label lines name
     → segment ≡ segment_of_name Text lines name → words ≡ words_before lines name

@@ -1,4 +1,4 @@
--- Where the first byte begins a name, those after it decide.
+-- If the first byte begins a name, those after it decide.
 use Rattle.std.proofs.Common.{◌≡◌, ◌∙◌, ◌-◌, ◌≤◌, sym, ap, refl, rules, tests, arith, Bool, true, ℕ, List, [], ◌∷◌, length, get_or, drop, take}
 use Rattle.std.specs.Prelude.{◌&&◌}
 use Rattle.std.specs.List.{list_all}

@@ -10,7 +10,7 @@ use Rattle.spim_debug.specs.Obeying.{IsDebuggerOf, Stands}
 use Rattle.spim_debug.proofs.DoneScripts.{so_far_none, so_far_more, stopped_in, done_all, not_begun}
 use Rattle.spim_debug.proofs.debugger.debug.Goals as goal
 
--- nothing was done, for want of memory
+-- nothing was done, out of memory
 pub returns-in_default-clause-debugged : goal.returns-in_default-clause-debugged
 returns-in_default-clause-debugged g c input rest leaves =
     not_begun (debuggee c.args.image.now c.args.limits.heap c.args.limits.stack c.args.budget input) c.args.script.now _ _ _ (ap Some (leaves_same _ input rest leaves)) refl
@@ -32,7 +32,7 @@ loop-command-init g c =
       notes = refl;
     }
 
--- what was taken, in a command and to the end
+-- the bytes taken, in a command and to the end
 pub returns-in-Err-clause-taken : goal.returns-in-Err-clause-taken
 returns-in-Err-clause-taken g c = (_, took_both _ _ _ _ _ _ _ _ _ c.loop-command.invariant.took c.obey.ensures.took)
 

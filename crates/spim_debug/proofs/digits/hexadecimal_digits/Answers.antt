@@ -5,7 +5,7 @@ use Rattle.std.specs.Str.{IsUtf8}
 use Rattle.spim_debug.proofs.HexDigits.{IsUtf8-encode_lower}
 use Rattle.spim_debug.proofs.digits.hexadecimal_digits.Goals as goal
 
--- what is known of an answer that is no error
+-- the facts about a result that is no error
 on_ok : {T E P : Type 0} (result : Result T E) → false ≡ is_err result → OnOk result P → P
 on_ok (Ok x) e p = p
 on_ok (Err x) e p = absurd cc

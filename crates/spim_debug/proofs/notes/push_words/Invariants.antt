@@ -3,7 +3,7 @@ use Rattle.spim_memory.specs.Memory.{segments, bytes_of}
 use Rattle.spim_debug.specs.Notes.{words_text}
 use Rattle.spim_debug.proofs.notes.push_words.Given as goal
 
--- behind the words so far come the others
+-- the other words come behind the words so far
 abbrev pub invariant-loop-done : goal.invariant-loop-done
 invariant-loop-done l =
     l.note.items ++ words_text (segments l.memory) (bytes_of l.memory) l.at (l.count - l._done)

@@ -1,4 +1,4 @@
--- What decides conformance is the function's answer.
+-- The function decides conformance.
 use Rattle.cool_rules.proofs.RulesOfTables.{do_conform_is}
 use Rattle.cool_check.proofs.typing_setting.TypingSetting.conforms.Goals as goal
 

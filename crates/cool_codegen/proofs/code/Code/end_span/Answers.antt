@@ -1,4 +1,4 @@
--- The span at its number is the one that was noted there, with another end; where lines alone are wanted none was.
+-- The span at its number is the one that was noted there, with another end; if only lines are wanted, none was noted.
 use Rattle.std.proofs.Common.{◌∷◌, [], ◌++◌, length, ap, sym, ◌∙◌}
 use Rattle.mips_isa.specs.Lines.{lines_of}
 use Rattle.cool_codegen.specs.declared.code_setting.Wanted.{Wanted}

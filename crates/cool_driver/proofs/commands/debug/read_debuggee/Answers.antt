@@ -38,7 +38,7 @@ returns-in-Err-clause-refused g c =
     let few : length (words_of c.args.names.now) ≤ MOST_FILES = omega (arith, length-map c.args.names.now string_bytes, c.if-names-gt-MOST_FILES.false) in
     told_so (IsDueUnscripted _ _) (IsNoDebuggee _ _ _) c.in-Err.refusal (λ status note why. rw why.0 (IsNoDebuggee.unscripted note few why.1)) c.in-Err.ensures.refused
 
--- what the shelf was asked for: nothing, the script and some of the files, or the script alone
+-- the files that the shelf was asked for: none, the script and some of the files, or only the script
 pub returns-then-names-gt-MOST_FILES-clause-asked : goal.returns-then-names-gt-MOST_FILES-clause-asked
 returns-then-names-gt-MOST_FILES-clause-asked g c = asked_none _ _
 
@@ -65,7 +65,7 @@ returns-in-Ok-clause-asked g c =
 pub returns-in-Err-clause-asked : goal.returns-in-Err-clause-asked
 returns-in-Err-clause-asked g c = script_asked c.args.names.now c.if-names-gt-MOST_FILES.false c.args.script.now _ _ c.read_bytes.ensures.asked
 
--- what is told of it
+-- the lines of the refusal
 pub returns-then-names-gt-MOST_FILES-clause-lined : goal.returns-then-names-gt-MOST_FILES-clause-lined
 returns-then-names-gt-MOST_FILES-clause-lined g c = line_lined _ _ Status.FileFault _ c.refuse_by_line.result (λ e. omega (arith, e)) c.refuse_by_line.ensures
 

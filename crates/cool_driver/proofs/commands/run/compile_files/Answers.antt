@@ -7,7 +7,7 @@ use Rattle.cool_words.proofs.FileNames.{short_names}
 use Rattle.cool_driver.proofs.ProgramsMeant.{program_fits, program_imaged}
 use Rattle.cool_driver.proofs.commands.run.compile_files.Goals as goal
 
--- what is compiled fits so many files as there are names
+-- the compiled program fits as many files as there are names
 pub build-requires-clause-fits : goal.build-requires-clause-fits
 build-requires-clause-fits g c =
     c.in_ok-compiled-in-Ok.ensures.fits (length c.args.names.now) (program_fits c.args.names.now _ c.in-Ok.program c.in-Ok.ensures.program)

@@ -16,7 +16,7 @@ use Rattle.cool_emit.proofs.emission.Emission.add_section.Goals as goal
 use Rattle.std.proofs.lemmas.Result.{on_ok_weaker}
 use Rattle.lists.proofs.ItemsAt.{there_is}
 
--- what a feature adds, its section adds
+-- the additions of a feature are those of its section
 method_added : {A E : Type 0} (p : List Class) (files : List (List ℕ)) (c : ClassId) (place : ℕ) (section : Section) (old new : Constants) (before after : List Line) (r : Result A E)
     → section ≡ Method c place → IsSection p section
     → ((x : Feature) → slice_get (features_of p c) place ≡ Some x

@@ -15,7 +15,7 @@ use Rattle.cool_emit.proofs.BatchesInTurn.{section_there, data_there, all_are_as
 use Rattle.cool_emit.proofs.SectionsInTurn.{few_integers_before, few_strings_before, within_here, constants_here, lines_here}
 use Rattle.cool_emit.proofs.emission.Emission.batch.Goals as goal
 
--- what holds of each value holds where there is one, and so does what holds anyway
+-- a property of each value holds for an `Ok` value, and so does a fact without condition
 on_ok : {X Y : Type 0} (r : Result X Y) (P : X → Type 0) (Q : Type 0) → ((x : X) → P x → Q) → IfOk r P → OnOk r Q
 on_ok (Ok x) P Q f h = f x h
 on_ok (Err e) P Q f h = tt

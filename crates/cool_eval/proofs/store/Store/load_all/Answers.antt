@@ -1,4 +1,4 @@
--- What is at all locations, where the value at one is not given.
+-- The result of loading from all locations, if the value at one is not returned.
 use Rattle.std.proofs.Common.{◌≡◌, Err, rules}
 use Rattle.cool_eval.proofs.LoadedValues.{failed_on}
 use Rattle.cool_eval.proofs.store.Store.load_all.Goals as goal

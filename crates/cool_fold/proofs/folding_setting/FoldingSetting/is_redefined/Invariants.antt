@@ -1,4 +1,4 @@
--- Of the classes that are left one is below where one of all is.
+-- A class among those left is below this class exactly if one of all is.
 use Rattle.std.proofs.Common.{◌≡◌, drop}
 use Rattle.std.specs.List.{list_any}
 use Rattle.cool_classes.specs.ClimbedChains.{above}

@@ -4,7 +4,7 @@ use Rattle.std.proofs.lemmas.Map.Text.{btree_map_updates_text}
 use Rattle.std.proofs.lemmas.Result.{IfOk-at_ok}
 use Rattle.cool_ports.proofs.mem_shelf.MemShelf.put_file.Goals as goal
 
--- what stands under a key, after a change of one key
+-- the value of a key, after a change of one key
 option_map-cond : {X Y : Type 0} (f : X → Y) (b : Bool) (x : X) (o : Option X) → option_map f (cond b (Some x) o) ≡ cond b (Some (f x)) (option_map f o)
 option_map-cond f true x o = refl
 option_map-cond f false x o = refl

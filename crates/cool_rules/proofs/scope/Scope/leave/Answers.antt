@@ -1,4 +1,4 @@
--- What is left is the rest of what was there.
+-- Leaving a scope restores the entries that were there before.
 use Rattle.std.proofs.Common.{ℕ, ◌-◌, take, ap, ◌∙◌}
 use Rattle.cool_rules.specs.Scopes.{left, latest_first}
 use Rattle.cool_rules.proofs.ScopesInOrder.{latest_less}

@@ -1,4 +1,4 @@
--- Short names are one where their counts and rooms are.
+-- Short names are equal if their counts and rooms are.
 use Rattle.std.proofs.Common.{◌≡◌, ◌≤◌, ◌∙◌, sym, ap, ℕ, List, length, take, drop, replicate, ◌-◌, subst}
 use Rattle.std.specs.Prelude.{bytes_eq}
 use Rattle.std.proofs.lemmas.Bool.{ne_eqb}

@@ -13,7 +13,7 @@ use Rattle.spim_debug.proofs.GoingOn.{Counts, span, whole_span, answers_of, went
 use Rattle.spim_debug.proofs.ObeyedCommands.{obeyed_stop}
 use Rattle.spim_debug.proofs.debugger.Debugger.run.Goals as goal
 
--- where the machine is, by the answers of its run up to a break address of the script
+-- the state of the machine, by the results of its run up to a break address of the script
 pub returns-clause-obeyed : goal.returns-clause-obeyed
 returns-clause-obeyed g c d p first input rest leaves st =
     let x = c.args.self.now in

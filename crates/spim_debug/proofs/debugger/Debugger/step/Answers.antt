@@ -11,7 +11,7 @@ use Rattle.spim_debug.proofs.GoingOn.{Counts, span, answers_of, went_on, room_is
 use Rattle.spim_debug.proofs.ObeyedCommands.{obeyed_stop}
 use Rattle.spim_debug.proofs.debugger.Debugger.step.Goals as goal
 
--- where the machine is, by the answers of its run
+-- the state of the machine, by the results of its run
 pub returns-clause-obeyed : goal.returns-clause-obeyed
 returns-clause-obeyed g c d p first input rest leaves st =
     let x = c.args.self.now in

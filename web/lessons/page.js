@@ -1,14 +1,14 @@
 // The page of the lessons: their texts, programs to try, and tasks that are checked.
 "use strict";
 
-const KEPT_COURSE = "cool-course";
+const KEPT_ANSWERS = "cool-lessons";
 const ALL_SHOWN = COOL_RULES.flatMap((it) => it.entries.flatMap((x) => [...(x.typing ?? []), ...(x.running ?? []), ...(x.kind === "rule" ? [x] : [])]));
 const coded = (words) => words.split("`").map((part, i) => (i % 2 === 1 ? element("code", {}, part) : part));
 
 // What was written, by the ids of tasks; where the browser keeps nothing it is not kept.
 function keptAnswers() {
     try {
-        return JSON.parse(localStorage.getItem(KEPT_COURSE) ?? "{}");
+        return JSON.parse(localStorage.getItem(KEPT_ANSWERS) ?? "{}");
     } catch {
         return {};
     }
@@ -16,7 +16,7 @@ function keptAnswers() {
 
 function keepAnswer(id, answer) {
     try {
-        localStorage.setItem(KEPT_COURSE, JSON.stringify({ ...keptAnswers(), [id]: answer }));
+        localStorage.setItem(KEPT_ANSWERS, JSON.stringify({ ...keptAnswers(), [id]: answer }));
     } catch {
         // It is not kept.
     }

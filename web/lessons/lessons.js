@@ -1,4 +1,4 @@
-// The lessons: text, the rules that are shown, a program to begin with, tasks with what checks them, and an answer to each, which `web/course-try` compares.
+// The lessons: text, the rules that are shown, a program to begin with, tasks with what checks them, and an answer to each, which `web/lessons-try` compares.
 "use strict";
 
 // A task has words, the program to begin with, an answer, and checks, each one of
