@@ -4,8 +4,8 @@
 //!
 //! Comes in: a form, and names of files. Goes out: a line for each mark of `cool_names`, as `specs/Lines.antt` defines it, the table of code of
 //! `cool_emit`, the tokens as `specs/TokenLines.antt` defines their lines, the trees as `specs/TreeLines.antt` does, or a status. It meets
-//! `specs/Ends.antt`; `perform` is all that it does for words that are text, except those that begin with `--tokens` or `--trees`, and its clause is
-//! the promise over the system's files and streams (`specs/Processes.antt`).
+//! `specs/Ends.antt`; `perform` is everything that the program does if its arguments are text, and its clause is the promise over the system's files
+//! and streams (`specs/Processes.antt`).
 #![tactic(auto)]
 
 mod answer;
@@ -20,10 +20,9 @@ mod tokens;
 mod trees;
 
 use cool_ports::StdSink;
-use cool_sources::{Status, call_of, tell};
-use form::Form;
+use cool_sources::{Status, tell};
 use note::BAD_COMMAND_LINE;
-use process::{list_over_system, perform};
+use process::perform;
 use std::alloc::Global;
 use std::io::ErrorKind;
 use std::process::ExitCode;
@@ -31,29 +30,11 @@ use std::{env, io};
 
 fn main(rt: HostRuntime) -> ExitCode {
     let status = match words(&rt) {
-        Ok(words) => match form_of(&words) {
-            Some((form, names)) => {
-                list_over_system(rt.alloc(), form, names, &rt, rt.stdout(), rt.stderr()).status
-            }
-            None => perform(rt.alloc(), &words, &rt, rt.stdout(), rt.stderr()).status,
-        },
+        Ok(words) => perform(rt.alloc(), &words, &rt, rt.stdout(), rt.stderr()).status,
         Err(error) if error.kind() == ErrorKind::OutOfMemory => Status::Memory,
         Err(_) => bad_command_line(&rt),
     };
     ExitCode::from(status.code())
-}
-
-/// The tokens or the trees, if the words ask for them, and the names of the files. `None` for all other words, which `perform` reads.
-fn form_of(words: &[String]) -> Option<(Form, &[String])> {
-    let options = [("--tokens", Form::Tokens), ("--trees", Form::Trees)];
-    for (option, form) in options {
-        if let Some(call) = call_of(option, words) {
-            if call.other {
-                return Some((form, call.names));
-            }
-        }
-    }
-    None
 }
 
 /// Notes that the words are no text, and so no command line, and answers how that ended.

@@ -5,7 +5,7 @@ ghost use Rattle.cool_ports.specs.ShelfFiles.{AskedFront};
 ghost use Rattle.cool_sources.specs.GivenFiles.{WereUnread};
 ghost use Rattle.cool_editor.specs.Ends.{IsNoCall, note_of};
 ghost use Rattle.cool_sources.specs.CommandLine.{words_of};
-ghost use Rattle.cool_editor.specs.Processes.{HasEnded, HasListed, HasRefused, WasCutShort, form_asked, names_asked};
+ghost use Rattle.cool_editor.specs.Processes.{HasEnded, HasListed, HasRefused, WasCutShort, form_asked, names_asked, option_of, other_form};
 
 use crate::form::Form;
 use crate::listing::list_names;
@@ -75,8 +75,8 @@ pub fn list_over_system<R: Files, O: Write, E: Write>(
     }
 }
 
-/// Does what the words of a command line ask for, over a runtime's files and the writers of the output and of the notes. Words that are no command
-/// line end as those without a name do.
+/// Does what the arguments of a command line ask for, over a runtime's files and the writers of the output and of the notes. Arguments that are not a
+/// valid command line end as a command line without a file name does.
 pub fn perform<R: Files, O: Write, E: Write>(
     alloc: Global,
     words: &[String],
@@ -88,11 +88,35 @@ pub fn perform<R: Files, O: Write, E: Write>(
         (⟦<FileShelf<R> as Shelf>⟧.asked result.files) (⟦<FileShelf<R> as Shelf>⟧.gave result.files) result.status
         (⟦<StdSink<O> as Sink>⟧.held result.out) (⟦<StdSink<O> as Sink>⟧.puts result.out) (⟦<StdSink<E> as Sink>⟧.held result.notes) }
 {
-    match call_of("--code", words) {
+    let other = other_form(words);
+    match call_of(option_of(other), words) {
         Some(call) => {
-            let form = if call.other { Form::Code } else { Form::Marks };
+            let form = if call.other { other } else { Form::Marks };
             list_over_system(alloc, form, call.names, files, out, notes)
         }
         None => list_over_system(alloc, Form::Marks, &[], files, out, notes),
+    }
+}
+
+/// The only form besides the marks that these arguments can ask for.
+fn other_form(words: &[String]) -> Form
+    ensures { result ≡ other_form (words_of words.now) }
+{
+    match words {
+        [first, ..] if first.as_str() == option_of(Form::Tokens) => Form::Tokens,
+        [first, ..] if first.as_str() == option_of(Form::Trees) => Form::Trees,
+        _ => Form::Code,
+    }
+}
+
+/// The option that chooses a form. The marks have none.
+fn option_of(form: Form) -> &'static str
+    ensures { result.now ≡ option_of form }
+{
+    match form {
+        Form::Marks => "",
+        Form::Code => "--code",
+        Form::Tokens => "--tokens",
+        Form::Trees => "--trees",
     }
 }
