@@ -1,13 +1,12 @@
 //! The text of a node: its form, its names and the numbers of its parts.
 
 ghost use Rattle.std.specs.Prelude.{◌≡◌, ◌++◌, IfOk, codes, flat_map};
-ghost use Rattle.cool_emit.specs.TableLines.{arith_word, compare_word};
 ghost use Rattle.cool_editor.specs.TokenLines.{string_text};
 ghost use Rattle.cool_editor.specs.NodeTexts.{branch_text, form_text, head_line, maybe_text, part_text, parts_text};
 
 use crate::tokens::string_text;
-use cool_emit::place_text;
-use cool_syntax::{ArithOp, CompareOp, Name, Node, NodeBranch, NodeId, Place, TypeRef};
+use cool_emit::{arith_word, compare_word, place_text};
+use cool_syntax::{Name, Node, NodeBranch, NodeId, Place, TypeRef};
 use std::alloc::{AllocError, Global};
 
 /// The form of a node, with its names and the numbers of its parts. `Err` comes only for want of memory.
@@ -218,25 +217,4 @@ pub(crate) fn head_line(
     line.extend_from_slice(declared)?;
     line.extend_from_slice(b"\n")?;
     Ok(line)
-}
-
-fn arith_word(op: ArithOp) -> &'static [u8]
-    ensures { result.now ≡ arith_word op }
-{
-    match op {
-        ArithOp::Add => b"+",
-        ArithOp::Sub => b"-",
-        ArithOp::Mul => b"*",
-        ArithOp::Div => b"/",
-    }
-}
-
-fn compare_word(op: CompareOp) -> &'static [u8]
-    ensures { result.now ≡ compare_word op }
-{
-    match op {
-        CompareOp::Less => b"<",
-        CompareOp::LessEqual => b"<=",
-        CompareOp::Equal => b"=",
-    }
 }

@@ -10,7 +10,6 @@ ghost use Rattle.cool_syntax.specs.LexicalStructure.{Lexes, place_at};
 ghost use Rattle.cool_syntax.specs.NodeLists.{nodes};
 ghost use Rattle.cool_syntax.specs.TokenFacts.{weights};
 ghost use Rattle.cool_syntax.specs.Tree.{tree_size};
-ghost use Rattle.cool_emit.specs.TableLines.{type_text};
 ghost use Rattle.cool_faults.specs.Files.{bytes_of, total};
 ghost use Rattle.cool_editor.specs.Columns.{column_seen, FitsBody, FitsClass, FitsClasses, FitsFeature, FitsInit, IsAdded, IsOfFiles};
 ghost use Rattle.cool_editor.specs.NodeTexts.{node_place};
@@ -18,8 +17,8 @@ ghost use Rattle.cool_editor.specs.TreeLines.{AreTreesOf, IsTreesText, body_text
 
 use crate::node_text::{form_text, head_line, part_text};
 use crate::tokens::{fault_line, lex_word};
-use cool_classes::{ClassId, ClassTable, Ty};
-use cool_emit::place_text;
+use cool_classes::{ClassId, ClassTable};
+use cool_emit::{place_text, type_text};
 use cool_faults::{Verdict, accept};
 use cool_lexer::{LexError, Lexed, lex};
 use cool_parser::{ParseError, parse};
@@ -315,21 +314,5 @@ fn static_text<'a>(column: Option<Column<'a>>, id: NodeId) -> &'a [u8]
     match column {
         Some(column) => type_text(column.table, column.types.get(id)),
         None => b"?",
-    }
-}
-
-/// A type: a class of the table, or `SELF_TYPE`.
-fn type_text(table: &ClassTable, ty: Ty) -> &[u8]
-    ensures { result.now ≡ type_text table.now ty }
-{
-    match ty {
-        Ty::SelfType => b"SELF_TYPE",
-        Ty::Class(c) => {
-            if c.0 < table.count() {
-                table.name(c).as_slice()
-            } else {
-                b""
-            }
-        }
     }
 }
