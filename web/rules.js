@@ -86,7 +86,7 @@ const COOL_RULES = [
 ]
 ],
 "file": "crates/cool_classes/specs/ClassRows.antt",
-"line": 41,
+"line": 40,
 "source": "twice : (k : ℕ) (d : ClassDef) → IsClassAt ds k d → d.name ≢ self_type → IsNamedBefore ds k d.name → IsClassFault ds C1 d.at",
 "error": false
 }
@@ -165,7 +165,7 @@ const COOL_RULES = [
 ]
 ],
 "file": "crates/cool_classes/specs/ClassRows.antt",
-"line": 43,
+"line": 42,
 "source": "named_self_type : (k : ℕ) (d : ClassDef) → IsClassAt ds k d → d.name ≡ self_type → IsClassFault ds C2 d.at",
 "error": false
 },
@@ -233,7 +233,7 @@ const COOL_RULES = [
 ]
 ],
 "file": "crates/cool_classes/specs/ClassRows.antt",
-"line": 44,
+"line": 43,
 "source": "parent_self_type : (k : ℕ) (r : TypeRef) → HasParent ds k r → r.name ≡ self_type → IsClassFault ds C2 r.at",
 "error": false
 }
@@ -332,7 +332,7 @@ const COOL_RULES = [
 ]
 ],
 "file": "crates/cool_classes/specs/ClassRows.antt",
-"line": 46,
+"line": 45,
 "source": "no_parent : (k : ℕ) (r : TypeRef) → HasParent ds k r → r.name ≢ self_type → IsUnnamed ds r.name → IsClassFault ds C3 r.at",
 "error": false
 }
@@ -443,7 +443,7 @@ const COOL_RULES = [
 ]
 ],
 "file": "crates/cool_classes/specs/ClassRows.antt",
-"line": 48,
+"line": 47,
 "source": "barred_parent : (k : ℕ) (r : TypeRef) → HasParent ds k r → IsBarredName r.name → IsClassFault ds C4 r.at",
 "error": false
 }
@@ -522,7 +522,7 @@ const COOL_RULES = [
 ]
 ],
 "file": "crates/cool_classes/specs/ClassRows.antt",
-"line": 50,
+"line": 49,
 "source": "cycle : (k : ℕ) (d : ClassDef) → IsClassAt ds k d → IsOnCycle (parents_meant (names_with_basic ds) ds) k → IsClassFault ds C5 d.at",
 "error": false
 }
@@ -573,7 +573,7 @@ const COOL_RULES = [
 ]
 ],
 "file": "crates/cool_classes/specs/ClassRows.antt",
-"line": 52,
+"line": 51,
 "source": "no_main : IsUnnamed ds (codes \"Main\") → IsClassFault ds C6 (record { file = 0; line = 1; byte = 0 })",
 "error": false
 }
@@ -632,7 +632,7 @@ const COOL_RULES = [
 ]
 ],
 "file": "crates/cool_classes/specs/ClassRows.antt",
-"line": 54,
+"line": 53,
 "source": "too_many : (d : ClassDef) → IsClassAt ds MOST_CLASSES d → IsClassFault ds C7 d.at",
 "error": false
 }
@@ -1673,7 +1673,7 @@ const COOL_RULES = [
 ]
 ],
 "file": "crates/cool_classes/specs/FeatureRows.antt",
-"line": 43,
+"line": 42,
 "source": "method_twice : (i j : ℕ) (m n : MethodDef) → IsMethodAt p c i m → j < i → IsMethodAt p c j n → n.name ≡ m.name → IsFeatureFault p c ds here F1 m.at",
 "error": false
 }
@@ -1796,7 +1796,7 @@ const COOL_RULES = [
 ]
 ],
 "file": "crates/cool_classes/specs/FeatureRows.antt",
-"line": 45,
+"line": 44,
 "source": "attribute_twice : (i j : ℕ) (a b : AttributeDef) → IsAttributeAt p c i a → j < i → IsAttributeAt p c j b → b.name ≡ a.name → IsFeatureFault p c ds here F2 a.at",
 "error": false
 },
@@ -1896,7 +1896,7 @@ const COOL_RULES = [
 ]
 ],
 "file": "crates/cool_classes/specs/FeatureRows.antt",
-"line": 46,
+"line": 45,
 "source": "attribute_inherited : (i j : ℕ) (a b : AttributeDef) (d : ClassId) → IsAttributeAt p c i a → Contains ds d → IsAttributeAt p d j b → b.name ≡ a.name → IsFeatureFault p c ds here F2 a.at",
 "error": false
 }
@@ -1979,7 +1979,7 @@ const COOL_RULES = [
 ]
 ],
 "file": "crates/cool_classes/specs/FeatureRows.antt",
-"line": 48,
+"line": 47,
 "source": "attribute_self : (i : ℕ) (a : AttributeDef) → IsAttributeAt p c i a → a.name ≡ codes \"self\" → IsFeatureFault p c ds here F3 a.at",
 "error": false
 },
@@ -2067,7 +2067,7 @@ const COOL_RULES = [
 ]
 ],
 "file": "crates/cool_classes/specs/FeatureRows.antt",
-"line": 49,
+"line": 48,
 "source": "formal_self : (i j : ℕ) (m : MethodDef) (f : Formal) → IsMethodAt p c i m → IsFormalAt m j f → f.name ≡ codes \"self\" → IsFeatureFault p c ds here F3 f.at",
 "error": false
 }
@@ -2214,7 +2214,7 @@ const COOL_RULES = [
 ]
 ],
 "file": "crates/cool_classes/specs/FeatureRows.antt",
-"line": 51,
+"line": 50,
 "source": "formal_twice : (i j k : ℕ) (m : MethodDef) (f g : Formal) → IsMethodAt p c i m → IsFormalAt m j f → k < j → IsFormalAt m k g → g.name ≡ f.name → IsFeatureFault p c ds here F4 f.at",
 "error": false
 }
@@ -2325,7 +2325,7 @@ const COOL_RULES = [
 ]
 ],
 "file": "crates/cool_classes/specs/FeatureRows.antt",
-"line": 53,
+"line": 52,
 "source": "formal_self_type : (i j : ℕ) (m : MethodDef) (f : Formal) → IsMethodAt p c i m → IsFormalAt m j f → f.declared.name ≡ self_type → IsFeatureFault p c ds here F5 f.declared.at",
 "error": false
 }
@@ -2436,7 +2436,7 @@ const COOL_RULES = [
 ]
 ],
 "file": "crates/cool_classes/specs/FeatureRows.antt",
-"line": 55,
+"line": 54,
 "source": "formal_unknown : (i j : ℕ) (m : MethodDef) (f : Formal) → IsMethodAt p c i m → IsFormalAt m j f → IsNoType p f.declared.name → IsFeatureFault p c ds here F6 f.declared.at",
 "error": false
 },
@@ -2504,7 +2504,7 @@ const COOL_RULES = [
 ]
 ],
 "file": "crates/cool_classes/specs/FeatureRows.antt",
-"line": 56,
+"line": 55,
 "source": "result_unknown : (i : ℕ) (m : MethodDef) → IsMethodAt p c i m → IsNoType p m.result.name → IsFeatureFault p c ds here F6 m.result.at",
 "error": false
 },
@@ -2572,7 +2572,7 @@ const COOL_RULES = [
 ]
 ],
 "file": "crates/cool_classes/specs/FeatureRows.antt",
-"line": 57,
+"line": 56,
 "source": "attribute_unknown : (i : ℕ) (a : AttributeDef) → IsAttributeAt p c i a → IsNoType p a.declared.name → IsFeatureFault p c ds here F6 a.declared.at",
 "error": false
 }
@@ -2679,7 +2679,7 @@ const COOL_RULES = [
 ]
 ],
 "file": "crates/cool_classes/specs/FeatureRows.antt",
-"line": 59,
+"line": 58,
 "source": "other_signature : (i : ℕ) (m : MethodDef) (q : MethodRef) → IsMethodAt p c i m → implementation p ds m.name ≡ Some q → HasOtherSignature p m q → IsFeatureFault p c ds here F7 m.at",
 "error": false
 }
@@ -2786,7 +2786,7 @@ const COOL_RULES = [
 ]
 ],
 "file": "crates/cool_classes/specs/FeatureRows.antt",
-"line": 61,
+"line": 60,
 "source": "no_main : name_of p c ≡ codes \"Main\" → ((i : ℕ) (m : MethodDef) → IsMethodAt p c i m → m.name ≢ codes \"main\") → IsFeatureFault p c ds here F8 here",
 "error": false
 },
@@ -2946,7 +2946,7 @@ const COOL_RULES = [
 ]
 ],
 "file": "crates/cool_classes/specs/FeatureRows.antt",
-"line": 62,
+"line": 61,
 "source": "main_formals : (i : ℕ) (m : MethodDef) → name_of p c ≡ codes \"Main\" → IsMethodAt p c i m → m.name ≡ codes \"main\"\n    → ((j : ℕ) (n : MethodDef) → j < i → IsMethodAt p c j n → n.name ≢ codes \"main\") → m.formals ≢ [] → IsFeatureFault p c ds here F8 here",
 "error": false
 }
@@ -3001,7 +3001,7 @@ const COOL_RULES = [
 ]
 ],
 "file": "crates/cool_classes/specs/FeatureRows.antt",
-"line": 65,
+"line": 64,
 "source": "attributes_over : MOST_ATTRIBUTES < length (attributes_of p (c ∷ ds)) → IsFeatureFault p c ds here F9 here",
 "error": false
 },
@@ -3037,7 +3037,7 @@ const COOL_RULES = [
 ]
 ],
 "file": "crates/cool_classes/specs/FeatureRows.antt",
-"line": 66,
+"line": 65,
 "source": "methods_over : MOST_METHODS < length (methods_of p (c ∷ ds)) → IsFeatureFault p c ds here F9 here",
 "error": false
 }
@@ -19129,7 +19129,7 @@ const COOL_RULES = [
 ]
 ],
 "file": "crates/cool_syntax/specs/Shapes.antt",
-"line": 12
+"line": 11
 }
 ],
 "faults": [
@@ -19338,7 +19338,7 @@ const COOL_RULES = [
 ")"
 ]
 ],
-"words": "What the latest binding of a name binds it to",
+"words": "The value of the latest binding of a name",
 "name": "found",
 "file": "crates/cool_rules/specs/Scopes.antt",
 "line": 24,
@@ -19534,7 +19534,7 @@ const COOL_RULES = [
 ")"
 ]
 ],
-"words": "What an attribute begins with, before its initial value",
+"words": "The default value of an attribute, before its initial value",
 "name": "default_values",
 "file": "crates/cool_meaning/specs/Lookups.antt",
 "line": 35,
@@ -19650,7 +19650,7 @@ const COOL_RULES = [
 "v₂"
 ]
 ],
-"words": "Numbers, truths and strings are equal by value, objects by identity, and void to void alone",
+"words": "Numbers, truths and strings are equal by value, objects by identity, and void only to void",
 "name": "same",
 "file": "crates/cool_meaning/specs/Evaluation.antt",
 "line": 76,
