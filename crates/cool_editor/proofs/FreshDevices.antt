@@ -1,4 +1,4 @@
--- What came of devices that did nothing before.
+-- A call with fresh devices, which did nothing before, listed, refused or was cut short as its process did.
 use Rattle.std.proofs.Common.{◌≡◌, ℕ, ◌⊎◌, inl, inr, List, [], ◌∙◌, subst}
 use Rattle.std.specs.Prelude.{Option, Some}
 use Rattle.cool_ports.specs.SinkBytes.{GotPrefix}

@@ -1,4 +1,4 @@
--- Which columns of types the classes of files have in a program, and what adding a file to the lines of trees does.
+-- The columns of types that a program has for the classes of its files. A file added to the lines of trees.
 use Rattle.std.specs.Prelude.{◌≡◌, ℕ, suc, ◌+◌, ◌<◌, List, [], ◌∷◌, ◌++◌, Option, Some, None, IfSome, length}
 use Rattle.std.specs.Option.{option_map}
 use Rattle.cool_classes.specs.Chains.{Class, class_number, features_of}

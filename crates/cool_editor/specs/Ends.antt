@@ -1,5 +1,5 @@
--- How a call ends: the lines of the marks of the files, or of the table of their code, are written, or the files have none, or are not read, or
--- a write fails.
+-- The end of a call: the lines of a form are written (marks, table of code, tokens or trees), or the files have none, or they are not read, or a
+-- write fails.
 use Rattle.std.specs.Prelude.{◌≡◌, ◌⊎◌, ℕ, List, [], ◌∷◌, ◌++◌, length, map, codes, nat_le, Bool, true, false, Option, Some, None}
 use Rattle.std.specs.List.{list_all}
 use Rattle.std.specs.Global.{Vec}

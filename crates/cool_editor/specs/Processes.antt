@@ -31,7 +31,7 @@ pub record WasCutShort (form : Form) (names asked gave : List (List ℕ)) (held 
   pub is : IsWritten form names gave text
   pub got : GotPrefix (Some []) text held
 
--- How a process ends that is asked for a form of the files of these names, by its status.
+-- The end of a process that is asked for a form of the files of these names, by its status.
 pub record HasEnded (form : Form) (names asked gave : List (List ℕ)) (status : Status) (held : Option (List ℕ)) (puts : List (List ℕ)) (noted : Option (List ℕ)) : Type 0 where
   pub listed : status ≡ Done → HasListed form names asked gave held
   pub refused : status ≡ Refused → HasRefused form names asked gave

@@ -1,5 +1,5 @@
--- The lines of tokens: of each file those of its tokens up to its first fault, and then that of its end or of the fault. The words of a line have a
--- blank between, and a newline behind the last.
+-- The lines of tokens: each file has a line for each token up to its first fault, and then one for its end or for the fault. One blank separates the
+-- words of a line, and a newline ends it.
 --
 --     keyword PLACE WORD
 --     sign PLACE SIGNS

@@ -1,5 +1,5 @@
--- The lines of trees: of each file those of its classes, or of the fault that leaves it without a tree. The words of a line have a blank between, and
--- a newline behind the last.
+-- The lines of trees: each file has the lines of its classes, or one for the fault because of which it has no tree. One blank separates the words of
+-- a line, and a newline ends it.
 --
 --     class PLACE NAME PARENT
 --     attribute PLACE NAME TYPE

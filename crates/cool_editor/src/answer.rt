@@ -1,4 +1,4 @@
-//! What is written of files.
+//! The text that a form writes for files.
 
 ghost use Rattle.std.specs.Prelude.{◌≡◌, ◌≤◌, length, map, string_bytes, IfOk, true};
 ghost use Rattle.std.specs.List.{list_all};
@@ -17,7 +17,7 @@ use cool_emit::{MOST_FILE_NAME, table};
 use cool_faults::{Verdict, accept};
 use std::alloc::{AllocError, Global};
 
-/// What a form asks for of files of these names, or none where they are no class table, or no program. `Err` comes only for want of memory.
+/// The text that a form writes for files of these names, or none where they are no class table, or no program. Returns `Err` only if memory runs out.
 pub fn files_text(
     alloc: Global,
     form: Form,
@@ -38,7 +38,7 @@ pub fn files_text(
     }
 }
 
-/// The lines of the marks of files, or none where they are no class table. `Err` comes only for want of memory.
+/// The lines of the marks of files, or none where they are no class table. Returns `Err` only if memory runs out.
 fn marks_text(
     alloc: Global,
     names: &[String],
@@ -55,7 +55,7 @@ fn marks_text(
     }
 }
 
-/// The lines of the table of code of files of these names, or none where they are no program. `Err` comes only for want of memory.
+/// The lines of the table of code of files of these names, or none where they are no program. Returns `Err` only if memory runs out.
 fn code_text(
     alloc: Global,
     names: &[String],
@@ -97,14 +97,14 @@ fn are_short(names: &[String]) -> bool
     true
 }
 
-/// The note of files of which nothing is written.
+/// The note of files for which a form writes nothing.
 pub fn refusal_note(form: Form) -> &'static [u8]
     ensures { result.now ≡ refusal_note form }
 {
     match form {
         Form::Marks => NO_CLASS_TABLE,
         Form::Code => NO_PROGRAM,
-        // Of these something is always written.
+        // All files have tokens and trees, if only a fault, so no call comes here (`HaveNone`).
         Form::Tokens => b"",
         Form::Trees => b"",
     }

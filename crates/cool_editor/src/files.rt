@@ -15,7 +15,7 @@ use cool_parser::parse;
 use cool_syntax::ClassDef;
 use std::alloc::{AllocError, Global};
 
-/// The marks of files, or none where they are no class table. `Err` comes only for want of memory.
+/// The marks of files, or none where they are no class table. Returns `Err` only if memory runs out.
 pub fn file_marks(alloc: Global, files: &[Vec<u8>]) -> Result<Option<Vec<Mark>>, AllocError>
     requires few { length files.now ≤ MOST_FILES }
     requires small { total (bytes_of files.now) ≤ MOST_SOURCE_BYTES }
@@ -30,7 +30,7 @@ pub fn file_marks(alloc: Global, files: &[Vec<u8>]) -> Result<Option<Vec<Mark>>,
     }
 }
 
-/// The definitions of the classes of files, by their tokens, which are trees. `Err` comes only for want of memory.
+/// The definitions of the classes of files, by their tokens, which are trees. Returns `Err` only if memory runs out.
 fn definitions_of(alloc: Global, files: &[Lexed]) -> Result<Vec<ClassDef>, AllocError>
     requires { AllByRecursion (λ file. length file.tokens.items ≤ MOST_SOURCE_BYTES) files.now }
     ensures { (trees : List tree.FileTree) → AreTrees files.now trees → IfOk result (λ all. all.items ≡ definitions trees) }

@@ -1,6 +1,6 @@
-//! What is written of files.
+//! The forms of the output.
 
-/// What is written of files.
+/// A form of the output for files.
 #[derive(Clone, Copy)]
 pub enum Form {
     /// The marks of their names.

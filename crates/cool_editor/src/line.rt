@@ -8,10 +8,10 @@ use cool_emit::place_text;
 use cool_names::{Mark, Role, Target};
 use std::alloc::{AllocError, Global};
 
-/// How many bytes most lines have.
+/// The number of bytes that most lines have.
 const USUAL_BYTES: usize = 64;
 
-/// The lines of marks. `Err` comes only for want of memory.
+/// The lines of marks. Returns `Err` only if memory runs out.
 pub fn lines(alloc: Global, marks: &[Mark]) -> Result<Vec<u8>, AllocError>
     ensures { IfOk result (λ text. text.items ≡ concat (map mark_line marks.now)) }
 {
@@ -22,7 +22,7 @@ pub fn lines(alloc: Global, marks: &[Mark]) -> Result<Vec<u8>, AllocError>
     Ok(text)
 }
 
-/// The line of a mark. `Err` comes only for want of memory.
+/// The line of a mark. Returns `Err` only if memory runs out.
 fn mark_line(alloc: Global, mark: &Mark) -> Result<Vec<u8>, AllocError>
     ensures { IfOk result (λ line. line.items ≡ mark_line mark.now) }
 {
@@ -40,7 +40,7 @@ fn mark_line(alloc: Global, mark: &Mark) -> Result<Vec<u8>, AllocError>
     Ok(line)
 }
 
-/// Where a name is defined. `Err` comes only for want of memory.
+/// The place where a name is defined. Returns `Err` only if memory runs out.
 fn target_text(alloc: Global, target: Target) -> Result<Vec<u8>, AllocError>
     ensures { IfOk result (λ text. text.items ≡ target_text target) }
 {

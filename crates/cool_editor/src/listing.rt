@@ -1,4 +1,4 @@
-//! The call: from the words to the lines.
+//! The call: from a form and names of files to the lines.
 
 ghost use Rattle.std.specs.Prelude.{◌≡◌, ◌≢◌, ◌<◌, ◌≤◌, ◌⊎◌, [], ◌++◌, length, map, string_bytes, IfOk, IfErr, IsErrOf, OnOk, true, false};
 ghost use Rattle.cool_syntax.specs.declared.TheConstants.{MOST_FILES};
@@ -20,7 +20,7 @@ use std::alloc::Global;
 /// The most bytes of a piece of the output.
 const MOST_PIECE_BYTES: usize = 4_096;
 
-/// Writes what a form asks for of the files of these names, and answers how that ended.
+/// Writes the text of a form for the files of these names, and returns how that ended.
 pub fn list_names<F: Shelf, O: Sink, E: Sink>(
     alloc: Global,
     form: Form,
@@ -29,7 +29,7 @@ pub fn list_names<F: Shelf, O: Sink, E: Sink>(
     out: &mut O,
     notes: &mut E,
 ) -> Status
-    // What is written of the files in this form was written, and nothing else.
+    // The text of the files in this form was written, and nothing else.
     ensures listed { result ≡ Status.Done
         → IsListed form (shelf_use F.files F.faults F.asked F.gave files.old files.new) (map string_bytes names.now) (sink_use O.held O.faults O.puts out.old out.new) }
     // The files are no class table, or no program.
@@ -51,7 +51,7 @@ pub fn list_names<F: Shelf, O: Sink, E: Sink>(
     ensures note { result ≢ Status.WriteFault → E.held notes.new ≡ appended (E.held notes.old) (note_of form result) }
     // It is put at once.
     ensures put { result ≢ Status.WriteFault → E.puts notes.new ≡ E.puts notes.old ++ puts_of form result }
-    // Where a write of it failed nothing is noted, and where that of the note failed a prefix of it was written.
+    // If a write of the text failed, nothing is noted; if that of the note failed, a prefix of the note was written.
     ensures unnoted { O.faults out.old < O.faults out.new → GotNothing (sink_use E.held E.faults E.puts notes.old notes.new) }
     ensures note_cut { E.faults notes.old < E.faults notes.new
         → IsNoteCut form (shelf_use F.files F.faults F.asked F.gave files.old files.new) (map string_bytes names.now) (sink_use E.held E.faults E.puts notes.old notes.new) }
@@ -81,7 +81,7 @@ pub fn list_names<F: Shelf, O: Sink, E: Sink>(
     }
 }
 
-/// What is written of the files of these names, or none where they are no class table, or no program.
+/// The text of the files of these names, or none where they are no class table, or no program.
 #[tactic(auto, using(cool_ports::proofs::AskedNames::asked_none, cool_ports::proofs::AskedNames::asked_whole))]
 fn names_text<F: Shelf>(
     alloc: Global,

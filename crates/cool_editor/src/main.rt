@@ -2,10 +2,10 @@
 //! `cool_editor --code FILES` where the code of each expression of the program stands, and which names are in scope there; `cool_editor --tokens FILES`
 //! their tokens, and `cool_editor --trees FILES` their trees with the types of all expressions.
 //!
-//! Comes in: a form, and names of files. Goes out: a line for each mark of `cool_names`, as `specs/Lines.antt` defines it, the table of code of
-//! `cool_emit`, the tokens as `specs/TokenLines.antt` defines their lines, the trees as `specs/TreeLines.antt` does, or a status. It meets
-//! `specs/Ends.antt`; `perform` is everything that the program does if its arguments are text, and its clause is the promise over the system's files
-//! and streams (`specs/Processes.antt`).
+//! Input: a form, and names of files. Output: a line for each mark of `cool_names`, as `specs/Lines.antt` defines it, the table of code of `cool_emit`,
+//! the tokens as `specs/TokenLines.antt` defines their lines, the trees as `specs/TreeLines.antt` does, or a status. The program meets
+//! `specs/Ends.antt`. `perform` is everything that it does if its arguments are text, and its clause is the promise over the system's files and streams
+//! (`specs/Processes.antt`).
 #![tactic(auto)]
 
 mod answer;

@@ -9,7 +9,7 @@ use cool_emit::{arith_word, compare_word, place_text};
 use cool_syntax::{Name, Node, NodeBranch, NodeId, Place, TypeRef};
 use std::alloc::{AllocError, Global};
 
-/// The form of a node, with its names and the numbers of its parts. `Err` comes only for want of memory.
+/// The form of a node, with its names and the numbers of its parts. Returns `Err` only if memory runs out.
 pub(crate) fn form_text(alloc: Global, node: &Node) -> Result<Vec<u8>, AllocError>
     ensures { IfOk result (λ text. text.items ≡ form_text node.now) }
 {
@@ -67,7 +67,7 @@ pub(crate) fn form_text(alloc: Global, node: &Node) -> Result<Vec<u8>, AllocErro
     }
 }
 
-/// A word, and the numbers of parts. `Err` comes only for want of memory.
+/// A word, and the numbers of parts. Returns `Err` only if memory runs out.
 fn of_parts(alloc: Global, word: &[u8], parts: &[NodeId]) -> Result<Vec<u8>, AllocError>
     ensures { IfOk result (λ text. text.items ≡ word.now ++ parts_text parts.now) }
 {
@@ -78,7 +78,7 @@ fn of_parts(alloc: Global, word: &[u8], parts: &[NodeId]) -> Result<Vec<u8>, All
     Ok(text)
 }
 
-/// Words, a name, and the numbers of parts. `Err` comes only for want of memory.
+/// Words, a name, and the numbers of parts. Returns `Err` only if memory runs out.
 fn named_text(
     alloc: Global,
     words: &[u8],
@@ -92,7 +92,7 @@ fn named_text(
     Ok(text)
 }
 
-/// Words, a name, a receiver, and arguments. `Err` comes only for want of memory.
+/// Words, a name, a receiver, and arguments. Returns `Err` only if memory runs out.
 fn call_text(
     alloc: Global,
     words: &[u8],
@@ -108,7 +108,7 @@ fn call_text(
     Ok(text)
 }
 
-/// A call of the method of a class. `Err` comes only for want of memory.
+/// A call of the method of a class. Returns `Err` only if memory runs out.
 fn static_text(
     alloc: Global,
     class: &TypeRef,
@@ -123,7 +123,7 @@ fn static_text(
     Ok(text)
 }
 
-/// A `let`. `Err` comes only for want of memory.
+/// A `let`. Returns `Err` only if memory runs out.
 fn let_text(
     alloc: Global,
     name: &Name,
@@ -140,7 +140,7 @@ fn let_text(
     Ok(text)
 }
 
-/// A `case`. `Err` comes only for want of memory.
+/// A `case`. Returns `Err` only if memory runs out.
 fn case_text(alloc: Global, value: NodeId, branches: &[NodeBranch]) -> Result<Vec<u8>, AllocError>
     ensures { IfOk result (λ text. text.items ≡ codes "case" ++ (part_text value ++ flat_map branch_text branches.now)) }
 {
@@ -149,7 +149,7 @@ fn case_text(alloc: Global, value: NodeId, branches: &[NodeBranch]) -> Result<Ve
     Ok(text)
 }
 
-/// Branches. `Err` comes only for want of memory.
+/// Branches. Returns `Err` only if memory runs out.
 fn branches_text(alloc: Global, branches: &[NodeBranch]) -> Result<Vec<u8>, AllocError>
     ensures { IfOk result (λ text. text.items ≡ flat_map branch_text branches.now) }
 {
@@ -160,7 +160,7 @@ fn branches_text(alloc: Global, branches: &[NodeBranch]) -> Result<Vec<u8>, Allo
     Ok(text)
 }
 
-/// A branch. `Err` comes only for want of memory.
+/// A branch. Returns `Err` only if memory runs out.
 fn branch_text(alloc: Global, branch: &NodeBranch) -> Result<Vec<u8>, AllocError>
     ensures { IfOk result (λ text. text.items ≡ branch_text branch.now) }
 {
@@ -171,7 +171,7 @@ fn branch_text(alloc: Global, branch: &NodeBranch) -> Result<Vec<u8>, AllocError
     Ok(text)
 }
 
-/// A string constant. `Err` comes only for want of memory.
+/// A string constant. Returns `Err` only if memory runs out.
 fn constant_text(alloc: Global, bytes: &[u8]) -> Result<Vec<u8>, AllocError>
     ensures { IfOk result (λ text. text.items ≡ codes "string " ++ string_text bytes.now) }
 {
@@ -180,7 +180,7 @@ fn constant_text(alloc: Global, bytes: &[u8]) -> Result<Vec<u8>, AllocError>
     Ok(text)
 }
 
-/// A part that may be missing. `Err` comes only for want of memory.
+/// A part that may be missing. Returns `Err` only if memory runs out.
 fn maybe_text(alloc: Global, part: Option<NodeId>) -> Result<Vec<u8>, AllocError>
     ensures { IfOk result (λ text. text.items ≡ maybe_text part) }
 {
@@ -190,7 +190,7 @@ fn maybe_text(alloc: Global, part: Option<NodeId>) -> Result<Vec<u8>, AllocError
     }
 }
 
-/// The number of a part. `Err` comes only for want of memory.
+/// The number of a part. Returns `Err` only if memory runs out.
 pub(crate) fn part_text(alloc: Global, part: NodeId) -> Result<Vec<u8>, AllocError>
     ensures { IfOk result (λ text. text.items ≡ part_text part) }
 {
@@ -198,7 +198,7 @@ pub(crate) fn part_text(alloc: Global, part: NodeId) -> Result<Vec<u8>, AllocErr
     Ok(format!(in alloc; " {number}")?.into_bytes())
 }
 
-/// A line of what the word says: its place, its name and a type. `Err` comes only for want of memory.
+/// A line of what the word says: its place, its name and a type. Returns `Err` only if memory runs out.
 pub(crate) fn head_line(
     alloc: Global,
     word: &[u8],

@@ -1,13 +1,13 @@
 //! The notes.
 
-/// Of words that name no file, or one by too long a name.
+/// The note of arguments that name no file, or one by too long a name.
 pub const BAD_COMMAND_LINE: &[u8] = b"cool_editor: bad command line\n";
 
-/// Of files that are no class table.
+/// The note of files that are no class table.
 pub const NO_CLASS_TABLE: &[u8] = b"cool_editor: no class table\n";
 
-/// Of files that are no program.
+/// The note of files that are no program.
 pub const NO_PROGRAM: &[u8] = b"cool_editor: not a program\n";
 
-/// Of files that are too many, or of which one was not read.
+/// The note of too many files, and of a file that was not read.
 pub const FILES_NOT_READ: &[u8] = b"cool_editor: files not read\n";

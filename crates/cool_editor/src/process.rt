@@ -15,10 +15,10 @@ use std::alloc::Global;
 use std::io::Write;
 use std::rt::Files;
 
-/// How a call over the system ended, with what its files gave, and what its output and its notes took.
+/// The end of a call over the system, with the bytes that its files gave, and those that its output and its notes took.
 #[derive(Drop)]
 pub struct Process<R, O, E> {
-    /// How it ended.
+    /// The status that it ended with.
     pub status: Status,
     /// The files, with what was asked for and given.
     pub files: FileShelf<R>,
@@ -28,7 +28,7 @@ pub struct Process<R, O, E> {
     pub notes: StdSink<E>,
 }
 
-/// Writes what a form asks for of the files of these names, as `list_names` does: the files are those that a runtime opens, and writers of std
+/// Writes the text of a form for the files of these names, as `list_names` does: the files are those that a runtime opens, and writers of std
 /// take it and the notes.
 pub fn list_over_system<R: Files, O: Write, E: Write>(
     alloc: Global,

@@ -11,8 +11,8 @@ use cool_lexer::{Beginning, LexFault, lex_to_fault};
 use cool_syntax::{Key, LexKind, Place, Sign, Token, TokenKind};
 use std::alloc::{AllocError, Global};
 
-/// The lines of the tokens of files: of each those up to its first fault, and then that of its end or of the fault. `Err` comes only for want of
-/// memory.
+/// The lines of the tokens of files: for each file those up to its first fault, and then one for its end or for the fault. Returns `Err` only if memory
+/// runs out.
 pub fn token_lines(alloc: Global, files: &[Vec<u8>]) -> Result<Vec<u8>, AllocError>
     requires few { length files.now ≤ MOST_FILES }
     requires small { total (bytes_of files.now) ≤ MOST_SOURCE_BYTES }
@@ -25,7 +25,7 @@ pub fn token_lines(alloc: Global, files: &[Vec<u8>]) -> Result<Vec<u8>, AllocErr
     Ok(text)
 }
 
-/// The lines of the tokens of the file of this number. `Err` comes only for want of memory.
+/// The lines of the tokens of the file of this number. Returns `Err` only if memory runs out.
 fn file_text(alloc: Global, file: u32, bytes: &[u8]) -> Result<Vec<u8>, AllocError>
     requires { length bytes.now ≤ MOST_SOURCE_BYTES }
     ensures { IfOk result (λ text. AreTokensOf file bytes.now text.items) }
@@ -36,7 +36,7 @@ fn file_text(alloc: Global, file: u32, bytes: &[u8]) -> Result<Vec<u8>, AllocErr
     Ok(text)
 }
 
-/// The lines of tokens. `Err` comes only for want of memory.
+/// The lines of tokens. Returns `Err` only if memory runs out.
 fn tokens_text(alloc: Global, tokens: &[Token]) -> Result<Vec<u8>, AllocError>
     ensures { IfOk result (λ text. text.items ≡ flat_map token_line tokens.now) }
 {
@@ -47,7 +47,7 @@ fn tokens_text(alloc: Global, tokens: &[Token]) -> Result<Vec<u8>, AllocError>
     Ok(text)
 }
 
-/// The line of a token. `Err` comes only for want of memory.
+/// The line of a token. Returns `Err` only if memory runs out.
 fn token_line(alloc: Global, token: &Token) -> Result<Vec<u8>, AllocError>
     ensures { IfOk result (λ line. line.items ≡ token_line token.now) }
 {
@@ -60,7 +60,7 @@ fn token_line(alloc: Global, token: &Token) -> Result<Vec<u8>, AllocError>
     Ok(line)
 }
 
-/// The line of the end of a file, or of its first fault. `Err` comes only for want of memory.
+/// The line of the end of a file, or of its first fault. Returns `Err` only if memory runs out.
 fn last_line(alloc: Global, end: Place, fault: Option<LexFault>) -> Result<Vec<u8>, AllocError>
     ensures { IfOk result (λ line. line.items ≡ last_line end fault) }
 {
@@ -70,7 +70,7 @@ fn last_line(alloc: Global, end: Place, fault: Option<LexFault>) -> Result<Vec<u
     }
 }
 
-/// The line of the end of a file. `Err` comes only for want of memory.
+/// The line of the end of a file. Returns `Err` only if memory runs out.
 fn end_line(alloc: Global, at: Place) -> Result<Vec<u8>, AllocError>
     ensures { IfOk result (λ line. line.items ≡ end_line at) }
 {
@@ -80,7 +80,7 @@ fn end_line(alloc: Global, at: Place) -> Result<Vec<u8>, AllocError>
     Ok(line)
 }
 
-/// The line of a fault of this kind. `Err` comes only for want of memory.
+/// The line of a fault of this kind. Returns `Err` only if memory runs out.
 pub(crate) fn fault_line(alloc: Global, at: Place, word: &[u8]) -> Result<Vec<u8>, AllocError>
     ensures { IfOk result (λ line. line.items ≡ fault_line at word.now) }
 {
@@ -92,7 +92,7 @@ pub(crate) fn fault_line(alloc: Global, at: Place, word: &[u8]) -> Result<Vec<u8
     Ok(line)
 }
 
-/// What a token is.
+/// The first word of a token's line.
 fn kind_word(kind: &TokenKind) -> &'static [u8]
     ensures { result.now ≡ kind_word kind.now }
 {
@@ -106,7 +106,7 @@ fn kind_word(kind: &TokenKind) -> &'static [u8]
     }
 }
 
-/// The value of a token. `Err` comes only for want of memory.
+/// The value of a token. Returns `Err` only if memory runs out.
 fn value_text(alloc: Global, kind: &TokenKind) -> Result<Vec<u8>, AllocError>
     ensures { IfOk result (λ text. text.items ≡ value_text kind.now) }
 {
@@ -120,7 +120,7 @@ fn value_text(alloc: Global, kind: &TokenKind) -> Result<Vec<u8>, AllocError>
     }
 }
 
-/// The bytes of a string as Cool writes them, in quotes. `Err` comes only for want of memory.
+/// The bytes of a string as Cool writes them, in quotes. Returns `Err` only if memory runs out.
 pub(crate) fn string_text(alloc: Global, bytes: &[u8]) -> Result<Vec<u8>, AllocError>
     ensures { IfOk result (λ text. text.items ≡ string_text bytes.now) }
 {
@@ -130,7 +130,7 @@ pub(crate) fn string_text(alloc: Global, bytes: &[u8]) -> Result<Vec<u8>, AllocE
     Ok(text)
 }
 
-/// The bytes of a string, each as Cool writes it. `Err` comes only for want of memory.
+/// The bytes of a string, each as Cool writes it. Returns `Err` only if memory runs out.
 fn bytes_text(alloc: Global, bytes: &[u8]) -> Result<Vec<u8>, AllocError>
     ensures { IfOk result (λ text. text.items ≡ flat_map byte_text bytes.now) }
 {
@@ -141,7 +141,7 @@ fn bytes_text(alloc: Global, bytes: &[u8]) -> Result<Vec<u8>, AllocError>
     Ok(text)
 }
 
-/// A byte of a string. `Err` comes only for want of memory.
+/// A byte of a string. Returns `Err` only if memory runs out.
 fn byte_text(alloc: Global, byte: u8) -> Result<Vec<u8>, AllocError>
     ensures { IfOk result (λ text. text.items ≡ byte_text byte) }
 {

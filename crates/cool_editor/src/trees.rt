@@ -43,8 +43,8 @@ struct Told {
     number: u32,
 }
 
-/// The lines of the trees of files, with types where they are a program: of each its classes, or the fault that leaves it without them. `Err`
-/// comes only for want of memory.
+/// The lines of the trees of files, with types where they are a program: for each file its classes, or the fault because of which it has none. Returns
+/// `Err` only if memory runs out.
 pub fn tree_lines(alloc: Global, files: &[Vec<u8>]) -> Result<Vec<u8>, AllocError>
     requires few { length files.now ≤ MOST_FILES }
     requires small { total (bytes_of files.now) ≤ MOST_SOURCE_BYTES }
@@ -56,7 +56,7 @@ pub fn tree_lines(alloc: Global, files: &[Vec<u8>]) -> Result<Vec<u8>, AllocErro
     }
 }
 
-/// The lines of the trees of files. `Err` comes only for want of memory.
+/// The lines of the trees of files. Returns `Err` only if memory runs out.
 fn files_text(
     alloc: Global,
     program: Option<&TypedProgram>,
@@ -78,7 +78,7 @@ fn files_text(
 }
 
 impl Told {
-    /// Adds the lines of the file of this number. `Err` comes only for want of memory.
+    /// Adds the lines of the file of this number. Returns `Err` only if memory runs out.
     fn add_file(
         &mut self,
         alloc: Global,
@@ -104,7 +104,7 @@ impl Told {
         }
     }
 
-    /// Adds the lines of the tree of these tokens. `Err` comes only for want of memory.
+    /// Adds the lines of the tree of these tokens. Returns `Err` only if memory runs out.
     fn add_tree(
         &mut self,
         alloc: Global,
@@ -126,7 +126,7 @@ impl Told {
         }
     }
 
-    /// Adds the lines of classes. `Err` comes only for want of memory.
+    /// Adds the lines of classes. Returns `Err` only if memory runs out.
     fn add_classes(
         &mut self,
         alloc: Global,
@@ -156,7 +156,7 @@ impl Told {
     }
 }
 
-/// The lines of the class of this number. `Err` comes only for want of memory.
+/// The lines of the class of this number. Returns `Err` only if memory runs out.
 fn class_text(
     alloc: Global,
     program: Option<&TypedProgram>,
@@ -197,7 +197,7 @@ fn parent_text(parent: &Option<TypeRef>) -> &[u8]
     }
 }
 
-/// The lines of a feature. `Err` comes only for want of memory.
+/// The lines of a feature. Returns `Err` only if memory runs out.
 fn feature_text(
     alloc: Global,
     column: Option<Column<'_>>,
@@ -224,7 +224,7 @@ fn feature_text(
     }
 }
 
-/// The lines of formals. `Err` comes only for want of memory.
+/// The lines of formals. Returns `Err` only if memory runs out.
 fn formals_text(alloc: Global, formals: &[Formal]) -> Result<Vec<u8>, AllocError>
     ensures { IfOk result (λ text. text.items ≡ flat_map formal_line formals.now) }
 {
@@ -235,7 +235,7 @@ fn formals_text(alloc: Global, formals: &[Formal]) -> Result<Vec<u8>, AllocError
     Ok(text)
 }
 
-/// The line of a formal. `Err` comes only for want of memory.
+/// The line of a formal. Returns `Err` only if memory runs out.
 fn formal_line(alloc: Global, formal: &Formal) -> Result<Vec<u8>, AllocError>
     ensures { IfOk result (λ line. line.items ≡ formal_line formal.now) }
 {
@@ -249,7 +249,7 @@ fn formal_line(alloc: Global, formal: &Formal) -> Result<Vec<u8>, AllocError>
     )
 }
 
-/// The lines of an initial value, where there is one. `Err` comes only for want of memory.
+/// The lines of an initial value, where there is one. Returns `Err` only if memory runs out.
 fn init_text(
     alloc: Global,
     column: Option<Column<'_>>,
@@ -264,7 +264,7 @@ fn init_text(
     }
 }
 
-/// The lines of the nodes of an expression. `Err` comes only for want of memory.
+/// The lines of the nodes of an expression. Returns `Err` only if memory runs out.
 fn body_text(alloc: Global, column: Option<Column<'_>>, body: &Body) -> Result<Vec<u8>, AllocError>
     requires fits { FitsBody column body.now }
     ensures { IfOk result (λ text. text.items ≡ body_text (column_seen column.entry) body.now) }
@@ -278,7 +278,7 @@ fn body_text(alloc: Global, column: Option<Column<'_>>, body: &Body) -> Result<V
     Ok(text)
 }
 
-/// The line of the node of this number. `Err` comes only for want of memory.
+/// The line of the node of this number. Returns `Err` only if memory runs out.
 fn node_line(
     alloc: Global,
     column: Option<Column<'_>>,

@@ -1,4 +1,4 @@
--- Where nothing is noted, no byte is put. The note that is due is put at once.
+-- A call without a note puts no byte to the notes. A note that is due is put at once.
 use Rattle.std.proofs.Common.{◌∙◌, ℕ, List, [], ◌∷◌, ◌++◌, ap, inl, map, sym, subst, append-nil}
 use Rattle.std.specs.Prelude.{string_bytes}
 use Rattle.cool_ports.specs.SinkBytes.{appended, GotPrefix}

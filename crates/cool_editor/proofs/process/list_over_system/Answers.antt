@@ -1,4 +1,4 @@
--- What holds of devices that did nothing before.
+-- The clauses of `list_names`, for fresh devices, are those of the process.
 use Rattle.cool_sources.proofs.FreshShelves.{after_none, were_unread}
 use Rattle.cool_editor.proofs.FreshDevices.{has_listed, has_refused, was_cut_short}
 use Rattle.cool_editor.proofs.process.list_over_system.Goals as goal
