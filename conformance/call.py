@@ -32,6 +32,11 @@ def take_options(words, options):
             raise BadWords
 
 
+def shown(name):
+    """A name as a terminal may be sent it: with `?` for what it would obey, or shows nothing of."""
+    return "".join(letter if letter.isprintable() else "?" for letter in name)
+
+
 def own_program(name="cool"):
     """The program of the repository, or another one of it, which is proved and built first where it must be."""
     found = subprocess.run([os.path.join(HERE, "..", "release", "program"), name], stdout=subprocess.PIPE, check=False)
@@ -56,7 +61,7 @@ def end_with(name, usage, work):
     except Refusal as refusal:
         print(name, refusal, sep=": ", file=sys.stderr)
     except OSError as error:
-        print(name, *filter(None, [error.filename, error.strerror]), sep=": ", file=sys.stderr)
+        print(name, *filter(None, [shown(os.fsdecode(error.filename or "")), error.strerror]), sep=": ", file=sys.stderr)
         # What is left to be written there would fail again.
         os.dup2(os.open(os.devnull, os.O_WRONLY), sys.stdout.fileno())
     sys.exit(2)

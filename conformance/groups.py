@@ -18,8 +18,8 @@ MOST_LINES = 30
 
 
 class Small(NamedTuple):
-    """A difference: the number of its program, its sort, the smallest program that shows it with its input, how many tokens that has, its shape, and the
-    rules that it uses."""
+    """A difference: the number of its program, its sort, the smallest program that shows it with its input, the number of its tokens, its shape, and
+    the rules that it uses."""
 
     number: int
     sort: str

@@ -5,13 +5,16 @@ import pwd
 import subprocess
 import tempfile
 
-from call import HERE, Refusal
+from call import HERE, Refusal, shown
 
 TOP = os.path.dirname(HERE)
 # What must hold of two folders for a user: it ends with 3 where the first does not, and with 4 where the second does not.
 REACHED = '[ ! -x "$1" ] || exit 3; [ -x "$2" ] || exit 4'
 # And of the folder of a table and the path of a compiler.
 CALLED = '[ ! -w "$1" ] || exit 3; [ -x "$2" ] && [ ! -d "$2" ] || exit 4'
+# Our programs, by the names that releases and `install` give them, where a compiler could call one: it would pass every case in its place.
+OURS = r"""find /usr /opt -regex '.*/cool\(_editor\|_explain\)?\(-linux-arm64\|\.exe\|\.cjs\)?' -type f -size +50k -readable -print -quit 2>/dev/null
+exit 0"""
 
 
 class Wall:
@@ -26,14 +29,25 @@ class Wall:
             self._check_user()
         elif not is_trusted:
             self._check("no sandbox", "/usr/bin/true")
+        if not is_trusted:
+            self._check_sight()
 
-    def _check(self, wrong, *command):
+    def _call(self, wrong, *command):
         """What comes of a command behind this wall: a compiler that cannot be called is not one that refuses programs."""
         with tempfile.TemporaryDirectory() as empty:
-            tried = subprocess.run([self.script, *self.options, *command], cwd=empty, stderr=subprocess.PIPE, check=False)
+            tried = subprocess.run([self.script, *self.options, *command], cwd=empty, stdout=subprocess.PIPE, stderr=subprocess.PIPE, check=False)
         if tried.returncode not in (0, 3, 4):
             raise Refusal(f"{wrong}: {os.fsdecode(tried.stderr).strip() or f'status {tried.returncode}'}")
-        return tried.returncode
+        return tried
+
+    def _check(self, wrong, *command):
+        return self._call(wrong, *command).returncode
+
+    def _check_sight(self):
+        """No compiler may call our program, wherever that was installed."""
+        found = os.fsdecode(self._call("no look for our programs", "/bin/sh", "-c", OURS).stdout).removesuffix("\n")
+        if found:
+            raise Refusal(f"a compiler could call the program of this repository: uninstall {found}, or move it out of /usr and /opt")
 
     def _check_user(self):
         try:
@@ -49,6 +63,8 @@ class Wall:
 
     def command(self, folder, program):
         """How the compiler of a folder is called, or None where it has none; `program` runs the assembly that a coolc writes."""
+        if not self.is_trusted and os.path.realpath(folder).startswith("/usr/"):
+            raise Refusal(f"each compiler sees /usr, and so the others: move {shown(folder)} out of it")
         compiler, coolc = os.path.join(folder, "compiler"), os.path.join(folder, "coolc")
         options = ["--trusted"] if self.is_trusted else self.options
         if self._runs(compiler):
@@ -59,7 +75,7 @@ class Wall:
 
     def _runs(self, path):
         if not self.user:
-            return os.access(path, os.X_OK)
+            return os.access(path, os.X_OK) and not os.path.isdir(path)
         beside = os.path.dirname(os.path.dirname(path))
         came = self._check(f"no call as {self.user}", "/bin/sh", "-c", CALLED, "sh", beside, path)
         if came == 3:
