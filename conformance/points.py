@@ -4,7 +4,7 @@ import fnmatch
 import os
 
 from graded import column
-from rules import rules
+from rules import Rule, rules
 
 # So many cases of a rule are shown with their programs, and so many lines of a program.
 MOST_CASES, MOST_LINES = 3, 40
@@ -83,3 +83,16 @@ class Points:
         rest = [f"({len(lines) - MOST_LINES} lines more)"] if len(lines) > MOST_LINES else []
         seen = ("".join(c if " " <= c <= "~" or c == "\t" else f"\\x{ord(c):02x}" for c in line[:160]) for line in lines[:MOST_LINES])
         return "\n".join([f"--- {file}", *seen, *rest])
+
+
+class PointsOfTests(Points):
+    """The same of tests that a student wrote, of rows that `mutation-score` printed: each wrong compiler is a rule, which is passed where a test finds it."""
+
+    def __init__(self, rows, phase_of, phases, hidden):
+        self.hidden, self.phases = hidden, {phase: most for phase, most in phases.items() if most}
+        self.came = {name: ("" if count else "no test finds it", []) for name, _, count, _ in rows}
+        self.wrong = {name: f"a compiler that {wrong} (manual {section})" for name, section, _, wrong in rows}
+        self.rules = [Rule(phase_of[name], name, [name]) for name, *_ in rows if phase_of[name] in self.phases]
+
+    def told(self, names):
+        return "\n".join(f"no test finds {'one that is not shown' if self.is_hidden(name) else self.wrong[name]}" for name in names)
