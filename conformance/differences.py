@@ -9,7 +9,9 @@ from typing import NamedTuple
 from case import read
 from limited import Runner
 
+# The files of a program by chance, which has one or two.
 FILE = "program.cl"
+NAMES = (FILE, "second.cl")
 # Within these a run of the reference has to end: so a program of more is none to compare by.
 LIMITS = ("--heap", "8192", "--stack", "1024", "--steps", "10000000")
 # The last line of a run that ends by an error, and the error's name; `overflow` is a choice of the reference, which is left out unless it is asked for.
@@ -37,10 +39,10 @@ class Answer(NamedTuple):
 
 
 class Given:
-    """A program as a case in a folder, which `limited` runs: some words, one file, and an input."""
+    """A program as a case in a folder, which `limited` runs: some words, its files, and an input."""
 
-    def __init__(self, folder, word):
-        self.folder, self.words = folder, [word, FILE]
+    def __init__(self, folder, word, names):
+        self.folder, self.words = folder, [word, *names]
 
 
 class Reference:
@@ -64,16 +66,14 @@ class Reference:
             return None
         return Answer(kinds, came.returncode, came.stdout, came.stderr, error)
 
-
     def _run(self, folder, files, given):
         words = [self.program, "run", *LIMITS, "--", *files]
         return subprocess.run(words, cwd=folder, input=given, stdout=subprocess.PIPE, stderr=subprocess.PIPE, check=False)
 
     def _reads_to_the_end(self, folder, files, given, came):
         """Whether a run asks for more than its input has, which the manual leaves open: then more lines make another run of it."""
-        with open(os.path.join(folder, files[0]), "rb") as file:
-            if b"in_" not in file.read():
-                return False
+        if not any(b"in_" in read_whole(os.path.join(folder, file)) for file in files):
+            return False
         other = self._run(folder, files, given + b"77\n88\n")
         return (other.returncode, other.stdout) != (came.returncode, came.stdout)
 
@@ -96,32 +96,31 @@ class Comparison:
     def difference(self, sample):
         """In what sort of way the compiler differs over a sample, and what the reference says of it: '' where it does not, None where it is not compared."""
         with tempfile.TemporaryDirectory(prefix="stress-") as folder:
-            write(os.path.join(folder, FILE), sample.text)
-            write(os.path.join(folder, "input"), sample.input)
-            answer = self.reference.answer(folder)
+            names = write_sample(folder, sample)
+            answer = self.reference.answer(folder, names)
             if answer is None:
                 return None, None
-            return self._sort(folder, answer), answer
+            return self._sort(folder, names, answer), answer
 
-    def _status(self, folder, word):
-        with self.runner.run(Given(folder, word)) as came:
+    def _status(self, folder, names, word):
+        with self.runner.run(Given(folder, word, names)) as came:
             output = read(came.output, MOST_OUTPUT + 1) if word == "run" else b""
         return came.status, output
 
-    def _sort(self, folder, answer):
+    def _sort(self, folder, names, answer):
         if answer.kinds:
-            return self._verdict(folder, answer)
+            return self._verdict(folder, names, answer)
         if self.mode == "--verdicts":
-            return self._verdict(folder, answer)
-        status, output = self._status(folder, "run")
+            return self._verdict(folder, names, answer)
+        status, output = self._status(folder, names, "run")
         if answer.status == 0 and status == 0:
             return "" if output == answer.output else "prints otherwise"
         if answer.status and status == 0:
             return "does not fail: " + answer.error
-        return odd_end(status, "run") or self._verdict(folder, answer) or ("" if answer.status else "fails")
+        return odd_end(status, "run") or self._verdict(folder, names, answer) or ("" if answer.status else "fails")
 
-    def _verdict(self, folder, answer):
-        status, _ = self._status(folder, "check")
+    def _verdict(self, folder, names, answer):
+        status, _ = self._status(folder, names, "check")
         if answer.kinds and status == 0:
             return "accepts " + "+".join(answer.kinds)
         return odd_end(status, "check") or ("refuses" if status and not answer.kinds else "")
@@ -132,6 +131,20 @@ def odd_end(status, word):
     if status is None:
         return "does not end: " + word
     return f"ends by {status}: {word}" if status >= 126 else ""
+
+
+def write_sample(folder, sample):
+    """Writes the files and the input of a sample, and gives the names of the files."""
+    names = NAMES[: len(sample.texts)]
+    for name, text in zip(names, sample.texts):
+        write(os.path.join(folder, name), text)
+    write(os.path.join(folder, "input"), sample.input)
+    return names
+
+
+def read_whole(path):
+    with open(path, "rb") as file:
+        return file.read()
 
 
 def write(path, data):

@@ -9,7 +9,7 @@ from typing import NamedTuple
 
 from call import Refusal
 from coverage import section
-from differences import FILE, write
+from differences import NAMES, read_whole, write
 from graded import written_whole
 
 TABLE = "stress.tsv"
@@ -23,7 +23,7 @@ class Small(NamedTuple):
 
     number: int
     sort: str
-    text: bytes
+    texts: tuple
     input: bytes
     size: int
     shape: str
@@ -45,7 +45,7 @@ class Group:
 
 
 def weight(found):
-    return found.size, len(found.text)
+    return found.size, sum(map(len, found.texts))
 
 
 # What nearly each program has that shows something: so it tells little.
@@ -55,17 +55,30 @@ COMMON = frozenset((
     ("methods", "out_int"), ("methods", "out_string")))
 
 
+def telling(found):
+    """The rules that say most of a difference: those of lexemes, ends and runs, and those that nearly each program uses, are not among them."""
+    return {rule for rule in found.rules if rule[0] not in ("run", "tokens", "ends")} - COMMON
+
+
 def rules_of(found):
-    """The rules that tell of a difference: of lexemes, ends and runs none, where there are others, and of what is common neither."""
+    """The rules that a difference names: those that say most of it, or the others where there is none."""
     rules = {rule for rule in found.rules if rule[0] != "run" and rule != ("ends", "end of main")}
-    telling = {rule for rule in rules - COMMON if rule[0] not in ("tokens", "ends")}
-    return frozenset(telling or rules - COMMON or rules)
+    return frozenset(telling(found) or rules - COMMON or rules)
 
 
 def are_alike(found, other):
-    """Whether two differences are of one sort, and one of their programs uses all rules of the other."""
+    """Whether two differences are of one sort, and one of their programs uses all rules of the other. Programs of common rules alone are alike, too."""
+    if found.sort != other.sort:
+        return False
+    if not telling(found) and not telling(other) and not (is_of_lexemes(found) and is_of_lexemes(other)):
+        return True
     mine, others = rules_of(found), rules_of(other)
-    return found.sort == other.sort and (mine <= others or others <= mine)
+    return mine <= others or others <= mine
+
+
+def is_of_lexemes(found):
+    """Whether a difference names lexemes that few programs have, or an end of a run."""
+    return bool(rules_of(found) - COMMON)
 
 
 class Groups:
@@ -103,9 +116,9 @@ class Groups:
             self.counted[sort].append(int(number))
             return
         rules = tuple(tuple(rule.split(": ", 1)) for rule in rules.split("; "))
-        with open(os.path.join(self.folder, name, FILE), "rb") as file:
-            text = file.read()
-        earlier = Small(int(number), sort, text, b"", int(count), shape, rules)
+        paths = [os.path.join(self.folder, name, file) for file in NAMES]
+        texts = tuple(read_whole(path) for path in paths if os.path.exists(path))
+        earlier = Small(int(number), sort, texts, b"", int(count), shape, rules)
         group = next((it for it in self.groups if it.name == name), None)
         if group:
             group.add(earlier)
@@ -141,6 +154,20 @@ class Groups:
         self.rows[found.number] = "\t".join([str(found.number), found.sort, group.name, str(found.size), found.shape, rules])
         if self.folder and is_best:
             self._write_case(group, answer)
+        if is_best:
+            self._join_with(group)
+
+    def _join_with(self, group):
+        """Takes into a group those that its new smallest program shows to be alike."""
+        for other in [it for it in self.groups if it is not group and are_alike(group.best, it.best)]:
+            if weight(other.best) < weight(group.best):
+                continue  # it stays, and takes this one when it gets smaller
+            self.groups.remove(other)
+            group.numbers += other.numbers
+            for number in other.numbers:
+                self.rows[number] = self.rows[number].replace(f"\t{other.name}\t", f"\t{group.name}\t", 1)
+            if self.folder:
+                shutil.rmtree(os.path.join(self.folder, other.name), ignore_errors=True)
 
     def _name(self, sort):
         word = re.sub(r"\W+", "-", sort).strip("-")
@@ -155,9 +182,9 @@ class Groups:
         is_run = not answer.kinds and not found.sort.endswith(("refuses", ": check"))
         files = {
             "about": f"{self.rests_on}: {found.sort}: {', '.join(names_of(found))} (seed {self.seed}, program {found.number})\n",
-            "words": f"{'run' if is_run else 'check'}\n{FILE}\n",
+            "words": "\n".join(["run" if is_run else "check", *NAMES[: len(found.texts)], ""]),
             "status": f"{answer.status if is_run or answer.kinds else 0}\n",
-            FILE: found.text.decode("latin-1"),
+            **{name: text.decode("latin-1") for name, text in zip(NAMES, found.texts)},
         }
         files.update({"stdout": answer.output.decode("latin-1")} if is_run and answer.output else {})
         files.update({"stderr": answer.notes.decode("latin-1")} if answer.notes else {})
@@ -183,9 +210,12 @@ class Groups:
     def told(self, group):
         """The lines that tell of a group: its smallest program, and the rules of Cool that this uses."""
         found = group.best
-        text = found.text.decode("latin-1").rstrip("\n").split("\n")
         yield f"\n{group.name}: {found.sort}: {len(group.numbers)} programs, {found.size} tokens"
-        yield from ("    " + re.sub(r"[^ -~]", lambda it: "\\x%02x" % ord(it[0]), line) for line in text[:MOST_LINES])
+        for name, text in zip(NAMES, found.texts):
+            if found.texts[1:]:
+                yield f"  {name}:"
+            lines = text.decode("latin-1").rstrip("\n").split("\n")[:MOST_LINES]
+            yield from ("    " + re.sub(r"[^ -~]", lambda it: "\\x%02x" % ord(it[0]), line) for line in lines)
         if found.input:
             yield f"  input: {found.input[:60]!r}"
         yield "  rules: " + ", ".join(f"{name} (manual {section(group, name)})" for group, name in sorted(rules_of(found)))

@@ -8,7 +8,7 @@ import sys
 import tempfile
 
 from call import Refusal
-from differences import FILE, write
+from differences import FILE, NAMES, read_whole, write
 from edits import EDITS
 from mutating import load
 from sample import sample
@@ -34,15 +34,10 @@ class Test:
         return status == 0
 
 
-def read(path):
-    with open(path, "rb") as file:
-        return file.read()
-
-
 def files_of(path):
     """The files of a test by name, and its input."""
     if os.path.isdir(path):
-        words = read(os.path.join(path, "words")).decode("utf-8", "surrogateescape").split("\n")[:-1]
+        words = read_whole(os.path.join(path, "words")).decode("utf-8", "surrogateescape").split("\n")[:-1]
         names = words[1:]
         if words[:1] not in (["check"], ["run"]) or any(name.startswith("-") for name in names):
             return None, b""
@@ -53,11 +48,12 @@ def files_of(path):
         texts = [(FILE, path)]
     if not all(os.path.isfile(place) for _, place in texts):
         return None, b""
-    return [(name, read(place)) for name, place in texts], read(given) if os.path.isfile(given) else b""
+    return [(name, read_whole(place)) for name, place in texts], read_whole(given) if os.path.isfile(given) else b""
 
 
 def asked(name, texts, given, reference):
     """The test of some files, or None where the reference gives no answer."""
+    texts = list(texts)
     with tempfile.TemporaryDirectory(prefix="score-") as folder:
         for file, data in texts:
             os.makedirs(os.path.dirname(os.path.join(folder, file)), exist_ok=True)
@@ -84,7 +80,7 @@ def tests_of(paths, reference):
 
 def by_chance(seed, count, reference):
     made = (sample(seed, number) for number in range(count))
-    tests = (asked(f"program {number}", [(FILE, it.text)], it.input, reference) for number, it in enumerate(made))
+    tests = (asked(f"program {number}", zip(NAMES, it.texts), it.input, reference) for number, it in enumerate(made))
     return [test for test in tests if test]
 
 

@@ -14,7 +14,7 @@ from typing import NamedTuple
 
 from call import Refusal, own_program
 from coverage import Programs, touched
-from differences import FILE, Comparison, Reference, write
+from differences import Comparison, Reference, write_sample
 from groups import Small
 from layout import shape
 from sample import KINDS, sample
@@ -91,12 +91,11 @@ def make_small(number, sort):
     if found != sort:  # it ended after that second
         small, (_, answer) = whole, comparison.difference(whole)
     with tempfile.TemporaryDirectory(prefix="stress-") as folder:
-        write(os.path.join(folder, FILE), small.text)
-        write(os.path.join(folder, "input"), small.input)
-        rules = tuple(sorted(touched(OF_PROCESS["programs"], folder, [FILE], os.path.join(folder, "input"))))
+        names = write_sample(folder, small)
+        rules = tuple(sorted(touched(OF_PROCESS["programs"], folder, list(names), os.path.join(folder, "input"))))
     # A tab or newline would break the table.
     alike = re.sub(r"\s", " ", shape(small.tokens))
-    return Small(number, sort, small.text, small.input, len(small.tokens), alike, rules), answer
+    return Small(number, sort, small.texts, small.input, len(small.tokens), alike, rules), answer
 
 
 class Stress:

@@ -371,7 +371,7 @@ def no_expression(tree, chance):
 def without_sign(found, chance):
     """A sign or keyword taken out: each spelling is as likely as another, however often it stands there."""
     kinds = sorted({token for token in found if not token[0].isalnum() or token.islower() and token in KEYWORDS})
-    kind = ";" if chance.happens(0.3) else chance.one_of(kinds)
+    kind = ";" if chance.happens(0.5) else chance.one_of(kinds)
     at = chance.one_of([place for place, token in enumerate(found) if token == kind])
     if kind == ";" and chance.happens(0.6):
         front = ("class", "") if chance.happens(0.5) else (*found, "")  # often one behind a class
@@ -453,4 +453,5 @@ CHANGES_OF_TOKENS = {
     "L5": lambda found, chance: inserted(found, chance, chance.one_of(("(*", "(* (* *)"))),
     "L6": lambda found, chance: inserted(found, chance, chance.one_of(("*)", "(* *) *)"))),
     "S1": other_tokens,
+    "S1 by sign": without_sign,
 }

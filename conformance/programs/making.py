@@ -31,11 +31,11 @@ CLASS_NAMES = ("A", "B", "C", "Shape", "Cons", "Tree2", "D_", "Intx", "Main2", "
 
 class Method:
     """A method's signature: what its callers know. `rank` is below that of what may call it, and 0 of basic classes, so that what defines one anew calls none.
-    `counted` has its first argument count turns down."""
+    The first argument of a `counted` one counts turns down. One that `makes_self` may have `new SELF_TYPE`, and `is_maker` does nothing else."""
 
-    def __init__(self, formals, result, rank=0, cost=1, counted=False, makes_self=False):
+    def __init__(self, formals, result, rank=0, cost=1, counted=False, makes_self=False, is_maker=False):
         self.formals, self.result, self.rank, self.cost = formals, result, rank, cost
-        self.counted, self.makes_self = counted, makes_self
+        self.counted, self.makes_self, self.is_maker = counted, makes_self, is_maker
 
 
 class Class:
@@ -463,7 +463,8 @@ class Maker:
         if sort == "String":
             return self.shown(scope, Tree("call", ["concat"], [self.expression("String", inner), constant('"|\\n"', "String")], "String"), "out_string")
         if sort == "type":
-            receiver = self.receiver(chance.one_of([self.classes["Object"], *self.own]), inner) or self.expression("Object", inner)
+            of = chance.one_of([self.classes["Object"], *self.own])
+            receiver = self.made_by(of, inner) or self.receiver(of, inner) or self.expression("Object", inner)
             text = Tree("call", ["type_name"], [receiver], "String")
             return self.shown(scope, text, "out_string")
         made = {"loop": self.make_loop, "hidden": self.hidden, "show": self.show}.get(sort)
@@ -487,10 +488,14 @@ class Maker:
             return None
         of, word = self.chance.one_of(known)
         receiver = self.make_new(of.name, scope)
-        rows = [row for row in self.callable(of.name, of, scope) if row[1].result == SELF and row[0] not in METHODS["IO"]]
-        if receiver and rows and self.chance.happens(0.6):
-            receiver = self.call(of, rows, scope, ()) or receiver
+        receiver = receiver and self.made_by(of, scope) or receiver
         return receiver and self.pays(COSTS[1], scope) and Tree("call", [word], [receiver], "Object")
+
+    def made_by(self, of, scope):
+        """What a method of a class gives whose result is SELF_TYPE, often, or None: its class shows which one the method made."""
+        rows = [row for row in self.callable(of.name, of, scope) if row[1].result == SELF and row[0] not in METHODS["IO"] and row[0] != "copy"]
+        makers = [row for row in rows if row[1].is_maker]
+        return self.call(of, makers or rows, scope, ()) if rows and self.chance.happens(0.6) else None
 
     def scope(self, of, rank, **changed):
         types = {**of.attributes, "self": SELF}
@@ -523,7 +528,9 @@ class Maker:
         counted = chance.happens(0.15)
         formals = ["Int"] * counted + [self.some_type() for _ in range(chance.below(3))]
         result = SELF if chance.happens(0.2) else self.some_type()
-        of.methods[word] = Method(formals, result, self.rank, chance.one_of(COSTS), counted, chance.happens(0.3))
+        is_maker = result == SELF and not counted and chance.happens(0.4)
+        cost, makes_self = chance.one_of(COSTS), chance.happens(0.3)
+        of.methods[word] = Method(formals, result, self.rank, COSTS[-1] if is_maker else cost, counted, makes_self or is_maker, is_maker)
         return word
 
     def method(self, of, word):
@@ -535,7 +542,7 @@ class Maker:
         self.left = method.cost
         scope = self.scope(of, method.rank, makes_self=method.makes_self, fixed=frozenset(["turns"]))
         scope.types = {**scope.types, **dict(zip(words, method.formals))}
-        body = self.expression(method.result, scope)
+        body = Tree("new", [SELF], (), SELF) if method.is_maker else self.expression(method.result, scope)
         if word in METHODS["IO"] and chance.happens(0.7):
             body = Tree("static", [word, "IO"], [name("self", SELF), *(name(it, type) for it, type in zip(words, method.formals))], method.result)
         if method.counted:

@@ -5,7 +5,7 @@ import layout
 from chance import Chance
 from faults import CHANGES, CHANGES_OF_TOKENS
 from making import Maker
-from trees import tokens
+from trees import Tree, tokens
 
 # Faults of syntax are of more kinds than one, so they have more turns.
 KINDS = [*CHANGES, *CHANGES_OF_TOKENS, "S1 by form", "S1", "S1 by form"]
@@ -13,15 +13,16 @@ TRIES = 6
 
 
 class Sample:
-    """A program with its input: a tree, or tokens where there is none; how keywords are spelled, and what stands between tokens where that is not plain."""
+    """A program with its input: a tree, or tokens where there is none; how keywords are spelled, what stands between tokens where that is not plain, and
+    how many classes of the tree the first of two files has, 0 where it is one file."""
 
-    def __init__(self, tree, found, input, spelled=None, gaps=None, odd=()):
-        self.tree, self.input, self.spelled, self.gaps, self.odd = tree, input, spelled or {}, gaps, tuple(odd)
+    def __init__(self, tree, found, input, spelled=None, gaps=None, odd=(), first=0):
+        self.tree, self.input, self.spelled, self.gaps, self.odd, self.first = tree, input, spelled or {}, gaps, tuple(odd), first
         self._found = found
 
     def having(self, **changed):
         found = self._found if "found" in changed or changed.get("tree") else self.tokens
-        fields = {"tree": self.tree, "found": found, "input": self.input, "spelled": self.spelled, "gaps": self.gaps, "odd": self.odd}
+        fields = {"tree": self.tree, "found": found, "input": self.input, "spelled": self.spelled, "gaps": self.gaps, "odd": self.odd, "first": self.first}
         return Sample(**{**fields, **changed})
 
     @functools.cached_property
@@ -40,8 +41,18 @@ class Sample:
 
     @functools.cached_property
     def text(self):
-        """The bytes of its file."""
+        """The bytes of its files, one behind another."""
         return layout.text(self.tokens, self.laid_out()).encode("latin-1")
+
+    @functools.cached_property
+    def texts(self):
+        """The bytes of each of its files."""
+        classes = self.tree.parts[: min(self.first, len(self.tree.parts) - 1)] if self.tree else ()
+        if not classes:
+            return (self.text,)
+        count, gaps = len(tokens(Tree("program", (), classes))), self.laid_out()
+        parts = (self.tokens[:count], gaps[:count]), (self.tokens[count:], gaps[count:])
+        return tuple(layout.text(*part).encode("latin-1") for part in parts)
 
     @property
     def weight(self):
@@ -66,7 +77,9 @@ def sample(seed, number, choices=False):
     tree, found = maker.program(), None
     if number % 2:
         tree, found = changed_by(KINDS[number // 2 % len(KINDS)], tree, chance)
-    plain = Sample(tree, found, maker.input().encode("latin-1"))
+    files = Chance("%s files %s" % (seed, number))
+    first = 1 + files.below(len(tree.parts) - 1) if tree and len(tree.parts) > 1 and files.happens(0.1) else 0
+    plain = Sample(tree, found, maker.input().encode("latin-1"), first=first)
     if not chance.happens(0.4):
         return plain
     spelled = {word: layout.keyword_by_chance(word, chance) for word in sorted(layout.KEYWORDS)}

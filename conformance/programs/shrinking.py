@@ -218,7 +218,8 @@ class Shrinker:
 
     def shrunk(self, best):
         """A sample from which nothing can be taken in any of these ways."""
-        best = self.plainer(best)
+        one = best.having(first=0)
+        best = self.plainer(one if best.first and self.holds(one) else best)
         before = None
         while before is not best and time.monotonic() < self.end:
             before = best
@@ -228,7 +229,7 @@ class Shrinker:
             else:
                 best = self.over(self.over(best, token_structures), token_ranges)
             best = self.over(best, shorter_inputs)
-        return self.over(best.having(tree=None), token_ranges) if best.tree and not best.odd else best
+        return self.over(best.having(tree=None), token_ranges) if best.tree and not best.odd and not best.first else best
 
     def plainer(self, best):
         """The sample with as little as can be that is not plain between its tokens and in the letters of its keywords."""
@@ -261,7 +262,9 @@ class Shrinker:
         found = [*best.tokens, ""]
         odd = [(found[at], found[at + 1], gap) for at, gap in enumerate(gaps) if gap != plain[at]]
         other = best.having(gaps=None, odd=odd)
-        return other if self.holds(other) else best.having(gaps=gaps, tree=None)
+        if self.holds(other):
+            return other
+        return best if best.first else best.having(gaps=gaps, tree=None)
 
 
 def lowered(found):
