@@ -52,7 +52,7 @@ def command_of(names, words, options):
     wall = Wall(options["--as"], options["--trusted"], options["--processes"] * (options["--jobs"] if options["--as"] else 1))
     command = wall.command(os.path.abspath(names[0]), own_program())
     if not command:
-        raise Refusal(f"no compiler or coolc that can be run: {names[0]}")
+        raise Refusal(f"{wall.why_not(os.path.abspath(names[0]))}: {names[0]}")
     return command, wall.owner, wall.end
 
 

@@ -5,7 +5,7 @@ import pwd
 import subprocess
 import tempfile
 
-from call import HERE, Refusal, shown
+from call import HERE, Refusal
 
 TOP = os.path.dirname(HERE)
 # What must hold of two folders for a user: it ends with 3 where the first does not, and with 4 where the second does not.
@@ -62,9 +62,9 @@ class Wall:
         self.owner = found.pw_uid, found.pw_gid
 
     def command(self, folder, program):
-        """How the compiler of a folder is called, or None where it has none; `program` runs the assembly that a coolc writes."""
-        if not self.is_trusted and os.path.realpath(folder).startswith("/usr/"):
-            raise Refusal(f"each compiler sees /usr, and so the others: move {shown(folder)} out of it")
+        """How the compiler of a folder is called, or None where it may not be (`why_not`); `program` runs the assembly that a coolc writes."""
+        if self._is_seen(folder):
+            return None
         compiler, coolc = os.path.join(folder, "compiler"), os.path.join(folder, "coolc")
         options = ["--trusted"] if self.is_trusted else self.options
         if self._runs(compiler):
@@ -72,6 +72,13 @@ class Wall:
         if self._runs(coolc):
             return [os.path.join(HERE, "assembled"), program, *options, coolc]
         return None
+
+    def why_not(self, folder):
+        """Why a folder has no compiler that may be called."""
+        return "each compiler sees /usr, so none in it is called" if self._is_seen(folder) else "no compiler or coolc that can be run"
+
+    def _is_seen(self, folder):
+        return not self.is_trusted and os.path.realpath(folder).startswith("/usr/")
 
     def _runs(self, path):
         if not self.user:
