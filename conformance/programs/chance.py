@@ -1,4 +1,4 @@
-"""Choices by chance, the same for the same seed with each version of Python: they rest on `random()` alone, whose numbers Python promises to keep."""
+"""Random choices, the same for a seed in each version of Python: they use only `random()`, whose numbers Python promises to keep."""
 import random
 
 

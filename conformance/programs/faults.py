@@ -1,4 +1,4 @@
-"""Single changes that make a program illegal: for each kind of fault of docs/faults.md at least one, each in a place that chance picks.
+"""Single changes that make a program illegal: at least one for each kind of error of docs/faults.md, at a random place.
 
 A change is a function of a tree and of chance, and gives a tree, or None where the program has no such place; those of CHANGES_OF_TOKENS are functions of
 tokens. Whether what comes has that fault, the reference says.

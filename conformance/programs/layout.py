@@ -1,4 +1,4 @@
-"""Texts of tokens: what stands between them, and the case of keywords, as chance has it or plain."""
+"""Texts of tokens: white space and comments between them, and the case of keywords, random or plain."""
 import re
 
 KEYWORDS = frozenset("class else false fi if in inherits isvoid let loop pool then while case esac new of not true".split())

@@ -1,5 +1,6 @@
-"""Legal programs of Cool by chance, each of which ends: a loop turns a few times, a body calls and makes only what was declared before it, and what it may
-cost was declared, too. Which forms a program has, and how often, is drawn anew for each, so that rare ones come together.
+"""Random legal programs of Cool, each of which ends: a loop has few iterations, and a body calls and creates only what was declared before it.
+
+The forms of a program, and how often each occurs, are chosen for each program, so that rare forms occur together.
 """
 from chance import Chance
 from trees import BASIC, Tree, constant, name

@@ -1,4 +1,4 @@
-"""Samples: programs by chance that are told by a seed and a number. Every second is legal, the others have one change of a kind that each has in turn."""
+"""Samples: random programs, each determined by a seed and a number. Every second is legal, the others have one change of a kind that each has in turn."""
 import functools
 
 import layout

@@ -1,4 +1,4 @@
-"""Makes a program smaller as long as something holds of it: first what stands between tokens, then classes, features and expressions, then single tokens."""
+"""Shrinks a program as long as a condition holds for it: first white space and comments, then classes, features and expressions, then single tokens."""
 import itertools
 import time
 
