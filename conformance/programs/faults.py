@@ -129,6 +129,13 @@ def formal_twice(formals):
     return [*formals, formals[0].having([formals[0].words[0], formals[-1].words[1]])]
 
 
+def named_self(tree, chance):
+    """A formal that has the name self, or one more attribute: without a name that the program uses, a compiler might refuse it for another reason."""
+    if chance.happens(0.5):
+        return added(tree, (chance.below(len(tree.parts)),), Tree("attribute", ["self", chance.one_of(BASIC)]))
+    return changed(tree, places(tree, "formal"), chance, lambda row: row.having(["self", row.words[1]]))
+
+
 def typed(tree, chance, forms, types):
     return changed(tree, places(tree, *forms), chance, lambda row: row.having([row.words[0], chance.one_of(types)]))
 
@@ -184,7 +191,8 @@ def bad_value(form, at_last=True):
         paths = places(tree, form, when=lambda row: row.words[1] != "Object")
         if not paths:
             return None
-        path = chance.one_of(paths)
+        of_self = [path for path in paths if at_path(tree, path).words[1] == "SELF_TYPE"]
+        path = chance.one_of(of_self if of_self and chance.happens(0.4) else paths)
         row = at_path(tree, path)
         new = other_than(row.words[1], chance, tree)
         if row.words[1] == "SELF_TYPE" and chance.happens(0.7):
@@ -212,8 +220,9 @@ def in_own_value(tree, chance):
     return changed(tree, places(tree, "binding"), chance, lambda row: row.having(["own_value", row.words[1]], [name("own_value")]))
 
 
-def calls(tree, *forms):
-    return places(tree, *forms, when=lambda it: it.words[0] != "main")
+def calls(tree, *forms, most=0):
+    """The places of calls that have more than `most` arguments, or any number where that is 0."""
+    return places(tree, *forms, when=lambda it: it.words[0] != "main" and (not most or len(it.parts) - (it.form != "own") > most))
 
 
 def arguments(change):
@@ -222,7 +231,8 @@ def arguments(change):
             first = 0 if row.form == "own" else 1
             found = change(list(row.parts[first:]), chance)
             return None if found is None else row.having(parts=[*row.parts[:first], *found])
-        return changed(tree, calls(tree, "own", "call", "static"), chance, call)
+        of_several = calls(tree, "own", "call", "static", most=1) if chance.happens(0.5) else []
+        return changed(tree, of_several or calls(tree, "own", "call", "static"), chance, call)
     return of
 
 
@@ -234,7 +244,7 @@ def bad_argument(given, chance):
     """The arguments with one that does not conform."""
     if not given:
         return None
-    at = len(given) - 1 if chance.happens(0.4) else chance.below(len(given))
+    at = len(given) - 1 if chance.happens(0.6) else chance.below(len(given))
     new = other_than(given[at].type, chance) if given[at].type in VALUES else chance.one_of(list(VALUES.values()))
     return [*given[:at], new, *given[at + 1 :]]
 
@@ -381,15 +391,17 @@ def without_sign(found, chance):
 
 
 def comma_too_many(found, chance):
-    at = chance.one_of([place for place, token in enumerate(found) if token == ")" and found[place - 1] != "("] or [0])
+    ends = [place for place, token in enumerate(found) if token == ")" and found[place - 1] != "("]
+    of_formals = [place for place in ends if found[place + 1 : place + 2] == [":"]]
+    at = chance.one_of((of_formals if chance.happens(0.5) else ends) or ends or [0])
     return [*found[:at], ",", *found[at:]]
 
 
 def other_tokens(found, chance):
     """One token taken out, doubled, exchanged with the next, or replaced."""
-    if chance.happens(0.4):
+    if chance.happens(0.2):
         return without_sign(found, chance)
-    if chance.happens(0.3):
+    if chance.happens(0.4):
         return comma_too_many(found, chance)
     at, sort = chance.below(len(found) - 1), chance.below(4)
     if sort == 0:
@@ -411,7 +423,7 @@ def or_new(change, *news):
 
 
 CHANGES = {
-    "C1": lambda tree, chance: added(tree, (), chance.one_of(tree.parts) if chance.happens(0.5) else new_class(chance.one_of(BASIC))),
+    "C1": lambda tree, chance: added(tree, (), chance.one_of(tree.parts) if chance.happens(0.4) else new_class(chance.one_of(BASIC))),
     "C2": lambda tree, chance: with_parent(tree, chance, ["SELF_TYPE"]) if chance.happens(0.5) else added(tree, (), new_class("SELF_TYPE")),
     "C3": lambda tree, chance: with_parent(tree, chance, [UNKNOWN]),
     "C4": lambda tree, chance: with_parent(tree, chance, list(VALUES)),
@@ -419,7 +431,7 @@ CHANGES = {
     "C6": lambda tree, chance: renamed_class(tree, "Main", "Start"),
     "F1": feature_again("method"),
     "F2": lambda tree, chance: (attribute_below if chance.happens(0.5) else feature_again("attribute"))(tree, chance),
-    "F3": lambda tree, chance: changed(tree, places(tree, "attribute", "formal"), chance, lambda row: row.having(["self", row.words[1]])),
+    "F3": named_self,
     "F4": lambda tree, chance: formals_of(tree, chance, formal_twice),
     "F5": lambda tree, chance: typed(tree, chance, ["formal"], ["SELF_TYPE"]),
     "F6": lambda tree, chance: typed(tree, chance, ["formal", "method", "attribute"], [UNKNOWN]),
