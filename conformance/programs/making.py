@@ -395,6 +395,8 @@ class Maker:
             return self.same_text(scope)
         if kind in VALUES:
             return Tree("=", (), [self.expression(kind, scope.inner()) for _ in range(2)], "Bool")
+        if self.chance.happens(0.2):
+            return Tree("=", (), [Tree("call", ["copy"], [name("self", SELF)], SELF), name("self", SELF)], "Bool")
         kinds = ["IO", *(of.name for of in self.own)]
         return Tree("=", (), [self.expression(self.chance.one_of(kinds), scope.inner()) for _ in range(2)], "Bool")
 
@@ -494,9 +496,10 @@ class Maker:
 
     def made_by(self, of, scope):
         """What a method of a class gives whose result is SELF_TYPE, often, or None: its class shows which one the method made."""
-        rows = [row for row in self.callable(of.name, of, scope) if row[1].result == SELF and row[0] not in METHODS["IO"] and row[0] != "copy"]
+        rows = [row for row in self.callable(of.name, of, scope) if row[1].result == SELF and row[0] not in METHODS["IO"]]
         makers = [row for row in rows if row[1].is_maker]
-        return self.call(of, makers or rows, scope, ()) if rows and self.chance.happens(0.6) else None
+        known = makers if makers and self.chance.happens(0.5) else rows
+        return self.call(of, known, scope, ()) if known and self.chance.happens(0.6) else None
 
     def scope(self, of, rank, **changed):
         types = {**of.attributes, "self": SELF}
