@@ -579,6 +579,16 @@ class Maker:
                 items.append(Tree("call", ["out_string"], [shown, text], "IO"))
         return Tree("method", [word, "Object"], [Tree("block", (), items, "IO")])
 
+    def showing_copy(self, of, shown):
+        """A method that gives an attribute another value, and then writes the attributes of a copy that was made before."""
+        word = "show%d" % self.next_rank()
+        of.methods[word] = Method([], "Object", self.rank, COSTS[1])
+        number = next(attribute for attribute, type in of.attributes.items() if type == "Int")
+        change = Tree("assign", [number], [Tree("+", (), [name(number, "Int"), constant("1", "Int")], "Int")], "Int")
+        show = Tree("call", [shown], [name("other", SELF)], "Object")
+        copied = Tree("binding", ["other", SELF], [Tree("own", ["copy"], (), SELF)])
+        return Tree("method", [word, "Object"], [Tree("let", (), [copied, Tree("block", (), [change, show], "Object")], "Object")])
+
     def defined_anew(self, of):
         """Some of the methods that a class inherits, which it defines anew."""
         inherited = sorted(word for word, method in of.methods.items() if method.rank or self.chance.happens(0.04))
@@ -596,6 +606,8 @@ class Maker:
             rows.append(self.method(of, self.signature(of)))
         if of.attributes and self.chance.happens(0.6):
             rows.append(self.showing(of))
+            if "Int" in of.attributes.values() and self.chance.happens(0.4):
+                rows.append(self.showing_copy(of, rows[-1].words[0]))
         return of, rows
 
     def main(self):
