@@ -3,7 +3,7 @@
 import fnmatch
 import os
 
-from graded import column
+from graded import column, graded_cases
 from rules import Rule, rules
 
 # So many cases of a rule are shown with their programs, and so many lines of a program.
@@ -27,7 +27,9 @@ class Points:
     def __init__(self, came, cases, phases, hidden):
         self.came, self.cases, self.hidden = came, cases, hidden
         self.phases = {phase: most for phase, most in phases.items() if most}
-        self.rules = [rule for rule in rules(list(cases)) if rule.phase in self.phases]
+        # A table of one phase has only some of the graded cases.
+        found = [rule._replace(cases=[name for name in rule.cases if name in cases]) for rule in rules([case.name for case in graded_cases()])]
+        self.rules = [rule for rule in found if rule.cases and rule.phase in self.phases]
 
     def failed(self, rule):
         return [name for name in rule.cases if self.came[name][0]]

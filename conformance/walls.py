@@ -65,17 +65,29 @@ class Wall:
         """How the compiler of a folder is called, or None where it may not be (`why_not`); `program` runs the assembly that a coolc writes."""
         if self._is_seen(folder):
             return None
-        compiler, coolc = os.path.join(folder, "compiler"), os.path.join(folder, "coolc")
-        options = ["--trusted"] if self.is_trusted else self.options
-        if self._runs(compiler):
-            return [compiler] if self.is_trusted else [self.script, *options, compiler]
-        if self._runs(coolc):
-            return [os.path.join(HERE, "assembled"), program, *options, coolc]
-        return None
+        return self._called(os.path.join(folder, "compiler")) or self._assembled(os.path.join(folder, "coolc"), program)
 
-    def why_not(self, folder):
-        """Why a folder has no compiler that may be called."""
-        return "each compiler sees /usr, so none in it is called" if self._is_seen(folder) else "no compiler or coolc that can be run"
+    def phase(self, folder, phase, program):
+        """How a phase of the compiler of a folder is called, or None where it may not be (`why_not`); `program` runs the assembly that a cgen writes."""
+        path = os.path.join(folder, phase)
+        if self._is_seen(folder):
+            return None
+        return self._assembled(path, program) if phase == "cgen" else self._called(path)
+
+    def _called(self, path):
+        if not self._runs(path):
+            return None
+        return [path] if self.is_trusted else [self.script, *self.options, path]
+
+    def _assembled(self, path, program):
+        options = ["--trusted"] if self.is_trusted else self.options
+        return [os.path.join(HERE, "assembled"), program, *options, path] if self._runs(path) else None
+
+    def why_not(self, folder, phase=""):
+        """Why a folder has no compiler, or no program for a phase, that may be called."""
+        if self._is_seen(folder):
+            return "each compiler sees /usr, so none in it is called"
+        return f"no {phase or 'compiler or coolc'} that can be run"
 
     def _is_seen(self, folder):
         return not self.is_trusted and os.path.realpath(folder).startswith("/usr/")
