@@ -10,6 +10,7 @@ const { StringDecoder } = require('string_decoder');
 const EDITORS = [path.join(__dirname, 'editors'), path.join(fs.realpathSync(__dirname), '..')].find((it) => fs.existsSync(path.join(it, 'cool-lsp')));
 const SERVER = path.join(EDITORS, 'cool-lsp');
 const COOL = { language: 'cool' };
+const { Messages, written } = require(path.join(EDITORS, 'node', 'messages.js'));
 const { find } = require(path.join(EDITORS, 'node', 'program.js'));
 const { programsOf } = require(path.join(EDITORS, 'node', 'programs.js'));
 // That a program may take to be found.
@@ -17,13 +18,12 @@ const MOST_SECONDS = 10;
 // VS Code's own program is node where the environment says so.
 const AS_NODE = { ELECTRON_RUN_AS_NODE: '1' };
 const program = () => vscode.workspace.getConfiguration('cool').get('program');
-let server, faults, log, rest, number, waiting;
+let server, faults, log, number, waiting;
 
 // Messages
 
 function send(message) {
-  const body = Buffer.from(JSON.stringify({ jsonrpc: '2.0', ...message }));
-  if (server) server.stdin.write(Buffer.concat([Buffer.from(`Content-Length: ${body.length}\r\n\r\n`), body]));
+  if (server) server.stdin.write(written({ jsonrpc: '2.0', ...message }));
 }
 
 // What the server answers; null where it is not there, and an error where it refuses.
@@ -35,20 +35,11 @@ function request(method, params) {
   });
 }
 
-function read(data) {
-  rest = Buffer.concat([rest, data]);
-  for (;;) {
-    const head = /^Content-Length: (\d+)\r\n\r\n/.exec(rest.subarray(0, 64).toString('latin1'));
-    const end = head && head[0].length + Number(head[1]);
-    if (!head || rest.length < end) return;
-    const message = JSON.parse(rest.subarray(head[0].length, end).toString());
-    rest = rest.subarray(end);
-    if (message.method === 'textDocument/publishDiagnostics') show(message.params);
-    if (!message.method && waiting.has(message.id)) {
-      waiting.get(message.id)(message);
-      waiting.delete(message.id);
-    }
-  }
+function take(message) {
+  if (message.method === 'textDocument/publishDiagnostics') show(message.params);
+  if (message.method || !waiting.has(message.id)) return;
+  waiting.get(message.id)(message);
+  waiting.delete(message.id);
 }
 
 // What the protocol says, as VS Code has it
@@ -109,7 +100,8 @@ function action(found, diagnostics) {
   return shown;
 }
 
-function providers() {
+// What tells of a text: meanings, places and an outline.
+function readers() {
   const places = (method, more) => async (document, position) =>
     ((await request(method, { ...place(document, position), ...more })) || []).map(location);
   return [
@@ -126,6 +118,16 @@ function providers() {
         ((await request('textDocument/documentHighlight', place(document, position))) || [])
           .map((h) => new vscode.DocumentHighlight(range(h.range), (h.kind || 1) - 1)),
     }),
+    vscode.languages.registerDocumentSymbolProvider(COOL, {
+      provideDocumentSymbols: async (document) =>
+        ((await request('textDocument/documentSymbol', { textDocument: { uri: document.uri.toString() } })) || []).map(symbol),
+    }),
+  ];
+}
+
+// What helps to write a text: completions, signatures, layout, new names and edits.
+function writers() {
+  return [
     vscode.languages.registerCompletionItemProvider(COOL, {
       provideCompletionItems: async (document, position) => ((await request('textDocument/completion', place(document, position))) || []).map(completion),
     }, '.'),
@@ -150,19 +152,16 @@ function providers() {
           .map((found) => action(found, context.diagnostics));
       },
     }),
-    vscode.languages.registerDocumentSymbolProvider(COOL, {
-      provideDocumentSymbols: async (document) =>
-        ((await request('textDocument/documentSymbol', { textDocument: { uri: document.uri.toString() } })) || []).map(symbol),
-    }),
   ];
 }
 
 // The server, from the first file of Cool on
 
 function start() {
-  [rest, number, waiting] = [Buffer.alloc(0), 0, new Map()];
+  [number, waiting] = [0, new Map()];
   const started = (server = spawn(process.execPath, [SERVER, ...(program() ? ['--cool', program()] : [])], { env: { ...process.env, ...AS_NODE } }));
-  started.stdout.on('data', read);
+  const messages = new Messages(take);
+  started.stdout.on('data', (bytes) => messages.add(bytes));
   started.stderr.on('data', (data) => log.append(data.toString()));
   started.stdin.on('error', () => {});
   started.on('error', (error) => vscode.window.showErrorMessage(`Cool: cool-lsp does not start: ${error.message}`));
@@ -286,7 +285,7 @@ function activate(context) {
   const files = vscode.workspace.createFileSystemWatcher('**/{*.cl,cool.files}');
   const moved = () => send({ method: 'workspace/didChangeWatchedFiles', params: { changes: [] } });
   context.subscriptions.push(
-    faults, log, files, files.onDidChange(moved), files.onDidCreate(moved), files.onDidDelete(moved), ...providers(),
+    faults, log, files, files.onDidChange(moved), files.onDidCreate(moved), files.onDidDelete(moved), ...readers(), ...writers(),
     vscode.debug.registerDebugAdapterDescriptorFactory('cool', adapter), vscode.debug.registerDebugConfigurationProvider('cool', launches),
     vscode.tasks.registerTaskProvider('cool', tasks), vscode.commands.registerCommand('cool.run', begin('run')),
     vscode.commands.registerCommand('cool.check', begin('check')), vscode.commands.registerCommand('cool.first', first),
