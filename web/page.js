@@ -38,6 +38,7 @@ function setTheme(name) {
 
 async function begin() {
     setTheme(kept(THEME) ?? "");
+    at("hosted").value = kept(HOSTED) ?? "";
     const stored = programFrom(kept(KEPT));
     const linked = await programOfLink();
     if (stored) openProgram(stored, stored.edited);
@@ -61,5 +62,6 @@ document.addEventListener("keydown", pressed);
 document.addEventListener("click", (event) => at("options").contains(event.target) || (at("options").open = false));
 at("examples").onchange = (event) => openExample(event.target.value);
 at("theme").onchange = (event) => setTheme(event.target.value);
+at("hosted").onchange = () => keep(HOSTED, at("hosted").value.trim());
 at("input").onchange = () => changedFiles();
 begin();

@@ -1,7 +1,6 @@
 // Breakpoints at lines and methods: as the client sets them, and as the addresses at which a run stops.
 "use strict";
 const { Unread, readConditions } = require("./conditions.js");
-const { NotTold } = require("./frames.js");
 
 // One break. `told` is what the client is told of it; `asked` is what it asked for, and `reads` that as conditions.js reads it.
 class Breakpoint {
@@ -19,15 +18,14 @@ class Breakpoint {
     }
 
     // A promise of whether its condition holds, or of { wrong } where that cannot be told. It is asked once of each state.
-    holds(steps, { named }) {
+    holds(steps, { value }) {
         const { condition } = this.reads;
         if (!condition) return true;
         const failed = (error) => {
-            if (error instanceof NotTold) return { wrong: error.message };
             this.holding.delete(steps);
             throw error;
         };
-        if (!this.holding.has(steps)) this.holding.set(steps, condition(named).catch(failed));
+        if (!this.holding.has(steps)) this.holding.set(steps, condition(value).catch(failed));
         return this.holding.get(steps);
     }
 
@@ -47,7 +45,7 @@ class Breakpoint {
             return true;
         }
         if (counts && !counts(this.countedTo(steps))) return false;
-        if (message) await look.tell(`${await message(look.named)}\n`);
+        if (message) await look.tell(`${await message(look.value)}\n`);
         return message === undefined;
     }
 
@@ -83,7 +81,7 @@ class Breakpoints {
     lineAt(file, asked, { program, logic, view }) {
         const { line } = asked, name = program.nameOf(file);
         const found = name === undefined ? undefined : logic.breakOfLine(name, line, view);
-        if (found) return this.made("breakpoint", asked, { line: found.line, source: { name, path: file } }, found);
+        if (found) return this.made("breakpoint", asked, { line: found.line, source: { name, path: file } }, found, logic);
         const message = name === undefined ? "this file is no part of the program" : "no line from here on has an expression";
         return this.refused(asked, { line, message });
     }
@@ -99,12 +97,12 @@ class Breakpoints {
         if (labels.length === 0) return this.refused(asked, { message: `${asked.name} is no method: write Class.method` });
         const { line, file } = outline.get(labels[0]) ?? {};
         const where = file === undefined ? {} : { line, source: { name: file, path: program.pathOf(file) } };
-        return this.made("function breakpoint", asked, where, { addresses: labels.map((it) => listing.labels.get(it)) });
+        return this.made("function breakpoint", asked, where, { addresses: labels.map((it) => listing.labels.get(it)) }, logic);
     }
 
-    made(kind, asked, told, where) {
+    made(kind, asked, told, where, logic) {
         try {
-            return new Breakpoint(kind, asked, { id: (this.count += 1), verified: true, ...told }, where, readConditions(asked));
+            return new Breakpoint(kind, asked, { id: (this.count += 1), verified: true, ...told }, where, readConditions(asked, logic));
         } catch (error) {
             if (!(error instanceof Unread)) throw error;
             return this.refused(asked, { ...told, message: error.message });

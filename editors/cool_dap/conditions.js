@@ -1,38 +1,16 @@
 // What a client may ask of a break besides its place: a condition over what is shown there, which of its hits count, and a message in the place of a
-// stop. A reader throws Unread where it is not written as the debugger takes it.
+// stop. A reader throws Unread where it is not written as the debugger takes it. `value` promises the value of an expression at the stop (debuggee.js).
 "use strict";
-const { NotTold } = require("./frames.js");
 
-const NAME = "\\$?\\w+(?:\\s*\\.\\s*\\w+)*", OPERAND = `"[^"]*"|[~-]?\\s*\\d+|${NAME}`;
-const CONDITION = new RegExp(`^\\s*(${OPERAND})\\s*(?:(<=|<|=)\\s*(${OPERAND})\\s*)?$`);
 const COUNT = /^\s*(>=)?\s*(\d{1,9})\s*$/;
-const COMPARED = new Set(["Int", "Bool", "String"]);
 
 class Unread extends Error {}
 
-// What an operand stands for, { value, type }: a number, a text, true, false, or the variable that `named` finds. Texts are compared as they are shown.
-async function valueOf(operand, named) {
-    if (operand[0] === '"') return { value: operand, type: "String" };
-    const number = /^([~-]?)\s*(\d+)$/.exec(operand);
-    if (number) return { value: String(Number(number[2]) * (number[1] ? -1 : 1)), type: "Int" };
-    if (/^(true|false)$/i.test(operand)) return { value: operand.toLowerCase(), type: "Bool" };
-    const found = await named(operand);
-    if (!COMPARED.has(found.type)) throw new NotTold(`${operand} is no Int, Bool or String`);
-    return found;
-}
-
-function compared(left, sign, right) {
-    if (left.type !== right.type) throw new NotTold(`${left.value} and ${right.value} are of two types`);
-    if (sign === "=") return left.value === right.value;
-    if (left.type !== "Int") throw new NotTold(`${sign} compares numbers`);
-    return sign === "<" ? Number(left.value) < Number(right.value) : Number(left.value) <= Number(right.value);
-}
-
-// A function of names that promises whether a condition holds: a comparison, or a Bool alone.
-function conditionOf(text) {
-    const [, left, sign = "=", right = "true"] = CONDITION.exec(text) ?? [];
-    if (left === undefined) throw new Unread(`the condition "${text}" cannot be read: write one as n = 7, n <= m or name = "Ada"`);
-    return async (named) => compared(await valueOf(left, named), sign, await valueOf(right, named));
+// A function of `value` that promises whether a condition holds, or { wrong }.
+function conditionOf(text, { expressionOf, truthOf, FORMS_TAKEN }) {
+    const expression = expressionOf(text);
+    if (!expression) throw new Unread(`the condition "${text}" cannot be read: write one as n = 7 or isvoid next, of ${FORMS_TAKEN}`);
+    return async (value) => truthOf(await value(expression));
 }
 
 // Whether a hit with this number counts: the one of the number that is named, or all from it on.
@@ -42,18 +20,18 @@ function countOf(text) {
     return (hit) => (isFrom ? hit >= Number(number) : hit === Number(number));
 }
 
-// A function of names that promises the message with the values of the names in braces, or with what is wrong with one.
-function messageOf(text) {
-    const parts = text.split(/\{([^{}]*)\}/), isName = new RegExp(`^\\s*${NAME}\\s*$`);
-    const wrong = parts.find((it, i) => i % 2 === 1 && !isName.test(it));
-    if (wrong !== undefined) throw new Unread(`the message has {${wrong}}: write a name, as in {count} or {self.count}`);
-    const shown = (name, named) => named(name).then((it) => it.value, (error) => (error instanceof NotTold ? `{${error.message}}` : Promise.reject(error)));
-    return async (named) => (await Promise.all(parts.map((it, i) => (i % 2 === 1 ? shown(it, named) : it)))).join("");
+// A function of `value` that promises the message with the values of the expressions in braces, or with the reason why one has none.
+function messageOf(text, { expressionOf, FORMS_TAKEN }) {
+    const parts = text.split(/\{([^{}]*)\}/).map((it, i) => (i % 2 === 1 ? expressionOf(it) : it));
+    const wrong = parts.indexOf(undefined);
+    if (wrong >= 0) throw new Unread(`the message has {${text.split(/\{([^{}]*)\}/)[wrong]}}: write ${FORMS_TAKEN}`);
+    const shown = ({ wrong: why, is }) => (why ? `{${why}}` : is.value ?? is.text);
+    return async (value) => (await Promise.all(parts.map(async (it) => (typeof it === "string" ? it : shown(await value(it)))))).join("");
 }
 
 // What a client asked, read: { condition, counts, message }, each undefined where nothing is asked.
-function readConditions({ condition, hitCondition, logMessage }) {
-    const read = (text, reader) => (typeof text === "string" && text.trim() !== "" ? reader(text) : undefined);
+function readConditions({ condition, hitCondition, logMessage }, logic) {
+    const read = (text, reader) => (typeof text === "string" && text.trim() !== "" ? reader(text, logic) : undefined);
     return { condition: read(condition, conditionOf), counts: read(hitCondition, countOf), message: read(logMessage, messageOf) };
 }
 

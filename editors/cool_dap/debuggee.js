@@ -71,8 +71,8 @@ class Debuggee {
         this.known = [];
     }
 
-    // A look at the program after so many instructions, where it need not stand, taken once one asks for it: `named` promises the variable of a name of the
-    // innermost frame there, and `tell` says something behind the output up to there.
+    // A look at the program after so many instructions, where it need not stand, taken once one asks for it: `value` promises the value of an expression
+    // in the innermost frame there, or { wrong }, and `tell` says something behind the output up to there.
     lookAfter(steps) {
         let taken;
         const take = async () => {
@@ -81,7 +81,7 @@ class Debuggee {
         };
         const frames = () => (taken ??= take());
         return {
-            named: async (name) => (await frames()).evaluate(name, 1),
+            value: async (expression) => (await frames()).value(expression, 1),
             tell: async (...said) => (await this.logic.State.after(steps), this.client.say(...said)),
         };
     }

@@ -43,22 +43,10 @@ class Frames {
         return (await this.upTo(id))[id - 1];
     }
 
-    // What stands in a frame: { variables, computed, attributes }, as names with words.
+    // The contents of a frame, as objects.js has them.
     async contents(id) {
         const { debuggee } = this, frame = await this.frame(id);
-        if (frame === undefined) return { variables: [], computed: [], attributes: [] };
-        return debuggee.state.settled(() => {
-            const words = debuggee.logic.wordsIn(frame, debuggee.view);
-            const self = frame.self === undefined ? [] : [{ name: "self", word: frame.self }];
-            const [variables, computed] = [true, false].map((is) => words.filter((it) => (it.isVariable ?? false) === is));
-            return { variables: [...self, ...variables], computed, attributes: this.attributesOf(frame.self) };
-        });
-    }
-
-    attributesOf(word) {
-        const { logic, view } = this.debuggee;
-        const { object, class: its } = word === undefined ? {} : logic.described(word, view);
-        return object === undefined ? [] : logic.attributesAt(object, its, view);
+        return debuggee.state.settled(() => debuggee.logic.contentsOf(frame, debuggee.view));
     }
 
     async scopes(id) {
@@ -99,29 +87,27 @@ class Frames {
         const text = is.value ?? is.text;
         const value = isRegister ? `${logic.hex(word)}${is.type ? ` ${is.text}` : ""}` : text;
         const opens = is.object !== undefined && logic.attributesOf(is.class, table).length > 0;
-        const reference = opens ? this.reference(() => this.attributesOf(word)) : 0;
+        const reference = opens ? this.reference(() => logic.partsOf(word, this.debuggee.view)) : 0;
         const place = word > 0 ? { memoryReference: logic.hex(word) } : {}, known = is.type ?? type;
         return { name, value, ...(known && !isRegister ? { type: known } : {}), variablesReference: reference, ...place };
     }
 
-    // The value of a name, and of attributes behind it: `x`, `self.x`, `x.y.z`, `$a0`. The innermost variable of a name counts, then the attribute.
-    async evaluate(expression, id) {
-        const names = /^\s*(\$?\w+)((?:\s*\.\s*\w+)*)\s*$/.exec(expression);
-        if (!names) throw new NotTold("only names are told, as count or self.count");
-        if (names[1][0] === "$") return this.named(this.registers(), names[1]);
-        const { variables, attributes } = await this.contents(id);
-        let found = variables.findLast((it) => it.name === names[1]) ?? attributes.find((it) => it.name === names[1]);
-        for (const it of names[2].split(".").slice(1)) {
-            const parts = await this.debuggee.state.settled(() => this.attributesOf(found?.word));
-            found = parts.find((part) => part.name === it.trim());
-        }
-        return this.named(found ? [{ ...found, name: expression }] : [], expression);
+    // A promise of the value of what `expressionOf` (evaluator.js) made, in a frame, or of { wrong }.
+    async value(expression, id) {
+        const { debuggee } = this, frame = await this.frame(id);
+        return debuggee.state.settled(() => expression(frame, debuggee.view));
     }
 
-    async named(parts, name) {
-        const [found] = await this.described(() => parts.filter((it) => it.name === name));
-        if (!found) throw new NotTold(`${name} is no variable here`);
-        return found;
+    // A promise of the variable that an expression, or a register as `$a0`, is shown as.
+    async evaluate(text, id) {
+        const { logic } = this.debuggee, name = text.trim();
+        const register = name.startsWith("$") && this.registers().find((it) => it.name === name);
+        if (register) return (await this.described(() => [register]))[0];
+        const expression = logic.expressionOf(text);
+        if (!expression) throw new NotTold(`"${name}" is not told: write ${logic.FORMS_TAKEN}`);
+        const found = await this.value(expression, id);
+        if (found.wrong) throw new NotTold(found.wrong);
+        return this.variable({ ...found, name: text, type: found.declared });
     }
 }
 

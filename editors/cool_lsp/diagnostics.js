@@ -3,7 +3,8 @@
 const path = require("path");
 const { MOST_BYTES, MOST_FILES, toUri } = require("../node/files.js");
 const { LIST, keyOf } = require("../node/programs.js");
-const { Pieces } = require("./pieces.js");
+const { findingOf, likelyEdit, nameBehind } = require("../../web/logic/fault-words.js");
+const { Pieces, faultsOfFiles } = require("../../web/logic/pieces.js");
 const { Text } = require("./ranges.js");
 const { Ended } = require("./session.js");
 
@@ -23,10 +24,9 @@ const isAsBefore = (one, other) => one.size === other.size && [...one].every(([k
 
 // The words of a fault with what was found: a list of problems shows nothing else of it.
 function messageOf(words, fault, lexeme) {
-    const found = fault?.facts.find((it) => it.startsWith("found "));
+    const found = fault && findingOf(fault.facts);
     if (found) return `${words}: ${found}`;
-    if (!fault || /^self/i.test(words) || !/^[A-Za-z][A-Za-z0-9_]*$/.test(lexeme)) return words;
-    return words.startsWith("unknown ") ? `${words} \`${lexeme}\`` : `${words}: \`${lexeme}\``;
+    return fault ? words + nameBehind(words, lexeme) : words;
 }
 
 // A program whose files, null where one is missing, are as they are: which of them are open, each with whether it is stored with a byte order mark;
@@ -121,15 +121,8 @@ class Checker {
     }
 
     async run(files) {
-        const pieces = this.pieces.of(files), byKey = new Map(pieces.map((it) => [it.key, it])), faults = [];
-        let last;
-        for (const [key, line, kind, words] of await this.session.faults(new Map(pieces.map((it) => [it.key, it.data])))) {
-            const { path: file, before } = byKey.get(key);
-            if ("LS".includes(kind[0]) && file === last) continue; // of a file only the first one is told
-            last = file;
-            faults.push([file, before + line, kind, words]);
-        }
-        return { key: keyOf([...files.keys()]), files, faults };
+        const pieces = this.pieces.of(files), rows = await this.session.faults(new Map(pieces.map((it) => [it.key, it.data])));
+        return { key: keyOf([...files.keys()]), files, faults: faultsOfFiles(rows, pieces) };
     }
 
     // What is told
@@ -160,10 +153,10 @@ class Checker {
         });
         for (const notice of isFit ? explanation.notices : []) {
             if (!this.files.open.has(notice.path)) continue;
-            const fix = fixOf(notice), range = this.text(notice.path).range(notice.start, notice.end);
+            const fix = likelyEdit(notice.words), range = this.text(notice.path).range(notice.start, notice.end);
             const shown = note(fix ? WARNING : HINT, notice.words, range);
             found.get(notice.path).push(shown);
-            if (fix) noticed.set(notice.path, [...(noticed.get(notice.path) ?? []), [{ ...fix, run }, shown]]);
+            if (fix) noticed.set(notice.path, [...(noticed.get(notice.path) ?? []), [{ ...notice, ...fix, run }, shown]]);
         }
     }
 
@@ -193,11 +186,6 @@ class Checker {
 }
 
 const sizeOf = (files) => [...files.values()].reduce((sum, it) => sum + it.length, 0);
-
-// An edit that is likely meant where a notice is, or undefined; whether the program takes it is to be tried.
-function fixOf({ path: file, start, end, words }) {
-    return words.startsWith("`=` compares, and the answer is not used") ? { path: file, start, end, text: "<-", words: "`<-` in the place of `=`" } : undefined;
-}
 
 // Adds the diagnostics of a file that are not there; `said` has those that are, as text.
 function addNew(found, said, file, notes) {

@@ -1,10 +1,10 @@
 // The process that tells faults: one `session` of the program (docs/session.md), started when it is asked, and again where it ended.
 "use strict";
 const { textOf } = require("../node/bytes.js");
-const { MOST_BYTES } = require("../node/files.js");
 const { log } = require("../node/log.js");
 const { delay, kill, start, statusOf, whyNot } = require("../node/processes.js");
 const { find, Missing } = require("../node/program.js");
+const { HeldFiles } = require("../../web/logic/pieces.js");
 
 // Bytes of a line of a reply, of which each is far shorter.
 const MOST_LINE = 1 << 16;
@@ -46,8 +46,7 @@ class Lines {
 class Session {
     constructor(named, seconds) {
         // Whether the process was killed since it did not reply; whether none is wanted any more.
-        Object.assign(this, { named, seconds, late: false, closed: false, number: 0 });
-        this.held = new Map(); // by key: { name in the session, data }, in the order of the session
+        Object.assign(this, { named, seconds, late: false, closed: false, held: new HeldFiles((bytes) => bytes.length) });
     }
 
     // A promise of the faults of files, a map of bytes by key, in their order: [key, line, kind, words]. A session that ended is started again once.
@@ -55,20 +54,20 @@ class Session {
         try {
             return await this.ask(files);
         } catch (error) {
-            if (!(error instanceof Ended) || this.late || this.closed || this.held.size === 0) throw error;
+            if (!(error instanceof Ended) || this.late || this.closed || this.held.keys.size === 0) throw error;
             return this.ask(files);
         }
     }
 
     async ask(files) {
         if (!this.child) await this.start();
-        const request = this.edits(files), child = this.child;
+        const request = this.held.edits(files), child = this.child;
         const timer = setTimeout(() => ((this.late = true), kill(child)), 1000 * this.seconds);
         try {
             child.stdin.write(Buffer.from(`${request}check\n`, "latin1"));
             const count = Number(HEAD.exec(await this.lines.next())[1]), rows = [];
             for (let i = 0; i < count; i += 1) rows.push(ROW.exec(await this.lines.next()).slice(1));
-            const keys = new Map([...files.keys()].map((it) => [this.held.get(it).name, it]));
+            const { keys } = this.held;
             if (rows.some(([name]) => !keys.has(name))) throw new TypeError("a file that is not held");
             return rows.map(([name, line, kind, words]) => [keys.get(name), Number(line), kind, textOf(words)]);
         } catch (error) {
@@ -77,27 +76,6 @@ class Session {
         } finally {
             clearTimeout(timer);
         }
-    }
-
-    // The commands that have the session hold these files, in this order.
-    edits(files) {
-        const lines = [], keys = [...files.keys()];
-        let stay = [...this.held.keys()].filter((it) => files.has(it));
-        const most = keys.reduce((sum, it) => sum + Math.max(this.held.get(it)?.data.length ?? 0, files.get(it).length), 0);
-        if (stay.some((it, i) => it !== keys[i]) || most > MOST_BYTES) stay = []; // another order, or too much on the way
-        for (const [key, { name }] of [...this.held]) {
-            if (stay.includes(key)) continue;
-            lines.push(`drop ${name}\n`);
-            this.held.delete(key);
-        }
-        for (const [key, data] of files) {
-            const held = this.held.get(key);
-            if (held?.data === data) continue;
-            const name = held?.name ?? `${(this.number += 1)}.cl`;
-            lines.push(`file ${name} ${data.length}\n`, data);
-            this.held.set(key, { name, data });
-        }
-        return lines.join("");
     }
 
     async start() {
@@ -109,7 +87,7 @@ class Session {
         }
         if (this.closed) throw new Ended("the editor ended");
         const child = start(command, ["session"], "cool");
-        Object.assign(this, { child, held: new Map(), late: false, said: "", lines: new Lines(child.stdout) });
+        Object.assign(this, { child, held: new HeldFiles((bytes) => bytes.length), late: false, said: "", lines: new Lines(child.stdout) });
         this.ending = new Promise((answer) => {
             child.on("exit", (status, signal) => answer(statusOf(status, signal)));
             child.on("close", (status, signal) => answer(statusOf(status, signal)));

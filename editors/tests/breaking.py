@@ -43,7 +43,8 @@ def stops(client, file, *asked, command="setBreakpoints", **more):
 def conditions(room, words):
     """A break with a condition stops where it holds, and nowhere else."""
     wanted = (("n = 3", [3]), ("n <= 1", [0, 1]), ("4 < n", [5]), ("n = ~1", []), ('word = "three"', [3]), ('word = "é"', [0, 1, 2, 4, 5]),
-              ("odd", [0, 2, 4]), ("self.odd = false", [1, 3, 5]), ("n = n", [0, 1, 2, 3, 4, 5]))
+              ("odd", [0, 2, 4]), ("self.odd = false", [1, 3, 5]), ("n = n", [0, 1, 2, 3, 4, 5]), ("n + 1 = 2 * 2", [3]), ("not n < 4", [4, 5]),
+              ("isvoid self", []), ("not isvoid self", [0, 1, 2, 3, 4, 5]), ("(n - 1) / 2 = 1", [3, 4]), ("odd = (n <= 2)", [0, 2, 3, 5]))
     client, file = loop(room, words)
     for condition, values in wanted:
         expect(condition, stops(client, file, {"condition": condition}), [(it, "breakpoint") for it in values])
@@ -91,11 +92,11 @@ def counts(room, words):
 
 def messages(room, words):
     """A message is written where the run comes by, once, between the output before and behind it; and the run does not stop."""
-    log = {"line": 11, "logMessage": "{i}: {odd}, {j}", "condition": "i <= 2"}
+    log = {"line": 11, "logMessage": "{i}: {odd}, {j}; {i * 10}", "condition": "i <= 2"}
     client, stop, _ = begun(room, words, LOOP, lines=[log])
     expect("the end", stop["event"], "terminated")
     told = "".join(it["body"]["output"] for it in client.all if it["event"] == "output")
-    expect("in order", told, "".join("%d: %s, {j is no variable here}\n%d" % it for it in ((1, "true", 1), (2, "false", 2))) + "3456" + END)
+    expect("in order", told, "".join("%d: %s, {j is no variable here}; %d\n%d" % it for it in ((1, "true", 10, 1), (2, "false", 20, 2))) + "3456" + END)
     done(client, room)
     client, stop, _ = begun(room, words, LOOP, lines=[{"line": ADDS, "logMessage": "n is {n}"}, {"line": ADDS, "condition": "n = 1"}], stopOnEntry=True)
     client.stop("continue")
@@ -107,17 +108,18 @@ def messages(room, words):
 
 def wrong_conditions(room, words):
     """What cannot be read is refused in a line, and what cannot be told at a stop stops there."""
-    wrong = ({"condition": "n = "}, {"condition": "n + 1 = 2"}, {"hitCondition": "often"}, {"logMessage": "{n + 1}"})
+    wrong = ({"condition": "n = "}, {"condition": "add(n) = 2"}, {"hitCondition": "often"}, {"logMessage": "{n}: {add(1)}"})
     client, stop, _ = begun(room, words, LOOP, lines=[{"line": ADDS, **it} for it in wrong])
     expect("none stops", stop["event"], "terminated")
     told = client.set[0]["breakpoints"]
     expect("verified", [it["verified"] for it in told], [False] * 4)
-    expect("why", [it["message"][:44] for it in told], ['the condition "n = " cannot be read: write o', 'the condition "n + 1 = 2" cannot be read: wr',
-                                                        'the count "often" cannot be read: write 3 fo', "the message has {n + 1}: write a name, as in"])
+    expect("why", [it["message"][:44] for it in told], ['the condition "n = " cannot be read: write o', 'the condition "add(n) = 2" cannot be read: w',
+                                                        'the count "often" cannot be read: write 3 fo', "the message has {add(1)}: write names, const"])
     done(client, room)
     client, file = loop(room, words)
-    for condition, why in (("m = 1", "m is no variable here"), ('n = "1"', '0 and "1" are of two types'), ("self = n", "self is no Int, Bool or String"),
-                           ("odd < true", "< compares numbers")):
+    for condition, why in (("m = 1", "m is no variable here"), ('n = "1"', '0 and "1" are of two types'), ("self = n", "Main#1 and 0 are of two types"),
+                           ("odd < true", "< compares numbers"), ("n + 1", "1 is no Bool"), ("1 / (n - n) = 1", "division by zero"),
+                           ("2147483647 + 1 = n", "arithmetic overflow")):
         client.said = ""
         seen = stops(client, file, {"condition": condition})
         told = client.said.splitlines()

@@ -248,6 +248,11 @@ def variables(room, words):
     expect("the innermost", client.value("n", frame=2), "14")
     expect("paths", [client.value(it, frame=2) for it in ("self.x", "b.next", "x")], ["3", "void", "3"])
     expect("unknown", client.answer("evaluate", expression="nothing", frameId=2, context="hover")["success"], False)
+    computed = {"isvoid b.next": "true", "isvoid b": "false", "n + 1": "15", "~n / 4": "-3", "2 * (self.x - 1)": "4", "not (n < 3)": "true",
+                's = "\u00e9\\n"': "true", "b.next = self": "false", "n <= 14 = true": None, "twice(n)": None, "if true then 1 else 2 fi": None, "": None}
+    answers = [client.answer("evaluate", expression=it, frameId=2, context="watch") for it in computed]
+    expect("computed", [it["body"]["result"] if it["success"] else None for it in answers], list(computed.values()))
+    expect("why", answers[-3]["message"][:53], '"twice(n)" is not told: write names, constants and op')
     self = client.ask("evaluate", expression="self", frameId=2, context="watch")
     parts = client.ask("variables", variablesReference=self["variablesReference"])["variables"]
     expect("an object's parts", [(it["name"], it["value"]) for it in parts], [("x", "3"), ("next", "void")])

@@ -64,7 +64,7 @@ def random_edits_agree_with_check(room, words):
 
 
 SMALL_PIECES = "const { main } = require(%r), { Pieces } = require(%r); main(process.argv.slice(1), '', new Pieces(200, 60));" % tuple(
-    str(HERE / "cool_lsp" / name) for name in ("words.js", "pieces.js"))
+    str(path) for path in (HERE / "cool_lsp" / "words.js", HERE.parent / "web" / "logic" / "pieces.js"))
 
 
 def pieces_have_the_faults_of_the_file(room, words):

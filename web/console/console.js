@@ -66,7 +66,7 @@ function forgetWaiting() {
 
 function wantsLine(wants) {
     for (const it of ["line", "send", "close"]) at(it).disabled = !wants;
-    at("line").placeholder = wants ? "the program waits for a line" : "input, when it is asked for";
+    at("line").placeholder = wants ? "a line for the program" : "input, when it is asked for";
     if (wants) at("line").focus();
 }
 
@@ -108,10 +108,16 @@ function showEnd(came) {
     tell(came.status === undefined ? endWords(came) : `${endWords(came)}, status ${came.status}, ${time}`, came.status !== 0);
     const lacked = OPTIONS.find((it) => it.status !== undefined && it.status === came.status);
     if (lacked && at("how").value === "run") at("end").append(`It may ${lacked.more}: see Options.`);
-    const fault = came.status === 3 ? placed(at("output").textContent.trimEnd().split("\n").at(-1)) : undefined;
+    const fault = placeOfEnd(came.status, at("output").textContent.trimEnd().split("\n"));
     if (!fault) return;
     at("end").append(element("button", { onclick: () => goTo(fault.file, fault.line) }, `Show line ${fault.line} of ${fault.file}`), " ");
-    happened("failed");
+    if (came.status === 3) happened("failed");
+    at("end").scrollIntoView({ block: "nearest" });
+}
+
+// The place of the error that ended a run, or of the first fault that let it not begin.
+function placeOfEnd(status, lines) {
+    return { 1: placed(lines[0]), 3: placed(lines.at(-1)) }[status];
 }
 
 // Gives the run a line, or null for the end of the input.

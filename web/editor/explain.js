@@ -30,16 +30,33 @@ function explainSoon() {
 
 async function explain() {
     const turn = (explainTurn += 1);
-    const numbered = new Map(files.map((it, i) => [`${i}.cl`, encode(it.text)]));
-    const decoder = new TextDecoder();
+    const { status, said } = await askedToExplain(files.map((it) => it.text));
+    if (turn !== explainTurn) return;
+    explanation = status === 0 || status === 1 ? fitting(said) : undefined;
+    if (explanation) explainedBefore = new Map(faults.map((it, i) => [keyOf(it), explanation.faults[i]]));
+    showExplained();
+    for (const it of explanation?.notices ?? []) if (turn === explainTurn) await tryEdit(it, turn);
+}
+
+// A promise of the program's status for these texts of the files, and of what it says.
+async function askedToExplain(texts) {
+    const numbered = new Map(texts.map((it, i) => [`${i}.cl`, encode(it)])), decoder = new TextDecoder();
     let said = "";
     const pieces = (all) => all.forEach((it) => it.to === 1 && (said += decoder.decode(it.bytes, { stream: true })));
     const limit = setTimeout(() => explainer.stop(), MOST_EXPLAIN_TIME);
-    const came = await explainer.run(["--lines", ...numbered.keys()], numbered, { pieces });
+    const { status } = await explainer.run(["--lines", ...numbered.keys()], numbered, { pieces });
     clearTimeout(limit);
-    if (turn !== explainTurn) return;
-    explanation = came.status === 0 || came.status === 1 ? fitting(said) : undefined;
-    if (explanation) explainedBefore = new Map(faults.map((it, i) => [keyOf(it), explanation.faults[i]]));
+    return { status, said };
+}
+
+// Offers the edit that a notice suggests, if the program with it has no faults.
+async function tryEdit(notice, turn) {
+    const edit = likelyEdit(notice.words);
+    if (!edit) return;
+    const mend = { ...edit, from: notice.from, to: notice.to };
+    const { status } = await askedToExplain(files.map((it) => (it.name === mend.from.file ? editedText(it.text, mend) : it.text)));
+    if (turn !== explainTurn || status !== 0) return;
+    notice.mend = mend;
     showExplained();
 }
 

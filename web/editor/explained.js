@@ -25,6 +25,12 @@ function mendedLines({ from, to, text: put }) {
     return (lines[from.line - 1] ?? "").slice(0, from.column) + put + (lines[to.line - 1] ?? "").slice(to.column);
 }
 
+// A text with an edit.
+function editedText(all, { from, to, text: put }) {
+    const starts = [0, ...Array.from(all.matchAll(/\n/g), (it) => it.index + 1)], indexIn = ({ line, column }) => starts[line - 1] + column;
+    return all.slice(0, indexIn(from)) + put + all.slice(indexIn(to));
+}
+
 // The ranges that are marked in a file, by lines: [from, to, kind], in columns.
 function rangesIn(file) {
     const found = new Map();

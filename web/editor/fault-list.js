@@ -11,19 +11,19 @@ const placeWords = ({ file, line }) => (files.length > 1 ? `${file}:${line}` : `
 // What stands from a place up to another of its line.
 const textBetween = ({ file, line, column }, to) => (linesOf(fileNamed(file)?.text ?? "")[line - 1] ?? "").slice(column, to.column);
 
-// What the list shows of a fault below its place and words.
-function detailsOf({ facts, other, cure, mend, from, to }, i) {
+// The items of the list below the place and words of a fault.
+function detailsOf({ facts, other, cure, mend }) {
     const items = facts.map((it) => element("div", { className: "fact" }, ...spoken(it)));
-    const isUnnamed = facts.length === 0 && !mend && /: unknown /.test(faults[i].words);
-    if (isUnnamed) items.push(element("div", { className: "fact" }, "nothing here is named ", element("code", {}, textBetween(from, to))));
     if (other) items.push(element("button", { className: "other", onclick: () => goTo(other.file, other.line) }, `defined at ${placeWords(other)}, too`));
     if (cure) items.push(element("div", { className: "cure" }, "To mend it: ", ...spoken(cure)));
-    if (mend) {
-        const title = `${mendedLines(mend)}\n\nCtrl+Z takes it back`;
-        const fix = { className: "fix", disabled: !explanation, title, onclick: () => putMend(i) };
-        items.push(element("button", fix, "Mend: ", ...spoken(mend.words)), changedLines(mend));
-    }
-    return items;
+    return mend ? [...items, ...mendItems(mend)] : items;
+}
+
+// The button that puts an edit in, and the lines that this changes.
+function mendItems(mend) {
+    const title = `${mendedLines(mend)}\n\nCtrl+Z takes it back`;
+    const fix = { className: "fix", disabled: !explanation, title, onclick: () => putMend(mend) };
+    return [element("button", fix, "Mend: ", ...spoken(mend.words)), changedLines(mend)];
 }
 
 // How many lines two lists begin with alike.
@@ -44,25 +44,24 @@ function changedLines(mend) {
     return element("pre", { className: "changes" }, files.length > 1 ? `${mend.from.file}\n` : "", ...all.slice(0, MOST_CHANGED), ...rest);
 }
 
-// Puts the edit that mends fault i into its file, as if it was typed.
-function putMend(i) {
-    const mend = explanation?.faults[i].mend;
-    if (!mend) return;
+// Puts an edit into its file, as if it was typed.
+function putMend(mend) {
     goTo(mend.from.file, mend.from.line);
     text.setSelectionRange(indexOf(mend.from), indexOf(mend.to));
     if (mend.text === "") document.execCommand("delete");
     else typed(mend.text);
 }
 
-function noticeItem(place, words, file, line) {
-    return element("li", { className: "notice" }, element("button", { onclick: () => goTo(file, line) }, `${place}: `, ...spoken(words)));
+function noticeItem(place, words, file, line, i) {
+    const { mend } = explanation.notices[i], button = element("button", { onclick: () => goTo(file, line) }, `${place}: `, ...spoken(words));
+    return element("li", { className: "notice" }, button, ...(mend ? mendItems(mend) : []));
 }
 
 // Shows the faults with what is known of each, and the notices, in the list and in the text.
 function showExplained() {
-    const rows = faults.map((it, i) => [placeWords(it), it.words, it.file, it.line, i, shownOf(explainedOf(i))]);
-    const notices = (explanation?.notices ?? []).map(({ from, words }) => [placeWords(from), words, from.file, from.line]);
-    showRows(at("faults"), [...rows, ...notices], (...row) => (row.length > 4 ? faultItem(...row) : noticeItem(...row)));
+    const rows = faults.map((it, i) => [faultItem, placeWords(it), it.words, it.file, it.line, i, shownOf(explainedOf(i))]);
+    const notices = (explanation?.notices ?? []).map((it, i) => [noticeItem, placeWords(it.from), it.words, it.from.file, it.from.line, i, shownOf(it)]);
+    showRows(at("faults"), [...rows, ...notices], (make, ...row) => make(...row));
     if (explanation) at("faults").querySelectorAll(".fix").forEach((it) => (it.disabled = false));
     showMarks();
     paint();
@@ -73,6 +72,7 @@ const shownOf = (known) => JSON.stringify([known ?? "", known?.mend ? mendedLine
 
 function faultItem(place, words, file, line, i) {
     const known = explainedOf(i);
-    const button = element("button", { className: "fault", onclick: () => goTo(file, line) }, `${place}: ${words}`);
-    return element("li", {}, button, ...(known ? detailsOf(known, i) : []));
+    const name = known && !findingOf(known.facts) ? nameBehind(words.replace(/^[A-Z]\d+: /, ""), textBetween(known.from, known.to)) : "";
+    const button = element("button", { className: "fault", onclick: () => goTo(file, line) }, `${place}: ${words}`, ...spoken(name));
+    return element("li", {}, button, ...(known ? detailsOf(known) : []));
 }

@@ -21,9 +21,8 @@ async function foundAnew() {
     return { found: lines.map(placed).filter(Boolean), end: came.status === 0 ? undefined : lines[0] ?? endWords(came) };
 }
 
-// A session is not asked where the files did not parse last, for most often they still do not, and then it has no answer.
 async function foundNow() {
-    const found = faults.some(isOfText) ? undefined : await session.faults(files);
+    const found = await session.faults(files);
     return found ? { found } : foundAnew();
 }
 

@@ -1,13 +1,13 @@
 // The files of the program, as tabs above the editor: they are one program, in the order of the tabs.
 "use strict";
 
-// Each has a name, a text, breaks (line numbers), and from, to and top: what was selected, and how far it was scrolled.
+// Each has a name, a text, breaks (a map of line numbers to conditions, "" for none), and from, to and top: what was selected, and how far it was scrolled.
 const files = [];
 let shownFile;
 // Those of the program as it was checked last: { file, line, words }.
 let faults = [];
 
-const newFile = (name, value) => ({ name, text: value, breaks: new Set(), from: 0, to: 0, top: 0 });
+const newFile = (name, value) => ({ name, text: value, breaks: new Map(), from: 0, to: 0, top: 0 });
 const fileNamed = (name) => files.find((it) => it.name === name);
 const fileNames = () => files.map((it) => it.name);
 const lineIn = (file, place) => (place?.file === file.name ? place.line : undefined);
@@ -134,7 +134,8 @@ function moveBreaks(file, before, after) {
     let same = 0;
     while (same < now.length && now[same] === old[same]) same += 1;
     const by = now.length - old.length;
-    file.breaks = new Set([...file.breaks].map((line) => (line > same + 1 || (line === same + 1 && by > 0) ? Math.max(same + 1, line + by) : line)));
+    const moved = (line) => (line > same + 1 || (line === same + 1 && by > 0) ? Math.max(same + 1, line + by) : line);
+    file.breaks = new Map([...file.breaks].map(([line, condition]) => [moved(line), condition]));
 }
 
 text.addEventListener("input", () => {

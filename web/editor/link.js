@@ -16,11 +16,12 @@ async function bytesThrough(bytes, stream, most) {
     return new Uint8Array(await new Blob(parts).arrayBuffer());
 }
 
-async function linkOf(json) {
+// The fragment that carries a program.
+async function fragmentOf(json) {
     const packed = await bytesThrough(encode(json), new CompressionStream("deflate-raw"), MOST_LINK_BYTES);
     let letters = "";
     for (let i = 0; i < packed.length; i += 8192) letters += String.fromCharCode(...packed.subarray(i, i + 8192));
-    return `${location.href.split("#")[0]}#${btoa(letters).replace(/\+/g, "-").replace(/\//g, "_").replace(/=+$/, "")}`;
+    return `#${btoa(letters).replace(/\+/g, "-").replace(/\//g, "_").replace(/=+$/, "")}`;
 }
 
 // The program in the fragment, or undefined where there is none or it is no program.
@@ -35,17 +36,26 @@ async function programOfLink() {
     }
 }
 
-// The address of the page becomes the link; where the browser lets it, it is copied, too.
+// The address that links begin with: that of the options, if it is one of the web; else the page's own.
+function addressOfLinks() {
+    const given = at("hosted").value.trim();
+    return (/^https?:\/\/[^\s\/]/.test(given) ? given : location.href).split("#")[0];
+}
+
+// Makes the link, and copies it if the browser lets it. The address of the page has the program, too.
 async function makeLink() {
-    const link = await linkOf(programText());
-    history.replaceState(null, "", link);
-    // Where the page is a file the link begins with its name on this machine.
-    const where = location.protocol === "file:" ? ": it opens on this machine alone, since the page is a file here" : "";
+    const fragment = await fragmentOf(programText()), link = addressOfLinks() + fragment;
+    history.replaceState(null, "", location.href.split("#")[0] + fragment);
+    const isOfFile = link.startsWith("file:");
+    const where = isOfFile ? ": it opens only on this machine, since the page is a file here (Options: the address of a hosted page)" : "";
+    at("made-link").value = link;
     try {
         await navigator.clipboard.writeText(link);
         tell(`link copied (${link.length.toLocaleString("en")} letters)${where}`);
     } catch {
-        tell(`the page's address is the link, copy it from there${where}`);
+        at("options").open = true;
+        at("made-link").select();
+        tell(`copy the link from the options${where}`);
     }
 }
 

@@ -3,7 +3,7 @@
 
 // As many as a command takes.
 const MOST_FILES = 64;
-const KEPT = "cool-program", BEFORE = "cool-program-before", THEME = "cool-theme", KEEP_DELAY = 400;
+const KEPT = "cool-program", BEFORE = "cool-program-before", THEME = "cool-theme", HOSTED = "cool-hosted", KEEP_DELAY = 400;
 
 function kept(key) {
     try {

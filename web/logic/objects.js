@@ -2,7 +2,7 @@
 // stack as frames. Functions of a view, { state, listing, table, numbers, textOf }; they peek at memory, and are called again once what they lacked is read.
 "use strict";
 
-const MOST_LETTERS = 80, MOST_PUSHED = 100, MOST_FRAMES = 40, FRAME_BYTES = 12;
+const MOST_LETTERS = 80, MOST_STRING_BYTES = 65_535, MOST_PUSHED = 100, MOST_FRAMES = 40, FRAME_BYTES = 12;
 
 // Describes a word: its text, and of an object its type, of an Int its value, and of others but Bools and Strings { object, class }, the address.
 function described(word, view) {
@@ -42,18 +42,30 @@ function classAt(address, { state, listing }) {
     return found && state.peek(address + 8) === listing.labels.get(`${found.name}_dispTab`) ? found : undefined;
 }
 
+// The bytes of the String at an address, so many at most.
+function bytesAt(address, state, most) {
+    const bytes = new Uint8Array(Math.min(lengthAt(address, state), most));
+    return bytes.map((_, i) => (state.peek(address + 16 + (i & ~3)) ?? 0) >>> (8 * (i % 4)));
+}
+
+const lengthAt = (address, state) => state.peek((state.peek(address + 12) ?? 0) + 12) ?? 0;
+const escapedLetters = (text) => text.replace(/[\n\t]/g, (it) => (it === "\n" ? "\\n" : "\\t"));
+
 function lettersAt(address, state) {
-    const length = state.peek((state.peek(address + 12) ?? 0) + 12) ?? 0;
-    const bytes = [];
-    for (let i = 0; i < Math.min(length, MOST_LETTERS); i += 1) bytes.push(((state.peek(address + 16 + (i & ~3)) ?? 0) >>> (8 * (i % 4))) & 255);
-    const shown = decode(new Uint8Array(bytes)).replace(/[\n\t]/g, (it) => (it === "\n" ? "\\n" : "\\t"));
-    return length > MOST_LETTERS ? `${shown}…` : shown;
+    const shown = escapedLetters(decode(bytesAt(address, state, MOST_LETTERS)));
+    return lengthAt(address, state) > MOST_LETTERS ? `${shown}…` : shown;
 }
 
 // The attributes of the object at an address: { name, type, word }.
 const attributesAt = (object, its, { state, table }) => attributesOf(its, table).map((it) => ({ ...it, word: state.peek(object + it.offset) }));
 
 const attributesOf = (its, table) => table.attributes.get(its.name) ?? [];
+
+// The attributes of the object that a word is the address of; of another word none.
+function partsOf(word, view) {
+    const { object, class: its } = described(word, view);
+    return object === undefined ? [] : attributesAt(object, its, view);
+}
 
 // A line of the view: a name, a word and what it is; the attributes below an object whose path is open.
 function entry(name, word, path, view) {
@@ -119,6 +131,13 @@ function wordsIn({ pc, fp, below }, { state, table, textOf }) {
         words.push({ name, ...more, word: state.peek(address), key: `p${i}` });
     }
     return words;
+}
+
+// The contents of a frame: { variables, computed, attributes }, each with its name, word and type; the attributes are those of self.
+function contentsOf(frame, view) {
+    const words = frame === undefined ? [] : wordsIn(frame, view), self = frame?.self === undefined ? [] : [{ name: "self", word: frame.self }];
+    const [variables, computed] = [true, false].map((is) => words.filter((it) => (it.isVariable ?? false) === is));
+    return { variables: [...self, ...variables], computed, attributes: partsOf(frame?.self, view) };
 }
 
 // The name in the text at the place of an expression, of a program's files.

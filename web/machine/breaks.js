@@ -1,17 +1,49 @@
-// Breakpoints, at lines of the files and at labels of the assembly.
+// Breakpoints, at lines of the files, with conditions, and at labels of the assembly.
 "use strict";
 
 // Where each break of a line of a file stops: { line, places }, or undefined.
 const stopOfBreak = (file, line) => breakOfLine(file.name, line, machine);
 
+// Stops that are looked at by one run.
+const MOST_TOGETHER = 64;
+
+// The breaks for the moves of stops.js. One is open where each break at its place has a condition.
 function breaksSet() {
-    const found = files.flatMap((file) => [...file.breaks].map((line) => stopOfBreak(file, line)).filter(Boolean));
+    const conditions = new Map();
+    for (const file of files) {
+        for (const [line, condition] of file.breaks) {
+            for (const place of stopOfBreak(file, line)?.places ?? []) conditions.set(place, [...(conditions.get(place) ?? []), condition]);
+        }
+    }
     const addresses = [...machine.labels].map((it) => machine.listing.labels.get(it)).filter((it) => it < DATA_START);
-    return { places: found.flatMap((it) => it.places), addresses };
+    const isOpen = ({ place, pc }) => !addresses.includes(pc) && (conditions.get(place) ?? [""]).every((it) => it !== "");
+    return { places: [...conditions.keys()], addresses, isOpen, first: (stops) => firstHolding(stops, conditions) };
+}
+
+// A promise of the first of these stops at which a condition holds, or cannot be told: then the stop says why. More and more of them are looked at together.
+async function firstHolding(stops, conditions) {
+    for (let i = 0, together = 1; i < stops.length; i += together, together = Math.min(4 * together, MOST_TOGETHER)) {
+        const part = stops.slice(i, i + together), held = await Promise.all(part.map((it) => heldAt(it, conditions.get(it.place))));
+        const found = held.findIndex(Boolean);
+        if (found >= 0) return { ...part[found], untold: held[found].untold };
+    }
+    return undefined;
+}
+
+// A promise of whether one of these conditions holds at a stop, or of { untold }: why the first one cannot be told.
+async function heldAt({ steps }, conditions) {
+    const state = await State.after(steps, machine.state), view = viewOf(state);
+    const said = await state.settled(() => {
+        const [frame] = stackOf(view, 1);
+        return conditions.map((it) => ({ condition: it, truth: truthOf(expressionOf(it)?.(frame, view) ?? { wrong: UNREAD }) }));
+    });
+    const wrong = said.find((it) => it.truth.wrong);
+    if (said.some((it) => it.truth === true)) return {};
+    return wrong && { untold: `the condition "${wrong.condition}" has no value here: ${wrong.truth.wrong}` };
 }
 
 function toggleBreak(line) {
-    if (!shownFile.breaks.delete(line)) shownFile.breaks.add(line);
+    if (!shownFile.breaks.delete(line)) shownFile.breaks.set(line, "");
     showMarks();
     paint();
     showBreaks();
@@ -21,7 +53,7 @@ function toggleBreak(line) {
 // A map of the lines of a file that its breaks are at, or stop at, to what is told of that, where these are two; known once the table is there.
 function stopsOfBreaks(file) {
     const found = new Map();
-    for (const line of machine.listing === undefined ? [] : file.breaks) {
+    for (const line of machine.listing === undefined ? [] : file.breaks.keys()) {
         const to = stopOfBreak(file, line)?.line;
         if (to === line) continue;
         found.set(line, to === undefined ? "The break here never stops" : `The break here stops at line ${to}`);
@@ -37,12 +69,28 @@ function breakWords(file, line) {
 }
 
 function showBreaks() {
-    const lines = files.flatMap((file) => [...file.breaks].map((line) => ({ words: breakWords(file, line), remove: () => file.breaks.delete(line) })));
+    const breakOf = (file, line) => ({ words: breakWords(file, line), remove: () => file.breaks.delete(line), field: conditionField(file, line) });
+    const lines = files.flatMap((file) => [...file.breaks.keys()].map((line) => breakOf(file, line)));
     const labels = [...machine.labels].map((it) => ({ words: it, remove: () => machine.labels.delete(it) }));
-    at("breaks").replaceChildren(...[...lines, ...labels].map(({ words, remove }) => {
-        const onclick = () => (remove(), showBreaks(), showMarks(), paint(), at("label").focus());
-        return element("button", { title: "Remove this break", "aria-label": `Remove the break at ${words}`, onclick }, `${words} ×`);
+    at("breaks").replaceChildren(...[...lines, ...labels].map(({ words, remove, field = "" }) => {
+        const onclick = () => (remove(), showBreaks(), showMarks(), paint(), at("go-on").focus());
+        const label = { title: "Remove this break", "aria-label": `Remove the break at ${words}` };
+        return element("span", {}, element("button", { ...label, onclick }, `${words} ×`), field);
     }));
+}
+
+// The field for the condition of a break at a line.
+function conditionField(file, line) {
+    const label = { placeholder: "if, as n < 3", "aria-label": `Condition of the break at ${file.name}:${line}` };
+    const field = element("input", { value: file.breaks.get(line), size: 14, spellcheck: false, autocapitalize: "off", ...label });
+    const check = () => {
+        const isRead = field.value.trim() === "" || expressionOf(field.value) !== undefined;
+        field.setAttribute("aria-invalid", String(!isRead));
+        field.title = isRead ? `Stop only if this is true. It has ${FORMS_TAKEN}.` : UNREAD;
+    };
+    field.oninput = () => (file.breaks.set(line, field.value.trim()), check());
+    check();
+    return field;
 }
 
 // Without a label in the field it is that of the method in which the cursor is.

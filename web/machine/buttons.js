@@ -61,6 +61,20 @@ function typeLine(line) {
     move(async () => findLength(await interrupted()));
 }
 
+function addWatch(event) {
+    const name = at("watch").value.trim();
+    event.preventDefault();
+    at("watch").value = "";
+    if (name !== "" && !machine.watched.includes(name)) machine.watched.push(name);
+    showAgain();
+}
+
+function removeWatch({ target }) {
+    if (target.dataset.watched === undefined) return;
+    machine.watched = machine.watched.filter((it) => it !== target.dataset.watched);
+    showAgain();
+}
+
 function showMachine() {
     if (machine.state === undefined) machine.opened = restart();
     else markHere(placeShown());
@@ -83,5 +97,7 @@ at("slider").oninput = () => {
     slidTo = Number(at("slider").value);
     slide();
 };
+at("add-watch").onsubmit = addWatch;
+at("watches").addEventListener("click", removeWatch);
 at("read").onsubmit = (event) => (event.preventDefault(), typeLine(at("read-line").value));
 at("read-end").onclick = () => typeLine(null);

@@ -17,7 +17,7 @@ function pictureOf(view) {
     const { state } = view;
     const from = addressAsked(at("address").value, view);
     return {
-        frames: framesOf(view),
+        frames: framesOf(view), watches: watchesOf(view),
         registers: REGISTERS.map((name) => ({ name, word: state.registers[name], text: describedRegister(name, view) })),
         memory: from === undefined ? [] : Array.from({ length: MEMORY_WORDS }, (_, i) => ({ address: from + 4 * i, word: state.peek(from + 4 * i) })),
     };
@@ -33,12 +33,25 @@ function describedRegister(name, view) {
 
 // The focus stays at the button that opened an object, though it is another one now.
 function showFrames(frames, before) {
-    const focused = document.activeElement?.dataset.path;
-    at("frames").replaceChildren(...frames.flatMap(({ title, place, entries }) => {
+    showEntries("frames", frames.flatMap(({ title, place, entries }) => {
         const link = place ? element("button", { onclick: () => goTo(place.file, place.line), title: "Show this line" }, `${place.file}:${place.line}`) : "";
         return [element("h3", {}, title, link), element("ul", {}, ...entries.map((it) => entryItem(it, before)))];
     }));
-    if (focused) [...at("frames").querySelectorAll("button")].find((it) => it.dataset.path === focused)?.focus();
+}
+
+function showEntries(room, elements) {
+    const focused = at(room).contains(document.activeElement) ? document.activeElement.dataset.path : undefined;
+    at(room).replaceChildren(...elements);
+    if (focused) [...at(room).querySelectorAll("button")].find((it) => it.dataset.path === focused)?.focus();
+}
+
+function showWatches(watches, before) {
+    showEntries("watches", watches.map((it) => {
+        const item = entryItem(it, before), label = { title: "Watch it no more", "aria-label": `Watch ${it.name} no more`, "data-watched": it.name };
+        item.classList.toggle("untold", it.isWrong === true);
+        item.querySelector(".name + span").after(" ", element("button", { className: "remove", ...label }, "×"));
+        return item;
+    }));
 }
 
 function entryItem(it, before) {
@@ -55,10 +68,11 @@ function entryItem(it, before) {
 }
 
 // A map of the paths of entries to what they show.
-function shownEntries(frames) {
+function shownEntries({ frames, watches }) {
     const all = new Map();
     const add = (it) => (all.set(it.path, it.text + it.word), it.entries?.forEach(add));
     frames.forEach((it) => it.entries.forEach(add));
+    watches.forEach(add);
     return all;
 }
 

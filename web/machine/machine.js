@@ -8,8 +8,7 @@ function forgetMachine() {
     debugged.stop();
     Object.assign(machine, { prepared: undefined, listing: undefined, state: undefined, frames: undefined, entries: undefined, earlier: [] });
     at("where").textContent = CHANGED;
-    at("source-here").replaceChildren();
-    at("code").replaceChildren();
+    for (const it of ["source-here", "code", "watches"]) at(it).replaceChildren();
     shownCode = undefined;
     forgetReads();
     forgetLength();
@@ -66,8 +65,9 @@ async function show(state, before, why) {
     const listing = machine.listing;
     const picture = await state.settled(() => pictureOf(viewOf(state)));
     if (listing !== machine.listing) return;
-    Object.assign(machine, { state, before, why, frames: picture.frames, entries: shownEntries(picture.frames) });
+    Object.assign(machine, { state, before, why, frames: picture.frames, entries: shownEntries(picture) });
     showFrames(picture.frames, before.entries);
+    showWatches(picture.watches, before.entries);
     showRegisters(picture.registers, before.state?.registers);
     showMemory(picture.memory, before.state);
     showOutput(state.output);
@@ -91,7 +91,7 @@ function showAgain() {
     if (machine.state) move(() => "again");
 }
 
-function whereWords(state, { error, limit, reads }) {
+function whereWords(state, { error, limit, reads, untold }) {
     const count = `after ${state.steps.toLocaleString("en")} instructions`;
     if (state.ended) return `The run has ended ${count}.`;
     if (limit) return `The step limit is reached ${count}.`;
@@ -99,7 +99,7 @@ function whereWords(state, { error, limit, reads }) {
     const line = place ? `line ${place.line} of ${place.file}` : "no line of the source";
     if (error) return `Ends by an error: ${ERRORS[error]}, ${line}, ${count}.`;
     if (reads) return `The program reads a line at ${line}, ${count}: type it here.`;
-    return `At ${line}, in ${machine.frames[0]?.title ?? "the start"}, ${count}.`;
+    return `At ${line}, in ${machine.frames[0]?.title ?? "the start"}, ${count}.${untold ? ` It stops since ${untold}.` : ""}`;
 }
 
 function openPath(path) {
@@ -110,6 +110,6 @@ function openPath(path) {
 whenever("marked", (file) => (marks.here = lineIn(file, here)));
 whenever("changed", forgetMachine);
 whenever("chosen", (view) => void (view === "machine" || markHere(undefined)));
-at("frames").addEventListener("click", ({ target }) => target.dataset.path !== undefined && openPath(target.dataset.path));
+for (const it of ["frames", "watches"]) at(it).addEventListener("click", ({ target }) => target.dataset.path !== undefined && openPath(target.dataset.path));
 at("address").onchange = showAgain;
 for (const it of OPTIONS) if (it.isOfMachine) at(it.id).onchange = forgetMachine;

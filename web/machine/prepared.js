@@ -4,8 +4,8 @@
 const CHANGED = "The program changed: the next move begins anew.";
 
 // Of the program as it is: listing, table, outline, textOf, numbers (of objects), reads and typed (lines), state, and what is shown of it; of the user: open
-// (paths of objects), labels (breaks) and earlier (steps).
-const machine = { open: new Set(["0.self"]), labels: new Set(), earlier: [] };
+// (paths of objects), labels (breaks), watched (expressions) and earlier (steps).
+const machine = { open: new Set(["0.self"]), labels: new Set(), watched: [], earlier: [] };
 
 // Has the listing, the table and what else is made of the files at hand; a promise.
 function prepare() {

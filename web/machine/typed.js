@@ -24,7 +24,8 @@ const stateReads = ({ steps, registers }) => isRead({ steps, pc: registers.pc })
 async function pastReads(go, from, breaks) {
     const tellProgress = (steps) => (at("where").textContent = `Running, ${steps.toLocaleString("en")} instructions so far…`);
     const named = new Set(breaks.addresses);
-    const all = { ...breaks, addresses: [...named, ...readersOf(from.listing)], takes: (address, stop) => named.has(address) || isRead(stop) };
+    const takes = (address, stop) => named.has(address) || isRead(stop), isOpen = (stop) => !isRead(stop) && (breaks.isOpen?.(stop) ?? false);
+    const all = { ...breaks, addresses: [...named, ...readersOf(from.listing)], takes, isOpen };
     const found = stateReads(from.state) ? { steps: from.state.steps, pc: from.state.registers.pc } : await go(from, all, { tellProgress });
     const reads = isRead(found);
     machine.interrupted = reads ? () => pastReads(go, from, breaks) : undefined;

@@ -48,8 +48,8 @@ EDITS = r"""
         compared += found.length;
     };
     const placedBySession = session.placed;
-    session.placed = function (reply) {
-        const found = placedBySession.call(this, reply);
+    session.placed = function (...given) {
+        const found = placedBySession.call(this, ...given);
         if (found) bySession += 1;
         return found;
     };
@@ -60,9 +60,9 @@ EDITS = r"""
 def random_edits(page, edits=40, seed=1):
     page.start(*FILES)
     counts = page.run(EDITS.replace("SEED", str(seed)) + """
-        const whole = files.map((it) => it.text), usual = leastPiece;
+        const whole = files.map((it) => it.text), usual = session.pieces, isOfText = ({ words }) => /^[LS]/.test(words);
         for (let i = 0; i < """ + str(edits) + """; i += 1) {
-            leastPiece = i < """ + str(edits) + """ / 2 ? usual : () => 800;
+            session.pieces = i < """ + str(edits) + """ / 2 ? usual : new Pieces(800, 60);
             const broken = faults.find(isOfText), mends = broken !== undefined && below(3) > 0;
             showFile(mends ? fileNamed(broken.file) : of(files));
             if (mends) type(whole[files.indexOf(shownFile)]);
@@ -70,7 +70,7 @@ def random_edits(page, edits=40, seed=1):
             await compare(`edit ${i}`);
             for (let n = 0; n < 100 && session.runner.runs && !session.waits; n += 1) await new Promise((over) => setTimeout(over, 2));
         }
-        leastPiece = usual;
+        session.pieces = usual;
         return [bySession, compared];
     """, within=600)
     page.fresh = False

@@ -85,11 +85,27 @@ def link(page):
     page.start(("a.cl", HELLO), ("é.cl", "-- ü\nclass B { };\n"), input="one\n")
     page.click("link")
     fragment = page.wait("location.hash")
-    page.wait("location.protocol !== 'file:' || at('state').textContent.includes('it opens on this machine alone')")
+    page.wait("location.protocol !== 'file:' || at('state').textContent.includes('it opens only on this machine')")
     page.run("localStorage.clear();")
     page.open(fragment=fragment)
     same(page.run("return [files.map((it) => [it.name, it.text]), at('input').value];"),
          [[["a.cl", HELLO], ["é.cl", "-- ü\nclass B { };\n"]], "one\n"])
+
+
+@test("makes a link with the address of a hosted page, if one is given")
+def hosted_link(page):
+    page.start(("a.cl", HELLO))
+    page.run("Object.defineProperty(navigator, 'clipboard', { configurable: true, value: { writeText: async (all) => { window.copied = all; } } });")
+    for given, begins in ("https://example.org/cool/#old", "https://example.org/cool/#"), ("javascript:alert(1)", "file:///"), ("", "file:///"):
+        page.run(f"window.copied = ''; at('hosted').value = {given!r}; at('hosted').onchange();")
+        page.click("link")
+        page.wait("copied !== ''")
+        same([given, page.run(f"return copied.startsWith({begins!r}) && copied.endsWith(location.hash) && copied === at('made-link').value;")], [given, True])
+        same(page.run("return [location.protocol, at('state').textContent.includes('only on this machine')];"), ["file:", begins.startswith("file")])
+    page.run("Object.defineProperty(navigator, 'clipboard', { configurable: true, value: undefined }); at('made-link').value = '';")
+    page.click("link")
+    page.wait("at('options').open && at('made-link').value.startsWith('file:')")
+    page.run("at('options').open = false;")
 
 
 @test("opens no link that is broken, or that would grow without bound")

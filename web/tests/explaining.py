@@ -79,7 +79,7 @@ def explained(page):
     page.press("z", 90, modifiers=2)
     same(page.run("return text.value;"), PROGRAM)
     page.checked()
-    same(page.faults(), ["line 2: E17: initial value does not conform", "line 3: E1: unknown name"])
+    same(page.faults(), ["line 2: E17: initial value does not conform", "line 3: E1: unknown name m"])
 
 
 @test("keeps what was said of a fault while other lines are edited, and offers its mend when it is said anew")
@@ -101,17 +101,37 @@ def kept(page):
 def notices(page):
     text = "class Main {\n  n : Int;\n  main() : Object { { n = 7; n; } };\n};\n"
     at = text.index("n = 7")
-    stand_in(page, f"notice 0:3:{at}:{at + 5} `=` compares, and the answer is not used\n", ("p.cl", text), status=0)
+    stand_in(page, f"notice 0:3:{at}:{at + 5} `n` is never used\n", ("p.cl", text), status=0)
     page.wait("explanation !== undefined")
     same([page.faults(), page.state()], [[], "no faults"])
     shown = page.run("return [...at('faults').children].map((it) => [it.className, it.textContent]);")
-    same(shown, [["notice", "line 3: = compares, and the answer is not used"]])
+    same(shown, [["notice", "line 3: n is never used"]])
     same(underlined(page), [[], ["n = 7"]])
     same(page.run("at('faults').querySelector('button').click(); return cursorLine();"), 3)
     page.run("window.lines = '';")
     page.type("  main() : Object { 7 };")
     page.checked()
     page.wait("at('faults').children.length === 0")
+
+
+@test("offers the edit that a notice suggests only if the program takes it, and shows the line that it changes")
+def notice_mends(page):
+    page.open()
+    if page.run("return typeof COOL_EXPLAIN_MODULE === 'undefined';"):
+        raise Missing("there is no explain-module.js")
+    text = "class Main {\n  n : Int;\n  main() : Object { { n = LEFT; n; } };\n};\n"
+    page.start(("p.cl", text.replace("LEFT", "7")))
+    page.wait("explanation?.notices[0]?.mend")
+    changes = "3 -   main() : Object { { n = 7; n; } };\n3 +   main() : Object { { n <- 7; n; } };\n"
+    same(details(page, 0), [["fix", "Mend: <- in the place of ="], ["changes", changes]])
+    page.run("at('faults').querySelector('.fix').click();")
+    page.checked()
+    same(page.run("return text.value;"), text.replace("= LEFT", "<- 7"))
+    page.start(("p.cl", "class A { };\nclass B { };\nclass Main {\n  a : A;\n  main() : Object { { a = new B; 1; } };\n};\n"))
+    page.wait("explanation?.notices.length === 1")
+    page.wait("!explainer.runs")
+    page.run("await new Promise((over) => setTimeout(over, 50));")
+    same(details(page, 0), [])
 
 
 @test("mends what stands in another file, and what has Windows line ends")

@@ -17,6 +17,26 @@ def phone(page):
     page.browser.size(1280, 800)
 
 
+@test("takes the reader on a phone to the error of a run, and from there to its line")
+def phone_error(page):
+    fails = "class Main inherits IO { main() : Object { out_int(1 / 0) }; };\n"
+    for text, kind in (fails, "an error"), ("\n" * 60 + fails.replace("1 / 0", "summ"), "a fault"):
+        page.start(("p.cl", text))
+        page.browser.size(360, 740, phone=True)
+        page.run("scrollTo(0, 0);")
+        page.click("run")
+        page.ended()
+        seen = "const it = WHERE.getBoundingClientRect(); return it.top >= 0 && it.bottom <= innerHeight;"
+        button = "[...at('end').querySelectorAll('button')].find((it) => it.textContent.startsWith('Show line'))"
+        page.wait(button + " !== undefined")
+        same([kind, page.run(seen.replace("WHERE", button))], [kind, True])
+        page.run(button + ".click(); await new Promise((shown) => setTimeout(shown, 200));")
+        line = text.count("\n")
+        number = f"[...document.querySelectorAll('#gutter .number')].find((it) => it.textContent === '{line}')"
+        same([kind, page.run("return cursorLine();"), page.run(seen.replace("WHERE", number))], [kind, line, True])
+        page.browser.size(1280, 800)
+
+
 @test("is dark or light as the system is, or as one chooses")
 def dark(page):
     page.start(("average.cl", example("average.cl")))

@@ -326,6 +326,82 @@ def where_breaks_stop(page):
     same(page.run("return [...document.querySelectorAll('#gutter .break')].find((it) => it.textContent === '32').title;"), "The break here never stops")
 
 
+COUNTS = """class Node {
+  next : Node;
+  value : Int;
+  with(n : Node, v : Int) : Node {{ next <- n; value <- v; self; }};
+};
+class Main {
+  count : Int;
+  main() : Object {
+    let list : Node in
+      while count < 6 loop {
+        count <- count + 1;
+        list <- (new Node).with(list, count);
+        self;
+      } pool
+  };
+};
+"""
+LAST = 13
+
+
+def condition(page, words):
+    """Writes the condition of the break that the page shows first, and answers whether it is marked as wrong."""
+    page.run(f"const field = at('breaks').querySelector('input'); field.value = {words!r}; field.oninput();")
+    return page.run("return at('breaks').querySelector('input').getAttribute('aria-invalid') === 'true';")
+
+
+@test("stops at a break only where its condition holds, and says why one cannot be told")
+def conditions(page):
+    debugs(page, ("p.cl", COUNTS))
+    page.run(f"toggleBreak({LAST}); machine.watched = ['count'];")
+    page.wait("at('breaks').querySelector('input') !== null")
+    stops = {"count = 3": [3], "4 < count": [5, 6], "not count <= 5": [6], "list.value = 2 * 2": [4], "isvoid list.next": [1],
+             "count / 2 = 1": [2, 3]}
+    for words, values in {**stops, "": list(range(1, 7))}.items():
+        same(condition(page, words), False)
+        page.moved("restart")
+        seen = []
+        while not page.moved("go-on").startswith("The run has ended"):
+            same(page.text("where").split(",")[0], f"At line {LAST} of p.cl")
+            seen.append(int(watched(page)[0].split("Int ")[1]))
+        same([words, seen], [words, values])
+    wrong = ("m = 1", False, "m is no variable here."), ("count", False, "1 is no Bool."), ("f(1)", True, "no calls."), ("count =", True, "no calls.")
+    for words, is_wrong, why in wrong:
+        same(condition(page, words), is_wrong)
+        page.moved("restart")
+        said = page.moved("go-on")
+        same([said.split(" instructions. ")[1].split(" has no value")[0], said.endswith(why)], [f'It stops since the condition "{words}"', True])
+    page.run("shownFile.breaks.clear(); machine.watched = []; showBreaks();")
+
+
+def watched(page):
+    page.wait("!machine.moves")
+    return page.run("return [...at('watches').children].map((it) => it.textContent.replace(/ ×$/, ''));")
+
+
+@test("watches expressions over names in scope, without calls, at each stop")
+def watches(page):
+    debugs(page, ("p.cl", COUNTS))
+    page.run(f"toggleBreak({LAST});")
+    for words in "count + 1", "isvoid list", "list", "list.value * 10 < 25", "with(1)":
+        page.run(f"at('watch').value = {words!r}; at('add-watch').requestSubmit();")
+        page.moved()
+    first = ["count + 1 = Int 1", "isvoid list = list is no variable here", "list = list is no variable here"]
+    same(watched(page)[:3], first)
+    page.moved("go-on")
+    page.moved("go-on")
+    unread = "it cannot be read: write names, constants and operators, as count + 1 or isvoid self.next; no calls"
+    same(watched(page), ["count + 1 = Int 3", "isvoid list = false", "▸list = Node#2", "list.value * 10 < 25 = true", f"with(1) = {unread}"])
+    page.run("at('watches').querySelector('[aria-expanded]').click();")
+    same(watched(page)[2], "▾list = Node#2 ×▸next = Node#1value = Int 2")
+    page.run("[...at('watches').querySelectorAll('.remove')].slice(1).forEach((it) => removeWatch({ target: it }));")
+    same(watched(page), ["count + 1 = Int 3"])
+    page.moved("go-on")
+    same([watched(page), page.run("return at('watches').querySelector('.changed').textContent;")], [["count + 1 = Int 4"], "Int 4"])
+
+
 @test("asks in place for each line that the program reads, and goes on with the move")
 def reads(page):
     text = "class Main inherits IO {\n  main() : Object {\n    let n : Int <- in_int() in\n      out_string(in_string())\n        .out_int(n)\n  };\n};\n"

@@ -42,7 +42,7 @@ def greets(page):
     page.click("run")
     for name in "Ada", "Zoë":
         page.wait("!at('line').disabled && document.activeElement === at('line')")
-        same(page.run("return at('line').placeholder;"), "the program waits for a line")
+        same(page.run("return at('line').placeholder;"), "a line for the program")
         page.type(name + "\n")
         page.wait(f"at('output').textContent.includes('Hello, {name}')")
     page.wait("!at('close').disabled")

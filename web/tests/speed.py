@@ -19,7 +19,7 @@ LISTEN = """
     Object.assign(window, { times: [], sent: 0, rows: 0 });
     text.addEventListener("keydown", (event) => (begun = event.timeStamp), true);
     showFaults = (all) => (showFound(all), begun && times.push(performance.now() - begun), (begun = undefined));
-    session.ask = (commands) => ((sent += commands.join("").length), begins.call(session, commands));
+    session.ask = (commands) => ((sent += commands.length), begins.call(session, commands));
     new MutationObserver((all) => all.forEach((it) => (rows += it.addedNodes.length))).observe(at("paint"), { childList: true });
 """
 

@@ -1,0 +1,16 @@
+// Expressions that the user watches: the value of each at each stop, in the innermost method.
+"use strict";
+
+const UNREAD = `it cannot be read: write ${FORMS_TAKEN}`, NO_METHOD = "the program does not stand in a method";
+
+// The lines of the view for the watched expressions, as `entry` makes them.
+function watchesOf(view) {
+    const [frame] = stackOf(view, 1);
+    return machine.watched.map((name) => {
+        const path = `watch ${name}`, found = frame ? expressionOf(name)?.(frame, view) : { wrong: NO_METHOD };
+        if (found?.word !== undefined) return entry(name, found.word, path, view);
+        return { name, path, text: found?.is?.text ?? found?.wrong ?? UNREAD, isWrong: !found?.is };
+    });
+}
+
+whenever("opened", () => (machine.watched = []));
