@@ -5,7 +5,7 @@ import signal
 import subprocess
 import time
 
-from .client import HERE, WITHIN, Client, ended, expect, said
+from .client import HERE, MODULES, WITHIN, Client, ended, expect, NotTried, said
 
 FAULTY = "class Main { x : Int <- true; main() : Object { 0 }; };\n"
 FAULT = [(1, "E17", "initial value does not conform")]
@@ -92,6 +92,8 @@ def the_program_is_found(room, words):
 
 def a_session_that_ends(room, words):
     """It is started again, and where it hangs it is killed."""
+    if words.cool in MODULES:
+        raise NotTried("a session by modules is no process")
     client = Client(room, words.cool, "--seconds", "1")
     client.open(room / "a.cl", FAULTY)
     for kind in (signal.SIGKILL, signal.SIGTERM):
