@@ -3051,6 +3051,34 @@ const COOL_RULES = [
 "says": "p.cl:1: F9: too many features"
 }
 }
+],
+"faults": [
+{
+"kind": "E17",
+"words": "initial value does not conform",
+"mend": "the value is of the declared class or of one below it",
+"case": "check-E17-smallest",
+"files": [
+{
+"name": "p.cl",
+"text": "class Main { a : Int; m(x : Int) : SELF_TYPE { self }; main() : Object { let y : Bool <- a in y }; };\n"
+}
+],
+"says": "p.cl:1: E17: initial value does not conform"
+},
+{
+"kind": "E18",
+"words": "body does not conform",
+"mend": "the last item of a block is its value; an `if` has the type above both parts, a `while` has Object",
+"case": "check-E18-smallest",
+"files": [
+{
+"name": "p.cl",
+"text": "class Main { main() : Int { true }; };\n"
+}
+],
+"says": "p.cl:1: E18: body does not conform"
+}
 ]
 },
 {
@@ -7906,7 +7934,7 @@ const COOL_RULES = [
 ],
 [
 "v",
-"e₁, …, eₙ"
+"e₁"
 ],
 [
 "",
@@ -7914,15 +7942,55 @@ const COOL_RULES = [
 ],
 [
 "v",
-"T"
+"T₁"
+]
+]
+},
+{
+"pieces": [
+[
+"",
+"…"
+]
+]
+},
+{
+"pieces": [
+[
+"v",
+"O"
 ],
 [
 "",
-" after "
+", "
 ],
 [
-"p",
-"Object"
+"v",
+"M"
+],
+[
+"",
+", "
+],
+[
+"v",
+"C"
+],
+[
+"",
+" ⊢ "
+],
+[
+"v",
+"eₙ"
+],
+[
+"",
+" : "
+],
+[
+"v",
+"Tₙ"
 ]
 ]
 }
@@ -7978,7 +8046,7 @@ const COOL_RULES = [
 ],
 [
 "v",
-"T"
+"Tₙ"
 ]
 ],
 "file": "crates/cool_rules/specs/Typing.antt",
@@ -8020,7 +8088,7 @@ const COOL_RULES = [
 ],
 [
 "v",
-"e₁, …, eₙ"
+"e₁"
 ],
 [
 "",
@@ -8028,7 +8096,7 @@ const COOL_RULES = [
 ],
 [
 "v",
-"v"
+"v₁"
 ],
 [
 "",
@@ -8037,13 +8105,67 @@ const COOL_RULES = [
 [
 "v",
 "S₁"
+]
 ],
+"asks": "one"
+},
+{
+"pieces": [
 [
 "",
-" after void"
+"…"
 ]
 ],
 "asks": "several"
+},
+{
+"pieces": [
+[
+"v",
+"so"
+],
+[
+"",
+", "
+],
+[
+"v",
+"Sₙ₋₁"
+],
+[
+"",
+", "
+],
+[
+"v",
+"E"
+],
+[
+"",
+" ⊢ "
+],
+[
+"v",
+"eₙ"
+],
+[
+"",
+" : "
+],
+[
+"v",
+"vₙ"
+],
+[
+"",
+", "
+],
+[
+"v",
+"Sₙ"
+]
+],
+"asks": "one"
 }
 ],
 "conclusion": [
@@ -8097,7 +8219,7 @@ const COOL_RULES = [
 ],
 [
 "v",
-"v"
+"vₙ"
 ],
 [
 "",
@@ -8105,7 +8227,7 @@ const COOL_RULES = [
 ],
 [
 "v",
-"S₁"
+"Sₙ"
 ]
 ],
 "file": "crates/cool_meaning/specs/Evaluation.antt",
@@ -19226,6 +19348,76 @@ const COOL_RULES = [
 "kind": "word",
 "pieces": [
 [
+"v",
+"T₀"
+],
+[
+"",
+" = ⊔"
+],
+[
+"s",
+"C"
+],
+[
+"",
+" "
+],
+[
+"v",
+"T₁, …, Tₙ"
+]
+],
+"words": "",
+"name": "IsJoinOfBranches",
+"file": "crates/cool_rules/specs/Typing.antt",
+"line": 89,
+"source": "IsJoinOfBranches p c [] join = join ≡ object_type\nIsJoinOfBranches p c (t ∷ ts) join = IsJoinOfAll p c (t ∷ ts) join"
+},
+{
+"kind": "word",
+"pieces": [
+[
+"v",
+"x"
+],
+[
+"",
+" ≠ "
+],
+[
+"p",
+"self"
+]
+],
+"words": "",
+"name": "IsNotSelf",
+"file": "crates/cool_rules/specs/Typing.antt",
+"line": 47,
+"source": "IsNotSelf name = bytes_eq name (codes \"self\") ≡ false"
+},
+{
+"kind": "word",
+"pieces": [
+[
+"",
+"types of "
+],
+[
+"v",
+"attribute₁, …, attributeₙ"
+]
+],
+"words": "",
+"name": "attributes_in_scope",
+"file": "crates/cool_rules/specs/Typing.antt",
+"line": 158,
+"source": "attributes_in_scope p rs = map (attribute_binding p) rs"
+},
+{
+"kind": "word",
+"pieces": [
+[
 "",
 "attributes("
 ],
@@ -19301,6 +19493,24 @@ const COOL_RULES = [
 "pieces": [
 [
 "",
+"types of "
+],
+[
+"v",
+"list"
+]
+],
+"words": "",
+"name": "formals_in_scope",
+"file": "crates/cool_rules/specs/Typing.antt",
+"line": 155,
+"source": "formals_in_scope p fs = map (formal_binding p) fs"
+},
+{
+"kind": "word",
+"pieces": [
+[
+"",
 "formals("
 ],
 [
@@ -19348,6 +19558,72 @@ const COOL_RULES = [
 "kind": "word",
 "pieces": [
 [
+"",
+"name("
+],
+[
+"v",
+"C"
+],
+[
+"",
+")"
+]
+],
+"words": "",
+"name": "name_of",
+"file": "crates/cool_classes/specs/Chains.antt",
+"line": 22,
+"source": "name_of p c = (class_at p c).name"
+},
+{
+"kind": "word",
+"pieces": [
+[
+"",
+"parent("
+],
+[
+"v",
+"C"
+],
+[
+"",
+")"
+]
+],
+"words": "",
+"name": "parent_of",
+"file": "crates/cool_classes/specs/Chains.antt",
+"line": 25,
+"source": "parent_of p c = (class_at p c).parent"
+},
+{
+"kind": "word",
+"pieces": [
+[
+"",
+"result("
+],
+[
+"v",
+"m"
+],
+[
+"",
+")"
+]
+],
+"words": "",
+"name": "result_of",
+"file": "crates/cool_classes/specs/Features.antt",
+"line": 132,
+"source": "result_of p (Basic b) = basic_result b\nresult_of p (User c k) = result_in (slice_get (features_of p c) k)"
+},
+{
+"kind": "word",
+"pieces": [
+[
 "v",
 "T₂"
 ],
@@ -19377,6 +19653,40 @@ const COOL_RULES = [
 "file": "crates/cool_rules/specs/Typing.antt",
 "line": 65,
 "source": "result_on receiver (IsClass c) = IsClass c\nresult_on receiver SelfType = receiver"
+},
+{
+"kind": "word",
+"pieces": [
+[
+"v",
+"O"
+],
+[
+"",
+"["
+],
+[
+"v",
+"T"
+],
+[
+"",
+"/"
+],
+[
+"v",
+"x"
+],
+[
+"",
+"]"
+]
+],
+"words": "",
+"name": "with_name",
+"file": "crates/cool_rules/specs/Typing.antt",
+"line": 50,
+"source": "with_name name type scope = record { name = name; value = type } ∷ scope"
 },
 {
 "kind": "word",
@@ -19544,6 +19854,50 @@ const COOL_RULES = [
 "kind": "word",
 "pieces": [
 [
+"",
+"attributes("
+],
+[
+"v",
+"v"
+],
+[
+"",
+")"
+]
+],
+"words": "",
+"name": "environment_of",
+"file": "crates/cool_meaning/specs/Lookups.antt",
+"line": 71,
+"source": "environment_of p self = attributes_at p (class_of self) (locations_of self)"
+},
+{
+"kind": "word",
+"pieces": [
+[
+"",
+"names("
+],
+[
+"v",
+"list"
+],
+[
+"",
+")"
+]
+],
+"words": "",
+"name": "formal_names",
+"file": "crates/cool_meaning/specs/Lookups.antt",
+"line": 56,
+"source": "formal_names fs = map (λ f. f.name) fs"
+},
+{
+"kind": "word",
+"pieces": [
+[
 "v",
 "M"
 ],
@@ -19578,6 +19932,64 @@ const COOL_RULES = [
 "kind": "word",
 "pieces": [
 [
+"",
+"init("
+],
+[
+"v",
+"attributeref"
+],
+[
+"",
+")"
+]
+],
+"words": "",
+"name": "init_of",
+"file": "crates/cool_meaning/specs/Lookups.antt",
+"line": 44,
+"source": "init_of p a = init_in (slice_get (features_of p a.owner) a.index)"
+},
+{
+"kind": "word",
+"pieces": [
+[
+"v",
+"v"
+],
+[
+"",
+" is void"
+]
+],
+"words": "",
+"name": "is_void",
+"file": "crates/cool_meaning/specs/Evaluation.antt",
+"line": 100,
+"source": "is_void Void = true\nis_void _ = false"
+},
+{
+"kind": "word",
+"pieces": [
+[
+"",
+"the next line of "
+],
+[
+"v",
+"S"
+]
+],
+"words": "",
+"name": "line_of",
+"file": "crates/cool_meaning/specs/BasicMethods.antt",
+"line": 99,
+"source": "line_of [] = record { bytes = []; rest = [] }\nline_of (b ∷ rest) =\n    if b == 0 then line_of rest\n    else (if b == 10 then record { bytes = []; rest = rest }\n    else record { bytes = b ∷ (line_of rest).bytes; rest = (line_of rest).rest })"
+},
+{
+"kind": "word",
+"pieces": [
+[
 "v",
 "E"
 ],
@@ -19599,6 +20011,88 @@ const COOL_RULES = [
 "file": "crates/cool_meaning/specs/Values.antt",
 "line": 49,
 "source": "location_of [] name = None\nlocation_of (b ∷ bs) name = if bytes_eq b.name name then Some b.location else location_of bs name"
+},
+{
+"kind": "word",
+"pieces": [
+[
+"",
+"method("
+],
+[
+"v",
+"C"
+],
+[
+"",
+"."
+],
+[
+"v",
+"k"
+],
+[
+"",
+")"
+]
+],
+"words": "",
+"name": "method_at",
+"file": "crates/cool_meaning/specs/Lookups.antt",
+"line": 27,
+"source": "method_at p owner k = method_in (slice_get (features_of p owner) k)"
+},
+{
+"kind": "word",
+"pieces": [
+[
+"",
+"nearest("
+],
+[
+"v",
+"b₁, …, bₙ"
+],
+[
+"",
+", "
+],
+[
+"v",
+"d₁, …, dₙ"
+],
+[
+"",
+")"
+]
+],
+"words": "The branch of the first of these classes that has one",
+"name": "nearest",
+"file": "crates/cool_meaning/specs/Evaluation.antt",
+"line": 158,
+"source": "nearest p branch [] = None\nnearest p branch (c ∷ cs) = or_else (branch (name_of p c)) (nearest p branch cs)"
+},
+{
+"kind": "word",
+"pieces": [
+[
+"",
+"number("
+],
+[
+"v",
+"x"
+],
+[
+"",
+")"
+]
+],
+"words": "",
+"name": "number_of",
+"file": "crates/cool_meaning/specs/Numbers.antt",
+"line": 47,
+"source": "number_of line = number_after_blanks (skip_blanks line)"
 },
 {
 "kind": "word",

@@ -1,5 +1,7 @@
 """What is looked at of the tables that are written by hand: the notation and the faults, against the definitions."""
+import pathlib
 import re
+import sys
 
 import notation
 import teaching
@@ -68,3 +70,13 @@ def kinds_differ(made, typing):
 def unused(tables, used):
     """The names of the notation that no rule has."""
     return sorted(name for table in tables for name in table if name not in used and name not in notation.FORMS)
+
+
+def not_reached(shown):
+    """The definitions of these, each a file and a name, on which the headline of `run` does not rest."""
+    sys.path.insert(0, str(pathlib.Path(__file__).resolve().parent.parent.parent / "conformance"))
+    from sources import HEADLINE, Definitions, listed
+
+    definitions = Definitions(listed("crates/*/specs/*.antt"))
+    reached = definitions.reached(*HEADLINE)
+    return ["%s of %s" % (name, file) for file, name in sorted(shown) if (file, definitions.known.get(file, {}).get(name)) not in reached]

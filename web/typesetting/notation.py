@@ -138,6 +138,7 @@ RUNNING = {
     "signed_decimal": "decimal({0})",
     "number_of": "number({0})",
     "part": "{0} from {1}, {2} long",
+    "line_of": "the next line of {0}",
 }
 HOLDS = {"fits": ("−2³¹ ≤ {0} < 2³¹", "not −2³¹ ≤ {0} < 2³¹"), "is_zero": ("{0} = 0", "{0} ≠ 0")}
 CLASSES = {
@@ -282,11 +283,17 @@ class Writer:
         if head == "⊢error":
             name = head_of(given[0])[0]
             return self.text("error “" + self.errors.get(name, name) + "”, {1}", given)
+        if head == "⊢…":
+            return [["", "…"]]
         if head in self.table and (given or is_constructor(head) or head not in self.names or head in ("here", "ds")):
             self.used.add(head)
             return self.text(self.table[head], given)
         if tree[0] == "var" and not is_constructor(head):
             return [["v", self.names.get(head, head)]] if head not in self.plain else [["n", head]]
+        return self.plain_call(head, given)
+
+    def plain_call(self, head, given):
+        """A call of a name that the table does not have: its name with its arguments."""
         args = [it for it in given if not (it[0] == "var" and it[1] in LEFT_OUT)]
         if not args:
             return [["n", head]]
@@ -329,38 +336,52 @@ class Writer:
 
     def operation(self, tree):
         _, sign, left, right = tree
-        (head, given), (other, args) = head_of(left), head_of(right)
-        if sign == "≡" and head == "has_values" and right == ("var", "false"):
-            return self.text("{0} ∉ {`Int`, `Bool`, `String`}", given)
+        for own in (self.update, self.listing, self.logical, self.equation):
+            found = own(sign, left, right)
+            if found is not None:
+                return found
+        return [*self.written(left), ["", " %s " % SIGNS.get(sign, sign)], *self.written(right)]
+
+    def update(self, sign, left, right):
+        """A scope or an environment with one name more, as O[T/x]."""
         if sign == "∷" and left[0] == "record":
             fields = dict(left[2])
             return self.text("{2}[{1}/{0}]", [fields["name"], fields.get("location", fields.get("value")), right])
-        if sign == "++" and head == "located":
-            return self.text("{2}[{1}/{0}]", [*given, right])
-        if sign == "<" and left[0] == "get" and head_of(right)[0] == "length" and head_of(right)[1] == [("var", "p")]:
-            return [*self.written(left), ["", " is a class of the program"]]
+        head, given = head_of(left)
+        return self.text("{2}[{1}/{0}]", [*given, right]) if sign == "++" and head == "located" else None
+
+    def listing(self, sign, left, right):
+        """Something in front of others, or several behind several."""
         if sign == "∷" and right == ("var", "[]"):
             return self.written(left)
         if sign == "∷":
             return [*self.written(left), ["", ", "], *self.written(right)]
-        if sign == "→":
-            if right == ("var", "⊥"):
-                return [["", "not: "], *self.written(left)]
-            return [*self.written(left), ["", " implies "], *self.written(right)]
         if sign == "++" and left == ("var", "[]"):
             return self.written(right)
-        if sign == "++":
-            return [*self.written(left), ["", " then "], *self.written(right)]
-        if sign in ("×", "⊎"):
-            return [*self.written(left), ["", " and " if sign == "×" else " or "], *self.written(right)]
+        return [*self.written(left), ["", " then "], *self.written(right)] if sign == "++" else None
+
+    def logical(self, sign, left, right):
+        """Implications, denials, and two statements together."""
+        if sign == "→" and right == ("var", "⊥"):
+            return [["", "not: "], *self.written(left)]
+        words = {"→": " implies ", "×": " and ", "⊎": " or "}.get(sign)
+        return [*self.written(left), ["", words], *self.written(right)] if words else None
+
+    def equation(self, sign, left, right):
+        """Equations that the manual writes in another way."""
+        (head, given), (other, args) = head_of(left), head_of(right)
+        if sign == "≡" and head == "has_values" and right == ("var", "false"):
+            return self.text("{0} ∉ {`Int`, `Bool`, `String`}", given)
+        if sign == "<" and left[0] == "get" and head_of(right)[0] == "length" and head_of(right)[1] == [("var", "p")]:
+            return [*self.written(left), ["", " is a class of the program"]]
         if self.kind == "classes" and sign in ("≡", "≢") and (left[0] == "get" and left[2] == "name" or head == "name_of"):
             whole = left[1] if left[0] == "get" else given[1]
             return [*self.written(whole), ["", " is named " if sign == "≡" else " is not named "], *self.hole(right, "n")]
         if sign == "≡" and other == "None":
             return [["", "there is no "], *self.written(left)]
         if sign == "≡" and other == "Some":
-            right = args[0]
-        return [*self.written(left), ["", " %s " % SIGNS.get(sign, sign)], *self.written(right)]
+            return [*self.written(left), ["", " = "], *self.written(args[0])]
+        return None
 
     def field(self, tree):
         _, whole, name = tree

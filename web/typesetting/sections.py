@@ -2,6 +2,7 @@
 import re
 
 import antt
+import blocks
 import notation
 import teaching
 from computations import Computations
@@ -48,8 +49,19 @@ def form_of(rule):
     return None
 
 
+# The definitions that the page shows, each a file and a name: `compared.not_reached` looks whether the headline rests on each.
+SHOWN_FROM = set()
+
+
+def placed(item):
+    """The place of a definition that the page shows."""
+    SHOWN_FROM.add((item.file, item.name))
+    return {"file": item.file, "line": item.line}
+
+
 def source_of(item, line, text):
     """Where a rule stands, and how it is written there."""
+    placed(item)
     whole = (antt.ROOT / item.file).read_text("utf-8").split("\n")
     if text is None:
         end = line
@@ -74,6 +86,7 @@ class Rules:
         early = ("Tree", "Trees", "Cases")
         names = [it for it in first if sorts.get(it) in early] + [it for it in second if sorts.get(it) not in early]
         writer.name_variables(sorts, names, form_of(rule))
+        writer.names.update(getattr(rule, "written", {}))
         premises = [{"pieces": writer.pieces(it), **asked(it, rule)} for it in rule.premises]
         made = {"kind": "rule", "name": name, "premises": premises, "conclusion": writer.pieces(rule.conclusion)}
         self.used |= writer.used
@@ -83,6 +96,8 @@ class Rules:
 def asked(premise, rule):
     """Which parts of the expression a premise computes: one, or several."""
     head, given = head_of(premise)
+    if premise == blocks.BETWEEN and rule.conclusion[1] == ("var", "⊢eval"):
+        return {"asks": "several"}
     if head in ("⊢eval_all", "⊢eval_items"):
         return {"asks": "several"}
     if head == "⊢eval" and given[4][0] == "var" and "body" not in given[4][1:2] or head == "⊢eval" and given[4] == ("var",
@@ -129,29 +144,42 @@ def broken(kind, form=None):
 
 SHOWN = {"HasType", "HaveTypes", "HaveItems", "HaveBranches", "Conforms", "Below", "IsChain", "IsJoinOfTypes", "Denotes", "IsTypedFeature"}
 STANDS = {"List Class": "p", "ClassId": "c", "List Binding": "scope", "Tree": "e", "Ty": "t", "List ℕ": "name", "Environment": "env", "Value": "v", "ℤ": "n",
-    "Cases": "cs", "ℕ": "k",
-          "MethodRef": "method", "List (List ℕ)": "formals", "List (Bound T)": "scope", "List ClassId": "ds", "List AttributeRef": "attributes",
-              "List Ty": "ts"}
+    "Cases": "cs", "ℕ": "k", "MethodRef": "method", "List (List ℕ)": "formals", "List (Bound T)": "scope", "List ClassId": "ds",
+    "List AttributeRef": "attributes", "List Ty": "ts"}
+# Functions to which rules give other arguments than their definitions have, with the types of these.
+GIVEN = {"nearest": ("Cases", "List ClassId"), "line_of": ("State",)}
+# Functions that judgements of the table stand for.
+BEHIND = {"⊢take_line": "line_of"}
+
+
+def is_meant(name, item, rules):
+    """Whether the page tells what a name of rules means: a function that is written with arguments, or a condition."""
+    if not item or name in SHOWN or name not in rules.table or item.kind not in ("abbrev", "record", "data"):
+        return False
+    return ("{" in rules.table[name] or name in notation.HOLDS) and rules.table[name] != "{0}" and bool(item.comment or item.rows)
+
+
+def arguments(name, item):
+    """Variables for the arguments of a definition, and their types."""
+    sorts = list(GIVEN.get(name) or (of_type(item.type)[0] if item.kind == "abbrev" else []))
+    given = []
+    for it in sorts:
+        stem = "state0" if it == "State" else STANDS.get(it, it.split(" ")[0].lower())
+        given.append(("var", stem + "'" * sum(x[1].strip("'") == stem for x in given)))
+    return given or [("var", param) for param, _ in item.params], sorts
 
 
 def meant(rules, more):
     """What the words of rules mean: how each is written, what the definition's comment says of it, and its rows."""
     items = {**more, **rules.items}
     found = []
-    for name in sorted(rules.used):
+    for name in sorted({BEHIND.get(it, it) for it in rules.used}):
         item = items.get(name)
-        if not item or not item.comment or name in SHOWN or name == "nearest" or name not in rules.table or "{" not in rules.table[
-            name] and name not in notation.HOLDS:
+        if not is_meant(name, item, rules):
             continue
         writer = notation.Writer(rules.kind, rules.table, rules.errors)
-        sorts = of_type(item.type)[0] if item.kind == "abbrev" else []
-        given = []
-        for it in sorts:
-            stem = STANDS.get(it, it.split(" ")[0].lower())
-            given.append(("var", stem + "'" * sum(x[1].strip("'") == stem for x in given)))
-        given = given or [("var", param) for param, _ in item.params]
-        names = {tree[1]: sort for tree, sort in zip(given, sorts)}
-        writer.name_variables(names, [tree[1] for tree in given])
+        given, sorts = arguments(name, item)
+        writer.name_variables({tree[1]: sort for tree, sort in zip(given, sorts)}, [tree[1] for tree in given])
         pieces = notation.joined(writer.condition(("app", ("var", name), given), False) if name in notation.HOLDS
             else writer.call(("app", ("var", name), given)))
         text = "\n".join(row[3].strip("\n") for row in item.rows) or None
@@ -180,7 +208,8 @@ class Typing:
         for rule in self.of(name):
             form = form_of(rule)
             marks = [it for it in rule.marks if it and it not in ("Some", "None")] if hasattr(rule, "marks") else []
-            entry = self.rules.entry(rule, heading or teaching.named(form or name, marks, rule))
+            shown = blocks.of_types(self.relations, rule) if form == "trees.Block" else rule
+            entry = self.rules.entry(shown, heading or teaching.named(form or name, marks, rule))
             self.mark(entry, rule, form or name)
             found.append((form, entry))
         return found
@@ -256,7 +285,8 @@ class Running:
             marks = [it for it in rule.marks if it and it not in ("Int", "Bool", "Some", "None", "Str", "Obj")]
             marks += [it for p in rule.premises for it in re.findall(r"'(Basic|User)'", str(p))][:1]
             marks += [notation.BASIC[int(head[1])] for p in rule.premises for head in [self.number(p)] if head]
-            found.append((form, self.rules.entry(rule, teaching.named(form or name, list(dict.fromkeys(marks)), rule))))
+            shown = blocks.of_values(self.computations, rule) if form == "trees.Block" else rule
+            found.append((form, self.rules.entry(shown, teaching.named(form or name, list(dict.fromkeys(marks)), rule))))
         return found
 
     def number(self, premise):
@@ -307,7 +337,7 @@ def reader_of(spelled, keyword):
 def productions(items, name_of, pieces):
     """The forms of the grammar: of each the alternatives, as the rows of `Readings.antt` read them."""
     read = [it for name, it in items.items() if name.endswith("reading") and it.rows]
-    return [{"kind": "production", "name": name_of(it.name), "alternatives": [pieces(row[1]) for row in it.rows], "file": it.file, "line": it.line}
+    return [{"kind": "production", "name": name_of(it.name), "alternatives": [pieces(row[1]) for row in it.rows], **placed(it)}
         for it in read]
 
 

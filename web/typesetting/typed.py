@@ -3,7 +3,7 @@ mean are computed by the functions of `Rules.antt`."""
 import evaluate
 import sections
 from executed import Numbers
-from terms import head_of
+from terms import head_of, is_variable
 
 evaluate.LIBRARY.update({"length": len})
 FILES = (
@@ -13,17 +13,26 @@ FILES = (
 OBJECT = ("IsClass", {"0": 0})
 
 
+def count(parts):
+    """How many expressions or branches stand in a list of them."""
+    found = 0
+    while len(parts) > 1:
+        parts, found = parts[-1], found + 1
+    return found
+
+
 class Typer:
     def __init__(self):
         self.items = sections.loaded(*FILES)
         self.values = Numbers(self.items)
         made = sections.Typing().relations
         self.rules = {name: made.rules(name) for name in ("HasType", "HaveTypes", "HaveItems", "HaveBranches")}
-        self.used = set()
+        self.used, self.matched = set(), set()
+        self.change = None  # a rule, the number of a premise that need not hold, and whether what it finds is Object always
 
-    def untyped(self, table):
+    def untyped(self, table, kept=None):
         """The features of a table that are not typed, as pairs of names."""
-        self.table, self.values.kept = table, {}
+        self.table, self.values.kept = table, {} if kept is None else kept
         found = []
         for number, owner in enumerate(table):
             for feature in owner["features"]:
@@ -49,10 +58,36 @@ class Typer:
         """The type, or types, by the first rule that applies; None where none does."""
         for rule in self.rules[name]:
             given, known = head_of(rule.conclusion)[1], {}
-            if all(self.values.takes(a, b, known) for a, b in zip(given[:-1], inputs)) and all(self.holds(it, known) for it in rule.premises):
+            if not all(self.values.takes(a, b, known) for a, b in zip(given[:-1], inputs)):
+                continue
+            self.matched.add(id(rule))
+            if all(self.is_met(rule, at, it, known) for at, it in enumerate(rule.premises)):
                 self.used.add(id(rule))
                 return self.values.of(given[-1], known)
         return None
+
+    def is_met(self, rule, at, premise, known):
+        """Whether a premise holds, or need not."""
+        if self.change is None or self.change[:2] != (rule, at):
+            return self.holds(premise, known)
+        if self.change[2] or not self.holds(premise, known):
+            known.update(self.assumed(premise, known))
+        return True
+
+    def assumed(self, premise, known):
+        """What the variables of a premise that need not hold are: Object, and the method abort."""
+        head, given = head_of(premise)
+        last = premise[3] if premise[0] == "op" else given[-1]
+        name, args = head_of(last)
+        if last[0] != "var" and name != "IsClass" or not is_variable(args[0] if args else last, self.items):
+            return {}
+        if name == "IsClass":
+            return {args[0][1]: OBJECT[1]}
+        if head in ("HaveTypes", "HaveBranches"):
+            return {last[1]: (OBJECT,) * count(self.values.of(given[-2], known))}
+        if head == "IsImplementation":
+            return {last[1]: ("Basic", ("Abort",))}
+        return {last[1]: OBJECT} if premise[0] == "op" or head in ("HasType", "HaveItems", "Denotes", "IsJoinOfTypes", "IsJoinOfBranches") else {}
 
     def holds(self, premise, known):
         head, given = head_of(premise)

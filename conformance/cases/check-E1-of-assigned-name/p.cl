@@ -1,0 +1,1 @@
+class Main { a : Int; m(x : Int) : SELF_TYPE { self }; main() : Object { zz <- 1 }; };

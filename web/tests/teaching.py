@@ -1,0 +1,161 @@
+"""The page of the rules, the lessons, the view "Why", and the rule under way."""
+import pathlib
+import re
+import urllib.parse
+
+from browser import Missing
+from chromium import Chromium
+from page import ROOT, same, test
+
+LAST = "COOL program successfully executed\n"
+KINDS = re.findall(r"(?m)^\| `([A-Z]\d+): ", (ROOT / "docs" / "faults.md").read_text("utf-8"))
+CARDS = sorted(set(re.findall(r"web/rules\.html#([\w-]+)", (ROOT / "docs" / "reading.md").read_text("utf-8"))))
+WHY = "[...at('why-room').querySelectorAll(':scope > details > summary')].map((it) => it.textContent)"
+
+
+def show(page, name, fragment=""):
+    """Opens another page of this folder."""
+    page.fresh = False
+    page.browser.open("file://" + urllib.parse.quote(str(ROOT / "web" / name)) + fragment)
+
+
+def fits(page, within=(390, 740)):
+    """Whether the page is no wider than a phone, and whether it is dark as the system is."""
+    back = "return getComputedStyle(document.body).backgroundColor;"
+    page.browser.size(1280, 800)
+    light = page.run(back)
+    page.browser.size(*within, dark=True, phone=True)
+    found = page.run("return document.documentElement.scrollWidth <= innerWidth;"), page.run(back) != light
+    page.browser.size(1280, 800)
+    return found
+
+
+@test("has a card for each error of docs/faults.md, and for each row of docs/reading.md")
+def cards(page):
+    show(page, "rules.html")
+    same(page.run("return [...document.querySelectorAll('.faults li[id]')].map((it) => it.id).sort();"), sorted(KINDS))
+    same([it for it in CARDS if not page.run(f"return document.getElementById('{it}') !== null;")], [])
+
+
+@test("leads from each premise to its error, and from an address to a card")
+def links_of_errors(page):
+    show(page, "rules.html", "#E9")
+    same(page.run("return document.querySelector('.aimed').id;"), "E9")
+    same(page.run("return [...document.querySelectorAll('a.fault')].filter((it) => !document.getElementById(it.hash.slice(1))).length;"), 0)
+    linked = page.run("return [...new Set([...document.querySelectorAll('a.fault')].map((it) => it.textContent))].sort();")
+    same(linked, sorted(it for it in KINDS if it.startswith("E")))
+
+
+@test("runs the examples of the rules, and checks their errors, as the page tells")
+def trials(page):
+    show(page, "rules.html")
+    said = """
+        const all = [...document.querySelectorAll('details.trial')], wrong = [];
+        for (const it of all.filter((_, i) => i % 6 === 0)) {
+            it.open = true;
+            while (!it.querySelector('.said')) await new Promise((go) => setTimeout(go, 5));
+            const output = it.querySelector('.said'), told = output.textContent;
+            it.querySelector('button').click();
+            while (output.textContent === '…' || output.textContent === told && !output.dataset.seen && (output.dataset.seen = '1'))
+                await new Promise((go) => setTimeout(go, 20));
+            const came = output.textContent;
+            if (!came.startsWith(told)) wrong.push([told, came]);
+        }
+        return [all.length > 60, wrong];"""
+    same(page.run(said), [True, []])
+
+
+@test("finds rules by a word, by keyboard alone")
+def finds(page):
+    show(page, "rules.html")
+    page.run("at('find').focus();")
+    page.type("isvoid")
+    shown = "[...document.querySelectorAll('main .card')].filter((it) => !it.hidden)"
+    same(page.run(f"return {shown}.every((it) => it.textContent.toLowerCase().includes('isvoid')) && {shown}.length > 0;"), True)
+    same(page.run("return at('state').textContent.endsWith(' found');"), True)
+    page.run("at('find').value = ''; at('find').oninput(); document.querySelector('main .card summary').focus();")
+    if not page.run("return document.hasFocus();"):
+        raise Missing("a window without focus opens nothing at a key")
+    page.press(" ", 32, text=" ")
+    page.wait("document.querySelector('main .card summary').parentElement.open")
+
+
+@test("shows the rules and the lessons on a phone, and in the dark")
+def narrow(page):
+    for name in "rules.html", "lessons.html":
+        show(page, name)
+        same((name, *fits(page)), (name, True, True))
+
+
+@test("prints the rules alone in two columns")
+def printed(page):
+    if not isinstance(page.browser, Chromium):
+        raise Missing("no print style without a printer")
+    show(page, "rules.html")
+    page.click("bare")
+    page.browser.call("Emulation.setEmulatedMedia", media="print")
+    same(page.run("return getComputedStyle(at('expressions')).columnCount;"), "2")
+    same(page.run("return [...document.querySelectorAll('.card .trial, .card .faults, nav')].every((it) => it.offsetHeight === 0);"), True)
+    page.browser.call("Emulation.setEmulatedMedia", media="")
+
+
+@test("checks the answer to a task, keeps it, and is linked lesson by lesson")
+def lessons(page):
+    show(page, "lessons.html", "#names-2")
+    same(page.run("return document.querySelector('.aimed').id;"), "names-2")
+    press = "const card = document.getElementById('%s'); card.querySelector('textarea').value = %s; card.querySelector('button').click();"
+    said = "document.getElementById('%s').querySelector('.said').textContent"
+    page.run(press % ("names-2", "'611'"))
+    page.wait((said % "names-2") + " === 'The program writes something else.'")
+    page.run(press % ("names-2", "'612'"))
+    page.wait((said % "names-2") + " === 'Correct.'")
+    page.run(press % ("first-1", "ALL_LESSONS[0].tasks[0].answer"))
+    page.wait((said % "first-1") + " === 'Correct.'")
+    show(page, "lessons.html")
+    done = "return [...document.querySelectorAll('.done-mark')].filter((it) => it.textContent === 'done').map((it) => it.closest('article').id);"
+    same(page.run(done), ["first-1", "names-2"])
+    same(page.run("return at('contents').querySelector('li .quiet').textContent;"), "1/2")
+    page.run("localStorage.clear();")
+
+
+@test("tells why an expression has its type, and of an error which premise fails")
+def why(page):
+    page.start(("p.cl", "class Main { main() : Object { let n : Int in n + 1 }; };"))
+    page.run("text.focus(); text.setSelectionRange(48, 48);")
+    page.click("tab-why")
+    same(page.wait(f"{WHY}.length > 0 && {WHY}"), ["[Arith] n + 1 : Int"])
+    page.start(("p.cl", "class Main { main() : Object { while 1 loop 2 pool }; };"))
+    page.click("tab-why")
+    same(page.wait("at('why-room').querySelector('.broken')?.textContent"), "O, M, C ⊢ e₁ : BoolE9")
+
+
+@test("shows the rule under way with the values of its parts, and steps premise by premise")
+def under_way(page):
+    text = "class Main inherits IO { f(n : Int) : Int { n * 2 }; main() : Object { let x : Int <- 5 in out_int(f(x) + f(7)) }; };"
+    page.start(("p.cl", text))
+    page.click("tab-machine")
+    page.moved()
+    here = "[...at('rule-here').querySelectorAll('p .premise.done')].map((it) => it.textContent)"
+    seen = []
+    for _ in range(60):
+        seen += page.run(f"return {here};") or []
+        if not page.run("return at('rule-here').querySelector('h2') !== null;"):
+            break
+        page.run("[...at('rule-here').querySelectorAll('h2 button')].forEach((it) => it.click());")
+        page.moved()
+        page.run("await new Promise((shown) => setTimeout(shown, 50));")
+    same([it for it in ("5 = Int 5", "x = Int 5", "f(x) = Int 10", "7 = Int 7", "f(7) = Int 14", "f(x) + f(7) = Int 24") if it not in seen], [])
+    same(page.text("so-far"), "24")
+
+
+def pictures(page, folder):
+    """The page of the rules and the lessons, at three widths, light and dark."""
+    folder = pathlib.Path(folder)
+    for name in "rules.html#form-conditional", "lessons.html#loops":
+        show(page, *[it if i == 0 else "#" + it for i, it in enumerate(name.split("#"))])
+        for width, height in (1280, 800), (768, 1000), (390, 800):
+            for dark in False, True:
+                page.browser.size(width, height, dark=dark, phone=width < 500)
+                page.run("await new Promise((shown) => setTimeout(shown, 200)); document.querySelector('.aimed')?.scrollIntoView();")
+                page.browser.picture(folder / ("%s-%d%s.png" % (name.split(".")[0], width, "-dark" if dark else "")))
+    page.browser.size(1280, 800)
