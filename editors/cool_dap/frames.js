@@ -3,6 +3,7 @@
 "use strict";
 
 const MOST_FRAMES = 20_000;
+const PROGRESS = { done: "done", now: "under way", due: "not begun" };
 
 // A name that stands for nothing that can be told.
 class NotTold extends Error {}
@@ -46,15 +47,20 @@ class Frames {
     // The contents of a frame, as objects.js has them.
     async contents(id) {
         const { debuggee } = this, frame = await this.frame(id);
-        return debuggee.state.settled(() => debuggee.logic.contentsOf(frame, debuggee.view));
+        return debuggee.state.settled(() => {
+            const parts = frame === undefined ? [] : debuggee.logic.partsUnderWay(frame, debuggee.view)
+                .map(({ name, progress, word }) => (word === undefined ? { name, word: 0, is: { text: PROGRESS[progress] } } : { name, word }));
+            return { ...debuggee.logic.contentsOf(frame, debuggee.view), parts };
+        });
     }
 
     async scopes(id) {
-        const { variables, computed, attributes } = await this.contents(id);
+        const { variables, computed, attributes, parts } = await this.contents(id);
         const all = [
             { name: "Variables", presentationHint: "locals", is: variables, expensive: false },
             { name: "Attributes of self", is: attributes, expensive: false },
             { name: "Being computed", is: computed, expensive: false },
+            { name: "Rule", is: parts, expensive: false },
         ].filter((it) => it.is.length > 0 || it.presentationHint);
         const scopes = all.map(({ is, ...it }) => ({ ...it, variablesReference: this.reference(() => is) }));
         return [...scopes, { name: "Registers", presentationHint: "registers", expensive: true, variablesReference: this.reference(() => this.registers()) }];
