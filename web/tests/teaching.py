@@ -136,15 +136,17 @@ def under_way(page):
     page.click("tab-machine")
     page.moved()
     here = "[...at('rule-here').querySelectorAll('p .premise.done')].map((it) => it.textContent)"
-    seen = []
+    seen, rules = [], set()
     for _ in range(60):
         seen += page.run(f"return {here};") or []
+        rules.add(page.run("return ['summary', 'p code'].map((it) => at('rule-here').querySelector(it)?.textContent).join(' ');"))
         if not page.run("return at('rule-here').querySelector('h2') !== null;"):
             break
         page.run("[...at('rule-here').querySelectorAll('h2 button')].forEach((it) => it.click());")
         page.moved()
         page.run("await new Promise((shown) => setTimeout(shown, 50));")
     same([it for it in ("5 = Int 5", "x = Int 5", "f(x) = Int 10", "7 = Int 7", "f(7) = Int 14", "f(x) + f(7) = Int 24") if it not in seen], [])
+    same([it for it in ("[Self] self", "[Id] x", "[Add] f(x) + f(7)", "[Int] 7") if it not in rules], [])
     same(page.text("so-far"), "24")
 
 

@@ -57,14 +57,15 @@ function declaredAt(mark, known) {
     return Number.isNaN(line) ? "" : element("button", { className: "go", onclick: () => goTo(known.files[file].name, line) }, `declared in line ${line}`);
 }
 
-function ruleName(span) {
+function ruleName(span, known) {
     const all = rulesOf(span.form, "typing");
+    if (span.form === "name") return known.markAt(span).name === "self" ? "Self" : "Id";
     if (span.form === "let") return span.parts.length > 1 ? "Let-Init" : "Let-No-Init";
-    return (all.length > 1 && span.form === "name" ? all.at(-1) : all[0])?.name ?? span.form;
+    return all[0]?.name ?? span.form;
 }
 
 function derivation(span, known, depth = 0) {
-    const head = element("summary", {}, ruleLink(span.form, ruleName(span)), " ", ...typedPair(known.text(span), known.type(span)));
+    const head = element("summary", {}, ruleLink(span.form, ruleName(span, known)), " ", ...typedPair(known.text(span), known.type(span)));
     const below = element("ul", {}, ...span.parts.map((it) => element("li", {}, derivation(it, known, depth + 1))), ...conditionsOf(span, known));
     return element("details", { open: depth < 2 || span.parts.length === 0 }, head, below);
 }

@@ -7,13 +7,16 @@ function classNamed(span) {
     return /^new\s+(\w+)/i.exec(rest)?.[1];
 }
 
+// Whether a name is self: the receiver of a call that names none stands where the method's name does.
+const isSelf = (span) => (span.parent !== undefined && CALLS.has(span.parent.form) && span.parent.byte === span.byte) || machine.textOf(span) === "self";
+
 // Of the rules of a form the one that fits what is known: of a conditional and a loop the branch that is taken.
 function ruleUnderWay(span, states) {
     const all = rulesOf(span.form, "running").filter((it) => !it.error);
     if (span.form === "if") return states[2] === "now" ? all[1] : all[0];
     if (span.form === "let") return all.find((it) => it.name === (span.parts.length > 1 ? "Let-Init" : "Let-No-Init")) ?? all[0];
     if (span.form === "new") return all.find((it) => it.name === `New-${classNamed(span)}`) ?? all.at(-1);
-    if (span.form === "name") return all.at(-1);
+    if (span.form === "name") return all.find((it) => it.name === (isSelf(span) ? "Self" : "Id"));
     if (CALLS.has(span.form)) return all.find((it) => !it.name.endsWith("Basic")) ?? all[0];
     return all[0];
 }
