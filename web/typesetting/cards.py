@@ -179,6 +179,9 @@ def page():
     told = compared.kinds_differ(made, typing)
     if told:
         raise LookupError("%s: mend BREAKS in web/typesetting/teaching.py" % "; ".join(told))
+    told = compared.unused(typing.rules, running.rules)
+    if told:
+        raise LookupError("no rule has %s: take it out of web/typesetting/notation.py" % ", ".join(told))
     told = compared.not_reached(sections.SHOWN_FROM)
     if told:
         raise LookupError("the headline of `run` does not rest on %s: typeset the definitions on which it rests" % ", ".join(told))

@@ -67,9 +67,14 @@ def kinds_differ(made, typing):
     return told
 
 
-def unused(tables, used):
-    """The names of the notation that no rule has."""
-    return sorted(name for table in tables for name in table if name not in used and name not in notation.FORMS)
+# Names of the notation that the writer looks up in another way than by the name of a call.
+WRITTEN_APART = {"has_values", "line_of", "⊢error"}
+
+
+def unused(*rules):
+    """The names of the notation that no rule has; of each kind of rules its table is compared with what was written."""
+    tables = {"typing": notation.TYPING, "running": notation.RUNNING}
+    return sorted(name for it in rules for name in tables[it.kind] if name not in it.used | WRITTEN_APART)
 
 
 def not_reached(shown):

@@ -130,8 +130,6 @@ RUNNING = {
     "not": "not {0}",
     "is_void": "{0} is void",
     "same": "{0} equals {1}",
-    "Some": "{0}",
-    "None": "nothing",
     "codes": "{0}",
     "length": "length({0})",
     "name_of": "name({1})",
