@@ -1,5 +1,7 @@
-"""Which rules of Cool a program touches, by what the programs of this repository say of it: `cool check` of its faults, `cool_editor` of its names and of the
-forms of its expressions, `cool debug` of those that a run comes to, and `cool run` of its end.
+"""The rules of Cool that a program touches, by the output of the programs of this repository.
+
+`cool check` lists its errors, `cool_editor` its names and the forms of its expressions, `cool debug` the expressions that a run reaches, and `cool run`
+its end.
 """
 
 import collections

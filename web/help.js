@@ -15,7 +15,7 @@ const COOL_HELP = [
   [["", "case EXPR of x : A => EXPR; y : B => EXPR; esac", ""], ["chooses a branch by the class of the value"]],
   [["", "new A", ", ", "isvoid x", ", ", "not x", ", ", "+ - * / < <= =", ", ", "~x", ""], ["there is no ", ">", " and no ", "!=", "; the negative of x is ", "~x", ""]],
   [["", "-- to the end of the line", ", ", "(* over lines *)", ""], ["comments"]],
-  [["built-in methods"], ["of all classes: ", "abort() type_name() copy()", "; of String: ", "length() concat(s) substr(i, n)", "; of IO: ", "out_string(s) out_int(i) in_string() in_int()", ""]]]]},
+  [["built-in methods"], ["all classes: ", "abort() type_name() copy()", "; String: ", "length() concat(s) substr(i, n)", "; IO: ", "out_string(s) out_int(i) in_string() in_int()", ""]]]]},
 {"heading": "Compile-time errors", "parts": [
  ["The compiler works in five phases: lexical, syntax, classes, features, typing. It reports the errors of the first phase that finds any in some file. A lexical or syntax phase reports the first error of each file; the class and feature phases report all errors; typing reports the first error of each feature (method or attribute). The errors are sorted by file, then by byte, then by kind. ", "docs/language.md", " defines when each occurs and which line it names."],
  [

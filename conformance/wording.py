@@ -1,0 +1,81 @@
+"""Used by `tidy`: the rules of "Plain words" in docs/style.md that a script can check, in comments of sources and in documents."""
+import re
+
+from sources import comment
+
+WIDTH = 160  # letters of a line of prose
+MOST_WORDS = 40  # of a sentence in the first comment of a file
+# Places whose comments and lines are still to be rewritten. Take a row out once it is.
+LATER = (
+    *("crates/%s/" % crate for crate in "cool_editor cool_notices cool_guess cool_mend cool_explain".split()), "course/", "docs/map.md",
+    "crates/mips_isa/specs/Machine.antt", "crates/mips_isa/proofs/RunsInParts.antt", "crates/mips_isa/proofs/DecodedIsItsWord.antt",
+    "crates/cool_syntax/proofs/TreesOfLists.antt",
+)
+# A noun is missing where a comment or cell begins with one of these. A question, and an adverb with its sentence behind a comma or colon, may.
+STAND_IN = re.compile(r"(?:what|of|that of)\b(?!.*\?)|(?:for|by)\b(?! default)(?!.*[,:])", re.IGNORECASE)
+COMMENT = re.compile(r"\s*(?:///?|//!|--)(?: |$)(.*)")
+
+
+def comments(text):
+    """The comments of a source that fill lines of their own: of each block the number of its first line, and its lines."""
+    block, first = [], 0
+    for number, line in enumerate(text.split("\n") + [""], 1):
+        found = COMMENT.match(line)
+        if found:
+            first = first if block else number
+            block.append(found[1])
+        elif block:
+            yield first, block
+            block = []
+
+
+def cells(text):
+    """The cells of the tables of a document, each with the number of its line: neither headings nor those that continue the row above."""
+    lines = text.split("\n")
+    for number, line in enumerate(lines, 1):
+        row = [it.strip() for it in re.split(r"(?<!\\)\|", line)[1:-1]] if line.startswith("| ") else []
+        if row and row[0] and not lines[number : number + 1][0].startswith("|--"):
+            for cell in row:
+                yield number, cell
+
+
+def long_sentence(lines):
+    """The number of words of the longest sentence of a comment, whose formats and lists, which are indented or stand in a line of their own, do not count."""
+    paragraphs = "\n".join("" if line.startswith("  ") else line for line in lines).split("\n\n")
+    sentences = (it for paragraph in paragraphs for it in re.split(r"(?<=[.:;?])\s|\n(?=\S+ +- )", paragraph))
+    return max(len(it.split()) for it in sentences)
+
+
+def unplain(texts, documents):
+    """What is to be said otherwise: each time the place, what is wrong, and what to do. The texts are those of crates, the documents those by hand."""
+    for name, text in texts.items():
+        for number, block in comments(text) if not name.startswith(LATER) else ():
+            place, words = "%s:%d" % (name, number), " ".join(block)
+            if STAND_IN.match(words):
+                yield place, "a comment begins with %s" % words.split()[0], "begin with the noun that is meant (docs/style.md, Plain words, 4 and 5)"
+            if "want of memory" in words:
+                yield place, "says want of memory", "say out of memory, or if memory runs out"
+            if max(map(len, block)) > WIDTH:
+                yield place, "a comment has a line of over %d letters" % WIDTH, "break it"
+    for name, text in documents.items():
+        if not name.startswith(LATER):
+            yield from unplain_document(name, text)
+
+
+def unplain_document(name, text):
+    for number, cell in cells(text):
+        if STAND_IN.match(cell):
+            yield "%s:%d" % (name, number), "a cell begins with %s: %s" % (cell.split()[0], cell), "begin with the noun that is meant (docs/style.md)"
+    for number, line in enumerate(text.split("\n"), 1):
+        if re.search(r"(?<!\")\bwant of memory\b", line):
+            yield "%s:%d" % (name, number), "says want of memory", "say out of memory, or if memory runs out"
+        if len(line) > WIDTH and not line.startswith(("|", "    ", "![", "<")):
+            yield "%s:%d" % (name, number), "has %d letters" % len(line), "break the line before %d" % WIDTH
+
+
+def long_heads(texts):
+    """First comments with a sentence that is too long."""
+    for name, text in texts.items():
+        lines = comment(name, text)
+        if lines and not name.startswith(LATER) and long_sentence(lines) > MOST_WORDS:
+            yield name, "its first comment has a sentence of %d words" % long_sentence(lines), "make two sentences of it"
