@@ -3419,8 +3419,8 @@ const COOL_RULES = [
 ],
 "heading": "Names",
 "section": "7.2",
-"types": "A name has the type with which it was declared last. `self` is always there, and has the type SELF_TYPE.",
-"does": "A name is looked up in two steps: where it stands, and what stands there. `self` is the object whose method runs.",
+"types": "A name has the type of its innermost declaration. `self` is always there, and has the type SELF_TYPE.",
+"does": "A name is looked up in two steps: its location, and the value at this location. `self` is the object whose method runs.",
 "typing": [
 {
 "kind": "rule",
@@ -3763,8 +3763,8 @@ const COOL_RULES = [
 ],
 "heading": "Assignment",
 "section": "7.3",
-"types": "The value must fit the declared type. The assignment has the type of the value, which may be the smaller one.",
-"does": "The value is computed, and then stored where the name stands. It is also the value of the whole.",
+"types": "The value must conform to the declared type. The assignment has the type of the value, which may be a subclass.",
+"does": "The value is computed, and then stored at the location of the name. It is also the value of the assignment.",
 "typing": [
 {
 "kind": "rule",
@@ -4178,8 +4178,8 @@ const COOL_RULES = [
 ],
 "heading": "Dispatch",
 "section": "7.4",
-"types": "The method is looked up in the class of the receiver's type; each argument must fit its formal. A result SELF_TYPE is the receiver's own type.",
-"does": "Arguments first, from left to right, then the receiver. The method is that of the class the object really has, and its body runs with the formals at new places.",
+"types": "The method is looked up in the class of the receiver's type; each argument must conform to its formal. A result SELF_TYPE is the receiver's own type.",
+"does": "The arguments are computed first, from left to right, then the receiver. The method is that of the object's own class. Its body runs with the formals at new locations.",
 "typing": [
 {
 "kind": "rule",
@@ -5324,8 +5324,8 @@ const COOL_RULES = [
 ],
 "heading": "Static dispatch",
 "section": "7.4",
-"types": "The class behind `@` must be the receiver's or one above it; the method is looked up there.",
-"does": "As a dispatch, but the method is that of the class that is written, whatever class the object has.",
+"types": "The class after `@` must be the receiver's class or an ancestor of it; the method is looked up there.",
+"does": "As a dispatch, but the method is that of the named class, whatever class the object has.",
 "typing": [
 {
 "kind": "rule",
@@ -6625,7 +6625,7 @@ const COOL_RULES = [
 "heading": "Conditional",
 "section": "7.5",
 "types": "The test is a Bool. The type is the least one above both branches.",
-"does": "The test is computed, and then one branch alone.",
+"does": "The test is computed, and then only one branch.",
 "typing": [
 {
 "kind": "rule",
@@ -7311,7 +7311,7 @@ const COOL_RULES = [
 "heading": "Loop",
 "section": "7.6",
 "types": "The test is a Bool; the body may have any type. The loop itself has the type Object.",
-"does": "While the test is true the body is computed. In the end the value is void.",
+"does": "The body is computed as long as the test is true. The value of the loop is void.",
 "typing": [
 {
 "kind": "rule",
@@ -8247,8 +8247,8 @@ const COOL_RULES = [
 ],
 "heading": "Let",
 "section": "7.8",
-"types": "The variable has its type in the body, and is not there yet in its own initial value, which must fit.",
-"does": "The initial value, or the default of the type, is put at a new place; the body sees the name there.",
+"types": "The variable is in scope in the body, but not in its own initial value. The initial value must conform to its type.",
+"does": "The initial value, or the default of the type, is stored at a new location; in the body the name has this location.",
 "typing": [
 {
 "kind": "rule",
@@ -9250,8 +9250,8 @@ const COOL_RULES = [
 ],
 "heading": "Case",
 "section": "7.9",
-"types": "Each branch sees its variable with the class of the branch, and no class stands twice. The type is the least one above all branches.",
-"does": "The branch of the nearest class above that of the value is taken. Void, and a value that has no branch, are errors.",
+"types": "In each branch the variable has the class of the branch. No class occurs twice. The type is the least one above all branches.",
+"does": "The branch with the nearest ancestor of the value's class is taken. Void, and a value without a branch, are errors.",
 "typing": [
 {
 "kind": "rule",
@@ -10151,8 +10151,8 @@ const COOL_RULES = [
 ],
 "heading": "New",
 "section": "7.10",
-"types": "A new object has the class that is written; SELF_TYPE stands for that of self.",
-"does": "All attributes get a place with the default of their type, and then their initial values in order, inherited ones first.",
+"types": "A new object has the named class; SELF_TYPE means the class of self.",
+"does": "All attributes get a location with the default of their type, and then their initial values in order, inherited ones first.",
 "typing": [
 {
 "kind": "rule",
@@ -10917,7 +10917,7 @@ const COOL_RULES = [
 ],
 "heading": "Test of void",
 "section": "7.11",
-"types": "Whatever type the expression has, the test is a Bool.",
+"types": "The expression may have any type; the test is a Bool.",
 "does": "True for void, and false for each object.",
 "typing": [
 {
@@ -11147,7 +11147,7 @@ const COOL_RULES = [
 "heading": "Arithmetic",
 "section": "7.12",
 "types": "Both operands are Int, and so is the result.",
-"does": "The left operand first. A result past 32 bits, and a division by zero, are errors; a quotient is cut off towards zero.",
+"does": "The left operand is computed first. A result beyond 32 bits, and a division by zero, are errors. A quotient is rounded towards zero.",
 "typing": [
 {
 "kind": "rule",
@@ -13079,8 +13079,8 @@ const COOL_RULES = [
 ],
 "heading": "Comparison",
 "section": "7.12",
-"types": "`<` and `<=` compare Ints. `=` compares an Int, Bool or String with its own type alone, and other objects with one another.",
-"does": "Ints, Bools and Strings are equal by value, other objects where they are the same object.",
+"types": "`<` and `<=` compare Ints. `=` compares an Int, Bool or String only with its own type, and other objects with one another.",
+"does": "Ints, Bools and Strings are equal by value, other objects if they are the same object.",
 "typing": [
 {
 "kind": "rule",
@@ -14330,7 +14330,7 @@ const COOL_RULES = [
 "heading": "Minus",
 "section": "7.12",
 "types": "The operand is an Int, and so is the result.",
-"does": "The number with the other sign. Of the least Int there is none: that is an error.",
+"does": "The number with the opposite sign. For the least Int there is none: that is an error.",
 "typing": [
 {
 "kind": "rule",
@@ -16473,7 +16473,7 @@ const COOL_RULES = [
 "name": "abort",
 "formals": [],
 "result": "Object",
-"words": "Ends the program, and tells the class of the object.",
+"words": "Ends the program, and writes the class of the object.",
 "running": [
 {
 "kind": "rule",
@@ -16641,7 +16641,7 @@ const COOL_RULES = [
 "name": "copy",
 "formals": [],
 "result": "SELF_TYPE",
-"words": "A new object of the same class whose attributes hold the same values: what they lead to is shared.",
+"words": "A new object of the same class, whose attributes have the same values. The objects that they refer to are shared.",
 "running": [
 {
 "kind": "rule",
@@ -17020,7 +17020,7 @@ const COOL_RULES = [
 "String"
 ],
 "result": "SELF_TYPE",
-"words": "Writes the string, and gives the receiver back, so that calls may follow one another.",
+"words": "Writes the string, and returns the receiver, so that calls may follow one another.",
 "running": [
 {
 "kind": "rule",
@@ -17210,7 +17210,7 @@ const COOL_RULES = [
 "name": "in_string",
 "formals": [],
 "result": "String",
-"words": "Takes a line of the input, without its newline.",
+"words": "Reads a line of the input, without its newline.",
 "running": [
 {
 "kind": "rule",
@@ -17314,7 +17314,7 @@ const COOL_RULES = [
 "name": "in_int",
 "formals": [],
 "result": "Int",
-"words": "Takes a line of the input, and reads the number at its front; 0 where there is none.",
+"words": "Reads a line of the input, and returns the number at its start; 0 if there is none.",
 "running": [
 {
 "kind": "rule",
@@ -17418,7 +17418,7 @@ const COOL_RULES = [
 "name": "length",
 "formals": [],
 "result": "Int",
-"words": "How many bytes the string has.",
+"words": "The number of bytes of the string.",
 "running": [
 {
 "kind": "rule",
@@ -17487,7 +17487,7 @@ const COOL_RULES = [
 "String"
 ],
 "result": "String",
-"words": "The string with the other one behind it.",
+"words": "The string followed by the other one.",
 "running": [
 {
 "kind": "rule",
@@ -17565,7 +17565,7 @@ const COOL_RULES = [
 "Int"
 ],
 "result": "String",
-"words": "So many bytes from a position, which counts from 0. Past the end is an error.",
+"words": "So many bytes from a position, which counts from 0. A position or length beyond the end is an error.",
 "running": [
 {
 "kind": "rule",
