@@ -61,8 +61,8 @@ FORMS = {
         'let o : Object in if isvoid o then out_string("void") else abort() fi', "void"),
     "trees.Arith": (
         "Arithmetic", "7.12", "Both operands are Int, and so is the result.",
-        "The left operand is computed first. A result beyond 32 bits, and a division by zero, are errors. A quotient is rounded towards zero.", "out_int((7 - 2 * 5) / 2)",
-            "-1",
+        "The left operand is computed first. A result beyond 32 bits, and a division by zero, are errors. A quotient is rounded towards zero.",
+        "out_int((7 - 2 * 5) / 2)", "-1",
     ),
     "trees.Compare": (
         "Comparison", "7.12", "`<` and `<=` compare Ints. `=` compares an Int, Bool or String only with its own type, and other objects with one another.",
