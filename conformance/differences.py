@@ -1,4 +1,4 @@
-"""What the reference and another compiler say of a program, and in what sort of way they differ."""
+"""The answers of the reference and of another compiler for a program, and the sort of their difference."""
 
 import os
 import re

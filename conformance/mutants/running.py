@@ -1,4 +1,4 @@
-"""What programs do under the small compiler: it evaluates them."""
+"""Runs of programs under the small compiler: it evaluates them."""
 
 import re
 

@@ -1,5 +1,5 @@
-// What a client may ask of a break besides its place: a condition over what is shown there, which of its hits count, and a message in the place of a
-// stop. A reader throws Unread where it is not written as the debugger takes it. `value` promises the value of an expression at the stop (debuggee.js).
+// Properties of a breakpoint besides its place: a condition over the variables shown there, which hits count, and a message instead of a stop. A reader
+// throws Unread where it is not written as the debugger takes it. `value` promises the value of an expression at the stop (debuggee.js).
 "use strict";
 
 const COUNT = /^\s*(>=)?\s*(\d{1,9})\s*$/;

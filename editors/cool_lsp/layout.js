@@ -1,4 +1,4 @@
-// How a file is laid out: the indentation of its lines and the blanks between its tokens, by the rules of docs/format.md. Tokens, comments and line ends stay
+// The layout of a file: the indentation of its lines and the blanks between its tokens, by the rules of docs/format.md. Tokens, comments and line ends stay
 // where they are; what is between tokens alone is made anew, so the tokens are the same whatever the rules say.
 "use strict";
 const { newlines, rightTrimmed, trimmed } = require("../node/bytes.js");

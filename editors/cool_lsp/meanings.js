@@ -1,4 +1,4 @@
-// What is answered about a name by the marks of its program: what it means, and where it is defined and used. Where there are no marks, since the files are
+// Answers about a name, by the marks of its program: its meaning, its definition and its uses. Where there are no marks, since the files are
 // no class table or there is no program for them, each answer is undefined.
 "use strict";
 const { keyOf } = require("../node/programs.js");

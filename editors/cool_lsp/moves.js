@@ -1,4 +1,4 @@
-// Where places of a text are in a later one: as in an edit, what stands before and behind the lines that changed is there still.
+// The positions of places of a text in a later version of it: the text before and after the changed lines is still there.
 "use strict";
 
 const LINE = /[^\n]*\n|[^\n]+/g;

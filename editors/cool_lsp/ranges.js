@@ -1,4 +1,4 @@
-// From bytes to the lines and columns of an editor, which are those of UTF-16.
+// Converts bytes to the lines and columns of an editor, which are those of UTF-16.
 "use strict";
 const { bytesOf, isPlain, leftTrimmed, rightTrimmed, textOf } = require("../node/bytes.js");
 

@@ -1,4 +1,4 @@
-// Which files are one program: README.md of the folder above tells the rule. A program is a list of paths in the order in which they are checked.
+// The files that form one program: README.md of the folder above has the rule. A program is a list of paths in the order in which they are checked.
 "use strict";
 const path = require("path");
 const { textOf } = require("./bytes.js");

@@ -1,4 +1,4 @@
-"""What is answered about a place or a file, against what the program says when the place is changed, or compiled."""
+"""Answers about a place or a file, compared with the output of the program after the place is changed, or compiled."""
 import random
 import re
 import subprocess

@@ -1,4 +1,4 @@
-"""What is told of a fault by the program that explains: by a stand-in that writes what a test has it write, and by the program itself."""
+"""Explanations of errors: from a stand-in that writes what the test gives it, and from the program itself."""
 import os
 import random
 import subprocess

@@ -1,4 +1,4 @@
-"""How files are laid out: by the rules, once and for all, and with nothing else changed, as the programs say."""
+"""Formatting: by the rules, the same when done twice, and without any other change, as the programs confirm."""
 import base64
 import os
 import random

@@ -1,4 +1,4 @@
-"""What is answered about a name, against the program: renamed in all its places a program means the same, and in all but one it does not."""
+"""Answers about a name, compared with the program: renamed in all its places a program means the same, and in all except one it does not."""
 import random
 import re
 import subprocess

@@ -1,4 +1,4 @@
-"""Which files are one program, as README.md has it, and what is told of files that come, go and are too many."""
+"""The files that form one program, by README.md, and the answers when files are added, removed, or too many."""
 import os
 import subprocess
 

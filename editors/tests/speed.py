@@ -1,4 +1,4 @@
-"""How long it takes from a key to what is told of it."""
+"""The time from a key to the answer."""
 import os
 import time
 

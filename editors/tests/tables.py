@@ -1,4 +1,4 @@
-"""What `cool_editor --code` tells, against what the debugger lists of the same program, and against rows that were worked by hand."""
+"""The output of `cool_editor --code`, compared with the debugger's list of the same program, and with rows that were computed by hand."""
 import re
 import subprocess
 

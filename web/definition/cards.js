@@ -1,4 +1,4 @@
-// What the page shows of each kind of entry of rules.js: forms of expressions, faults, methods, tables, and forms of the grammar.
+// The cards that the page shows for each kind of entry of rules.js: forms of expressions, faults, methods, tables, and forms of the grammar.
 "use strict";
 
 const mainFile = (text) => [{ name: "p.cl", text }];

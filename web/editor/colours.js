@@ -1,4 +1,4 @@
-// The colours of the text, for the eye alone: what is a program is for `cool` to say. A line is parted by the state in which it begins: 0, the
+// The colours of the text. They are only a help for the eye: `cool` decides what is a program. A line is parted by the state in which it begins: 0, the
 // depth of the comments that are open, or IN_STRING behind a line that ends with `\` in a string.
 "use strict";
 

@@ -1,4 +1,4 @@
-// What happens in the page, told to all that asked to hear of it: so scripts that come later take part, and none that comes before names them.
+// Events of the page, and the functions that listen to them: so later scripts take part, and no earlier script names them.
 "use strict";
 
 // What is called, in the order of the scripts, when

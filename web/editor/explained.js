@@ -1,4 +1,4 @@
-// What is known of the faults: the explanation of the files as they are, and what was said before of faults in lines that were not edited since.
+// The explanations of errors: those of the files as they are, and earlier ones of errors in lines that were not edited since.
 "use strict";
 
 // Of the files as they are, or undefined.

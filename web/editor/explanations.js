@@ -1,4 +1,4 @@
-// What `cool_explain --lines` says of the files, with places in the letters of the page.
+// The explanations by `cool_explain --lines` of the files, with positions in the characters of the page.
 "use strict";
 
 class ExplanationPlaces {

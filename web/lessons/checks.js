@@ -1,4 +1,4 @@
-// Checks of an answer: the program itself decides, by runs over inputs, by the errors that `check` reports, and by a limit of instructions.
+// Checks of an answer by the program itself: runs with inputs, messages of `check`, and a limit of instructions.
 "use strict";
 
 const LAST_LINE = "COOL program successfully executed\n";

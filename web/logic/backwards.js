@@ -1,5 +1,5 @@
-// Moves back, by lines of the source and to breaks, as stops.js moves on: a part of the run before the state is run anew, longer each time, until the
-// stop sought stands in it. Each answers a stop, or undefined where there is none before.
+// Moves back, by source lines and to breakpoints, as stops.js moves forward: it runs a part of the run before the state again, longer each time, until it
+// contains the stop. Each answers a stop, or undefined where there is none before.
 "use strict";
 
 const FIRST_PART = 8000, PART_GROWS = 8, STOPS_OF_PART = 400;

@@ -1,4 +1,4 @@
-// What the assembly of a program tells: the address of each instruction, label and word of data, and the classes by their tags (docs/runtime.md has the
+// Facts from the assembly of a program: the address of each instruction, label and word of data, and the classes by their tags (docs/runtime.md has the
 // conventions, docs/assembly.md the sizes).
 "use strict";
 

@@ -1,4 +1,4 @@
-// What stands in the machine's memory, by the conventions of docs/runtime.md: objects with the names of their classes and attributes, and the
+// The contents of the machine's memory, by the conventions of docs/runtime.md: objects with the names of their classes and attributes, and the
 // stack as frames. Functions of a view, { state, listing, table, numbers, textOf }; they peek at memory, and are called again once what they lacked is read.
 "use strict";
 

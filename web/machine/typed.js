@@ -1,4 +1,4 @@
-// What the debugged program reads: the input given beforehand, and behind it lines that are typed where the program asks for them.
+// The input of the debugged program: the input given beforehand, then lines that are typed when the program asks for them.
 "use strict";
 
 const linesIn = (all) => all.split("\n").length - 1;

@@ -1,4 +1,4 @@
-"""What the browsers of chromium.py and firefox.py have in common. Neither needs a package beside Python's own."""
+"""Shared by the browsers of chromium.py and firefox.py. Neither needs a package beside Python's own."""
 import os
 import shutil
 import time

@@ -1,4 +1,4 @@
-"""What the page shows of a fault by what explains it: by a stand-in that says what a test has it say, and by the program itself."""
+"""The explanations that the page shows: from a stand-in that says what the test gives it, and from the program itself."""
 import json
 import re
 

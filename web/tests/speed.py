@@ -1,4 +1,4 @@
-"""How fast the page is: the least and the middle of some calls, in milliseconds."""
+"""The speed of the page: the minimum and the median of some calls, in milliseconds."""
 import statistics
 import time
 

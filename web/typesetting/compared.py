@@ -1,4 +1,4 @@
-"""What is looked at of the tables that are written by hand: the notation and the faults, against the definitions."""
+"""Compares the tables that are written by hand, the notation and the errors, with the definitions."""
 import pathlib
 import re
 import sys

@@ -1,4 +1,4 @@
-"""How definitions are written on the page: a table of their names, and the pieces that a tree becomes by it.
+"""The notation of definitions on the page: a table of their names, and the pieces that a tree becomes by it.
 
 In a text of the table {0} is the first argument, {1_} the second one as an index, and what stands in ` is program text. A piece is [kind, text]: "v" a name
 that stands for something, "p" program text, "s" an index, "n" a name of the definitions, and "" the rest."""

@@ -1,4 +1,4 @@
-"""What the variables of a rule are: the types that definitions declare for what stands where they do."""
+"""The sorts of the variables of a rule: the types that the definitions declare at their positions."""
 import antt
 from terms import head_of, is_constructor
 
