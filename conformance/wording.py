@@ -1,8 +1,6 @@
 """Used by `tidy`: the rules of "Plain words" in docs/style.md that a script can check, in comments of sources and in documents."""
 import re
 
-from sources import comment
-
 WIDTH = 160  # letters of a line of prose
 MOST_WORDS = 40  # of a sentence in the first comment of a file
 # Places whose comments and lines are still to be rewritten. Take a row out once it is.
@@ -76,6 +74,6 @@ def unplain_document(name, text):
 def long_heads(texts):
     """First comments with a sentence that is too long."""
     for name, text in texts.items():
-        lines = comment(name, text)
-        if lines and not name.startswith(LATER) and long_sentence(lines) > MOST_WORDS:
+        number, lines = next(comments(text), (0, []))
+        if number == 1 and not name.startswith(LATER) and long_sentence(lines) > MOST_WORDS:
             yield name, "its first comment has a sentence of %d words" % long_sentence(lines), "make two sentences of it"
