@@ -1,4 +1,4 @@
--- What came of devices that did nothing before.
+-- The counts of devices that did nothing before.
 use Rattle.std.proofs.Common.{◌≡◌, ℕ, ◌⊎◌, inl, inr, List, [], ◌∙◌, subst}
 use Rattle.std.specs.Prelude.{Bool, Option, Some}
 use Rattle.cool_ports.specs.SinkBytes.{GotPrefix}

@@ -1,4 +1,4 @@
--- What a call that was read of words asks for is what the words ask for, and so is how it ends.
+-- The form and the names of a call are those that its words ask for, and so is its end.
 use Rattle.std.proofs.Common.{◌≡◌, ◌⊎◌, inl, inr, ℕ, List, [], ◌∷◌, Bool, true, false, Option, Some, None, refl, sym, subst}
 use Rattle.std.specs.Prelude.{String}
 use Rattle.std.specs.Global.{Global}

@@ -1,4 +1,4 @@
--- What mends each kind of fault in general.
+-- The general advice on each kind of fault.
 use Rattle.std.specs.Prelude.{ℕ, List, codes}
 use Rattle.cool_syntax.specs.declared.lexical.LexKind.{LexKind}
 use Rattle.cool_syntax.specs.declared.lexical.LexKind.TheVariants.{L1, L2, L3, L4, L5, L6, L7, L8}

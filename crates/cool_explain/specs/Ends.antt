@@ -1,4 +1,4 @@
--- How a call ends: what is told of the files is written, or the files are not read, or a write fails.
+-- The ends of a call: the explanations of the files are written, or the files are not read, or a write fails.
 use Rattle.std.specs.Prelude.{◌≡◌, ◌≢◌, ℕ, List, [], ◌∷◌, ◌++◌, codes, Bool, true, false}
 use Rattle.cool_mend.specs.declared.explanation.Explained.{Explained}
 use Rattle.cool_mend.specs.declared.explanation.Explanation.{Explanation}
@@ -27,7 +27,7 @@ abbrev pub verdict : Bool → Status
 verdict true = Refused
 verdict false = Done
 
--- What is told of files of these bytes: an explanation of each of their faults; and where they have none the first notices that are due.
+-- The text on files of these bytes: an explanation of each of their faults, or if they have none the first notices that are due.
 pub record IsTold (contents : List (List ℕ)) (told : Explained) : Type 0 where
   pub explained : AreExplained contents told.explanations.items
   pub noticed : told.explanations.items ≡ [] → AreNoticed contents told.notices.items

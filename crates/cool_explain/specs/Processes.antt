@@ -1,5 +1,5 @@
--- How a process ends: what its words ask for, which names its shelf was asked for, which files it gave, and what its output took, each from the
--- start on.
+-- The ends of a process: the call that its words ask for, the names that its shelf was asked for, the files that it gave, and the bytes that its output
+-- took, each from the start on.
 use Rattle.std.specs.Prelude.{◌≡◌, ◌≢◌, ◌⊎◌, refl, ℕ, List, [], ◌∷◌, Bool, true, false, Option, Some, None, codes}
 use Rattle.cool_mend.specs.declared.explanation.Explained.{Explained}
 use Rattle.cool_ports.specs.ShelfFiles.{AskedFront}
@@ -27,7 +27,7 @@ pub record WasCutShort (form : Form) (names asked gave : List (List ℕ)) (held 
   pub is : IsTold gave told
   pub got : GotPrefix (Some []) (form_text form names gave told) held
 
--- How a process ends that is asked for a form of the explanations of the files of these names, by its status.
+-- The end of a process that is asked for a form of the explanations of the files of these names, by its status.
 pub record HasEnded (form : Form) (names asked gave : List (List ℕ)) (status : Status) (held : Option (List ℕ)) (puts : List (List ℕ)) (noted : Option (List ℕ)) : Type 0 where
   pub accepted : status ≡ Done → HasExplained false form names asked gave held
   pub refused : status ≡ Refused → HasExplained true form names asked gave held
@@ -39,7 +39,8 @@ pub record HasEnded (form : Form) (names asked gave : List (List ℕ)) (status :
   pub front : AskedFront names [] asked
   pub note : status ≢ WriteFault → noted ≡ Some (note_of status)
 
--- What words ask for: after `--lines` the lines for programs, and else the text for readers. Words that are no command line ask for the text of no file.
+-- The form that words ask for: after `--lines` the lines for programs, and else the text for readers. Words that are no command line ask for the text of
+-- no file.
 
 abbrev pub form_of : Option (Bool × List (List ℕ)) → Form
 form_of None = Text

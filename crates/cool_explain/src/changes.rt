@@ -13,7 +13,7 @@ use std::alloc::{AllocError, Global};
 /// The most lines of a mend that are shown.
 const MOST_LINES: usize = 8;
 
-/// The lines of a file that an edit changes, as they become, and those that it takes away; at most eight. `Err` comes only for want of memory.
+/// The lines of a file that an edit changes, as they become, and those that it takes away; at most eight. Returns `Err` only if memory runs out.
 pub(crate) fn changed_text(alloc: Global, file: &[u8], edit: &Edit) -> Result<Vec<u8>, AllocError>
     ensures { IfOk result (λ text. text.items ≡ changed_text file.now edit.now) }
 {
@@ -29,7 +29,7 @@ pub(crate) fn changed_text(alloc: Global, file: &[u8], edit: &Edit) -> Result<Ve
     shortened(alloc, &all)
 }
 
-/// Three stretches of bytes as one. `Err` comes only for want of memory.
+/// Three stretches of bytes as one. Returns `Err` only if memory runs out.
 fn joined(alloc: Global, front: &[u8], middle: &[u8], back: &[u8]) -> Result<Vec<u8>, AllocError>
     ensures { IfOk result (λ all. all.items ≡ front.now ++ (middle.now ++ back.now)) }
 {
@@ -39,7 +39,7 @@ fn joined(alloc: Global, front: &[u8], middle: &[u8], back: &[u8]) -> Result<Vec
     Ok(all)
 }
 
-/// The lines of some bytes, without their newlines. `Err` comes only for want of memory.
+/// The lines of some bytes, without their newlines. Returns `Err` only if memory runs out.
 fn lines(alloc: Global, bytes: &[u8]) -> Result<Vec<Vec<u8>>, AllocError>
     ensures { IfOk result (λ all. bytes_of all.items ≡ lines bytes.now) }
 {
@@ -71,7 +71,7 @@ fn line_number(bytes: &[u8]) -> usize
     number
 }
 
-/// The same as `changes`, without the last line of both where that stays. `Err` comes only for want of memory.
+/// The same as `changes`, without the last line of both where that stays. Returns `Err` only if memory runs out.
 fn changes_before_end(
     alloc: Global,
     first: usize,
@@ -105,7 +105,7 @@ fn all_but_last(lines: &[Vec<u8>]) -> &[Vec<u8>]
     &lines[..lines.len().saturating_sub(1)]
 }
 
-/// The lines, of which the first has this number, that become others, come or go. `Err` comes only for want of memory.
+/// The lines, of which the first has this number, that become others, come or go. Returns `Err` only if memory runs out.
 fn changes(
     alloc: Global,
     first: usize,
@@ -122,7 +122,7 @@ fn changes(
     Ok(all)
 }
 
-/// As many lines that become as many others, as far as they differ. `Err` comes only for want of memory.
+/// As many lines that become as many others, as far as they differ. Returns `Err` only if memory runs out.
 fn changed_lines(
     alloc: Global,
     first: usize,
@@ -142,7 +142,7 @@ fn changed_lines(
     Ok(all)
 }
 
-/// Lines with their numbers and a sign. `Err` comes only for want of memory.
+/// Lines with their numbers and a sign. Returns `Err` only if memory runs out.
 fn numbered_lines(
     alloc: Global,
     first: usize,
@@ -159,7 +159,7 @@ fn numbered_lines(
     Ok(all)
 }
 
-/// A line that becomes another: it goes where only white space is left of it. `Err` comes only for want of memory.
+/// A line that becomes another: it goes where only white space is left of it. Returns `Err` only if memory runs out.
 fn changed(alloc: Global, line: usize, old: &[u8], new: &[u8]) -> Result<Vec<u8>, AllocError>
     ensures { IfOk result (λ text. text.items ≡ changed line old.now new.now) }
 {
@@ -177,7 +177,7 @@ fn is_blank(line: &[u8]) -> bool
     line.iter().all(|byte| *byte <= b' ')
 }
 
-/// A line with its number and a sign. `Err` comes only for want of memory.
+/// A line with its number and a sign. Returns `Err` only if memory runs out.
 fn numbered(alloc: Global, line: usize, sign: &[u8], text: &[u8]) -> Result<Vec<u8>, AllocError>
     ensures { IfOk result (λ shown. shown.items ≡ numbered line sign.now text.now) }
 {
@@ -188,7 +188,7 @@ fn numbered(alloc: Global, line: usize, sign: &[u8], text: &[u8]) -> Result<Vec<
     Ok(all)
 }
 
-/// The first eight lines, and `..` where there are more. `Err` comes only for want of memory.
+/// The first eight lines, and `..` where there are more. Returns `Err` only if memory runs out.
 fn shortened(alloc: Global, lines: &[Vec<u8>]) -> Result<Vec<u8>, AllocError>
     ensures { IfOk result (λ text. text.items ≡ shortened (bytes_of lines.now)) }
 {
@@ -200,7 +200,7 @@ fn shortened(alloc: Global, lines: &[Vec<u8>]) -> Result<Vec<u8>, AllocError>
     Ok(text)
 }
 
-/// Lines one after the other. `Err` comes only for want of memory.
+/// Lines one after the other. Returns `Err` only if memory runs out.
 fn joined_lines(alloc: Global, lines: &[Vec<u8>]) -> Result<Vec<u8>, AllocError>
     ensures { IfOk result (λ text. text.items ≡ concat (bytes_of lines.now)) }
 {

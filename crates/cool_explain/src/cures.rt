@@ -1,4 +1,4 @@
-//! What mends each kind of fault in general.
+//! The general advice on each kind of fault.
 
 ghost use Rattle.std.specs.Prelude.{◌≡◌};
 ghost use Rattle.cool_explain.specs.Cures.{class_cure, cure_words, lex_cure, type_cure};
@@ -8,7 +8,7 @@ use cool_classes::ClassKind;
 use cool_faults::Fault;
 use cool_syntax::LexKind;
 
-/// What mends a fault in general.
+/// The general advice on a fault.
 pub fn cure_words(fault: &Fault) -> &'static str
     ensures { result.now ≡ cure_words fault.now }
 {

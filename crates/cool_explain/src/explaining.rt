@@ -26,7 +26,7 @@ use std::alloc::{AllocError, Global};
 /// The most bytes of a piece of the output.
 const MOST_PIECE_BYTES: usize = 4_096;
 
-/// What is written of files: the text, and whether it explains a fault.
+/// The answer on files: the text, and whether it explains a fault.
 #[derive(Drop)]
 pub(crate) struct Answer {
     pub(crate) faulty: bool,
@@ -58,14 +58,14 @@ pub fn explain_names<F: Shelf, O: Sink, E: Sink>(
     ensures write_fault { result ≡ Status.WriteFault
         → IsCutShort form (shelf_use F.files F.faults F.asked F.gave files.old files.new) (map string_bytes names.now) (sink_use O.held O.faults O.puts out.old out.new)
         ⊎ (Rose (E.faults notes.old) (E.faults notes.new) × GotNothing (sink_use O.held O.faults O.puts out.old out.new)) }
-    // Where nothing is explained, nothing is written but where a write fails.
+    // If nothing is explained, nothing is written unless a write fails.
     ensures nothing { result ≢ Status.Done → result ≢ Status.Refused → result ≢ Status.WriteFault
         → GotNothing (sink_use O.held O.faults O.puts out.old out.new) }
     // Just the note of the status is written.
     ensures note { result ≢ Status.WriteFault → E.held notes.new ≡ appended (E.held notes.old) (note_of result) }
     // It is put at once.
     ensures put { result ≢ Status.WriteFault → E.puts notes.new ≡ E.puts notes.old ++ puts_of result }
-    // Where a write of the explanations failed nothing is noted, and where that of the note failed a prefix of it was written.
+    // If a write of the explanations failed nothing is noted, and if that of the note failed a prefix of it was written.
     ensures unnoted { O.faults out.old < O.faults out.new → GotNothing (sink_use E.held E.faults E.puts notes.old notes.new) }
     ensures note_cut { E.faults notes.old < E.faults notes.new
         → IsNoteCut (shelf_use F.files F.faults F.asked F.gave files.old files.new) (map string_bytes names.now) (sink_use E.held E.faults E.puts notes.old notes.new) }
@@ -105,7 +105,7 @@ fn verdict(faulty: bool) -> Status
     }
 }
 
-/// What is written of the files of these names.
+/// The result of writing the explanations of the files of these names.
 #[tactic(auto, using(cool_ports::proofs::AskedNames::asked_none, cool_ports::proofs::AskedNames::asked_whole))]
 fn names_answer<F: Shelf>(
     alloc: Global,
@@ -132,7 +132,7 @@ fn names_answer<F: Shelf>(
     Ok(files_answer(alloc, form, names, &contents)?)
 }
 
-/// What is written of files of these names. `Err` comes only for want of memory.
+/// The answer on files of these names. Returns `Err` only if memory runs out.
 fn files_answer(
     alloc: Global,
     form: Form,
@@ -162,7 +162,7 @@ fn has_faults(all: &[Explanation]) -> bool
     }
 }
 
-/// What is told of files of these names, in this form. `Err` comes only for want of memory.
+/// The text on files of these names, in this form. Returns `Err` only if memory runs out.
 fn form_text(
     alloc: Global,
     form: Form,

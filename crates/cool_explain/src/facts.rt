@@ -11,7 +11,7 @@ use cool_faults::Fault;
 use cool_mend::{Explanation, Methods, Types};
 use std::alloc::{AllocError, Global};
 
-/// What is known of a fault of this file, a fact each. `Err` comes only for want of memory.
+/// The facts on a fault of this file. Returns `Err` only if memory runs out.
 pub(crate) fn facts(
     alloc: Global,
     file: &[u8],
@@ -35,7 +35,7 @@ pub(crate) fn facts(
     Ok(all)
 }
 
-/// What stands at a fault, and what before it. `Err` comes only for want of memory.
+/// The token at a fault, and the one before it. Returns `Err` only if memory runs out.
 fn found_words(alloc: Global, file: &[u8], told: &Explanation) -> Result<Vec<u8>, AllocError>
     ensures { IfOk result (λ words. words.items ≡ found_words file.now told.now) }
 {
@@ -48,7 +48,7 @@ fn found_words(alloc: Global, file: &[u8], told: &Explanation) -> Result<Vec<u8>
     Ok(words)
 }
 
-/// A lexeme between backquotes, or these words where there is none. `Err` comes only for want of memory.
+/// A lexeme between backquotes, or these words where there is none. Returns `Err` only if memory runs out.
 fn lexeme_text(alloc: Global, none: &[u8], lexeme: &[u8]) -> Result<Vec<u8>, AllocError>
     ensures { IfOk result (λ text. text.items ≡ lexeme_text none.now lexeme.now) }
 {
@@ -59,7 +59,7 @@ fn lexeme_text(alloc: Global, none: &[u8], lexeme: &[u8]) -> Result<Vec<u8>, All
     }
 }
 
-/// Two types that do not fit. `Err` comes only for want of memory.
+/// Two types that do not fit. Returns `Err` only if memory runs out.
 fn type_words(alloc: Global, fault: &Fault, types: &Types) -> Result<Vec<u8>, AllocError>
     ensures { IfOk result (λ words. words.items ≡ type_words fault.now types.now) }
 {
@@ -86,7 +86,7 @@ fn are_compared(fault: &Fault) -> bool
     }
 }
 
-/// The methods of a class. `Err` comes only for want of memory.
+/// The methods of a class. Returns `Err` only if memory runs out.
 fn method_words(alloc: Global, methods: &Methods) -> Result<Vec<u8>, AllocError>
     ensures { IfOk result (λ words. words.items ≡ method_words methods.now) }
 {
@@ -101,7 +101,7 @@ fn method_words(alloc: Global, methods: &Methods) -> Result<Vec<u8>, AllocError>
     Ok(words)
 }
 
-/// Methods, each behind a comma. `Err` comes only for want of memory.
+/// Methods, each behind a comma. Returns `Err` only if memory runs out.
 fn further(alloc: Global, methods: &[Vec<u8>]) -> Result<Vec<u8>, AllocError>
     ensures { IfOk result (λ words. words.items ≡ further (bytes_of methods.now)) }
 {

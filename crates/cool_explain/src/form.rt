@@ -3,8 +3,8 @@
 /// In which form explanations are written.
 #[derive(Clone, Copy)]
 pub enum Form {
-    /// For readers.
+    /// The text for readers.
     Text,
-    /// For programs.
+    /// The lines for programs.
     Lines,
 }

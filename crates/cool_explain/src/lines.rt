@@ -14,7 +14,7 @@ use cool_mend::{Edit, Explained, Explanation, Mend, Notice};
 use cool_syntax::Place;
 use std::alloc::{AllocError, Global};
 
-/// The lines of what is told of files. `Err` comes only for want of memory.
+/// The lines of what is told of files. Returns `Err` only if memory runs out.
 pub(crate) fn lines_of(
     alloc: Global,
     files: &[Vec<u8>],
@@ -27,7 +27,7 @@ pub(crate) fn lines_of(
     Ok(text)
 }
 
-/// The lines of explanations. `Err` comes only for want of memory.
+/// The lines of explanations. Returns `Err` only if memory runs out.
 fn explanations_lines(
     alloc: Global,
     files: &[Vec<u8>],
@@ -42,7 +42,7 @@ fn explanations_lines(
     Ok(text)
 }
 
-/// The lines of notices. `Err` comes only for want of memory.
+/// The lines of notices. Returns `Err` only if memory runs out.
 fn notices_lines(alloc: Global, all: &[Notice]) -> Result<Vec<u8>, AllocError>
     ensures { IfOk result (λ text. text.items ≡ flat_map notice_line all.now) }
 {
@@ -53,7 +53,7 @@ fn notices_lines(alloc: Global, all: &[Notice]) -> Result<Vec<u8>, AllocError>
     Ok(text)
 }
 
-/// The lines of the explanation of a fault. `Err` comes only for want of memory.
+/// The lines of the explanation of a fault. Returns `Err` only if memory runs out.
 fn explanation_lines(
     alloc: Global,
     files: &[Vec<u8>],
@@ -70,7 +70,7 @@ fn explanation_lines(
     Ok(text)
 }
 
-/// The line of a fault. `Err` comes only for want of memory.
+/// The line of a fault. Returns `Err` only if memory runs out.
 fn first_line(alloc: Global, told: &Explanation) -> Result<Vec<u8>, AllocError>
     ensures { IfOk result (λ line. line.items ≡ first_line told.now) }
 {
@@ -80,7 +80,7 @@ fn first_line(alloc: Global, told: &Explanation) -> Result<Vec<u8>, AllocError>
     Ok(line)
 }
 
-/// The lines of a mend, where one is told. `Err` comes only for want of memory.
+/// The lines of a mend, where one is told. Returns `Err` only if memory runs out.
 fn end_lines(alloc: Global, mend: &Option<Mend>) -> Result<Vec<u8>, AllocError>
     ensures { IfOk result (λ text. text.items ≡ end_lines mend.now) }
 {
@@ -90,7 +90,7 @@ fn end_lines(alloc: Global, mend: &Option<Mend>) -> Result<Vec<u8>, AllocError>
     }
 }
 
-/// A place, and where the range ends that begins there: `FILE:LINE:START:END`. `Err` comes only for want of memory.
+/// A place, and where the range ends that begins there: `FILE:LINE:START:END`. Returns `Err` only if memory runs out.
 fn range_text(alloc: Global, at: Place, end: usize) -> Result<Vec<u8>, AllocError>
     ensures { IfOk result (λ text. text.items ≡ range_text at end) }
 {
@@ -99,7 +99,7 @@ fn range_text(alloc: Global, at: Place, end: usize) -> Result<Vec<u8>, AllocErro
     Ok(format!(in alloc; "{file}:{line}:{byte}:{end}")?.into_bytes())
 }
 
-/// A line of words behind what it is. `Err` comes only for want of memory.
+/// A line of words behind what it is. Returns `Err` only if memory runs out.
 fn word_line(alloc: Global, what: &[u8], words: &[u8]) -> Result<Vec<u8>, AllocError>
     ensures { IfOk result (λ line. line.items ≡ word_line what.now words.now) }
 {
@@ -109,7 +109,7 @@ fn word_line(alloc: Global, what: &[u8], words: &[u8]) -> Result<Vec<u8>, AllocE
     Ok(line)
 }
 
-/// A line for each fact. `Err` comes only for want of memory.
+/// A line for each fact. Returns `Err` only if memory runs out.
 fn fact_lines(alloc: Global, all: &[Vec<u8>]) -> Result<Vec<u8>, AllocError>
     ensures { IfOk result (λ text. text.items ≡ flat_map fact_line (bytes_of all.now)) }
 {
@@ -120,7 +120,7 @@ fn fact_lines(alloc: Global, all: &[Vec<u8>]) -> Result<Vec<u8>, AllocError>
     Ok(text)
 }
 
-/// The line of the other definition of what is defined twice. `Err` comes only for want of memory.
+/// The line of the other definition of a thing that is defined twice. Returns `Err` only if memory runs out.
 fn other_line(alloc: Global, other: Option<Place>) -> Result<Vec<u8>, AllocError>
     ensures { IfOk result (λ text. text.items ≡ other_line other) }
 {
@@ -132,7 +132,7 @@ fn other_line(alloc: Global, other: Option<Place>) -> Result<Vec<u8>, AllocError
     }
 }
 
-/// The lines of a mend. `Err` comes only for want of memory.
+/// The lines of a mend. Returns `Err` only if memory runs out.
 fn mend_lines(alloc: Global, mend: &Mend) -> Result<Vec<u8>, AllocError>
     ensures { IfOk result (λ text. text.items ≡ mend_lines mend.now) }
 {
@@ -141,7 +141,7 @@ fn mend_lines(alloc: Global, mend: &Mend) -> Result<Vec<u8>, AllocError>
     Ok(text)
 }
 
-/// The line of an edit. `Err` comes only for want of memory.
+/// The line of an edit. Returns `Err` only if memory runs out.
 fn edit_line(alloc: Global, edit: &Edit) -> Result<Vec<u8>, AllocError>
     ensures { IfOk result (λ line. line.items ≡ edit_line edit.now) }
 {
@@ -152,7 +152,7 @@ fn edit_line(alloc: Global, edit: &Edit) -> Result<Vec<u8>, AllocError>
     Ok(line)
 }
 
-/// Bytes on one line: a newline as `\n`, a backslash as `\\`. `Err` comes only for want of memory.
+/// Bytes on one line: a newline as `\n`, a backslash as `\\`. Returns `Err` only if memory runs out.
 fn escaped(alloc: Global, bytes: &[u8]) -> Result<Vec<u8>, AllocError>
     ensures { IfOk result (λ text. text.items ≡ escaped bytes.now) }
 {
@@ -163,7 +163,7 @@ fn escaped(alloc: Global, bytes: &[u8]) -> Result<Vec<u8>, AllocError>
     Ok(text)
 }
 
-/// A byte of them. `Err` comes only for want of memory.
+/// A byte of them. Returns `Err` only if memory runs out.
 fn escaped_byte(alloc: Global, byte: u8) -> Result<Vec<u8>, AllocError>
     ensures { IfOk result (λ text. text.items ≡ escaped_byte byte) }
 {
@@ -174,7 +174,7 @@ fn escaped_byte(alloc: Global, byte: u8) -> Result<Vec<u8>, AllocError>
     }
 }
 
-/// The line of a notice. `Err` comes only for want of memory.
+/// The line of a notice. Returns `Err` only if memory runs out.
 fn notice_line(alloc: Global, notice: &Notice) -> Result<Vec<u8>, AllocError>
     ensures { IfOk result (λ line. line.items ≡ notice_line notice.now) }
 {

@@ -1,7 +1,7 @@
 //! The program that explains faults: `cool_explain FILES` writes for each fault of the files the line of `check`, the source line with its range
 //! marked, what is known of the fault, and lines that mend it. `cool_explain --lines FILES` writes the same for programs.
 //!
-//! Comes in: a form, and names of files. Goes out: the explanations of `cool_mend` as `specs/Texts.antt` and `specs/Lines.antt` write them, or a
+//! Input: a form, and names of files. Output: the explanations of `cool_mend` as `specs/Texts.antt` and `specs/Lines.antt` write them, or a
 //! status. It meets `specs/Ends.antt`; `perform` is all that it does where the words are text, and its clause is the promise over the system's files
 //! and streams (`specs/Processes.antt`).
 #![tactic(auto)]

@@ -15,10 +15,10 @@ use std::alloc::Global;
 use std::io::Write;
 use std::rt::Files;
 
-/// How a call over the system ended, with what its files gave, and what its output and its notes took.
+/// The end of a call over the system, with the bytes that its files gave, and those that its output and its notes took.
 #[derive(Drop)]
 pub struct Process<R, O, E> {
-    /// How it ended.
+    /// Its status.
     pub status: Status,
     /// The files, with what was asked for and given.
     pub files: FileShelf<R>,

@@ -5,7 +5,7 @@ ghost use Rattle.cool_explain.specs.Shown.{cut_back, cut_front, part, quoted, sh
 
 use std::alloc::{AllocError, Global};
 
-/// Bytes as they are shown: a carriage return is a blank, and another control byte but tab a question mark. `Err` comes only for want of memory.
+/// Bytes as they are shown: a carriage return is a blank, and another control byte but tab a question mark. Returns `Err` only if memory runs out.
 pub(crate) fn shown(alloc: Global, bytes: &[u8]) -> Result<Vec<u8>, AllocError>
     ensures { IfOk result (λ text. text.items ≡ shown bytes.now) }
 {
@@ -52,7 +52,7 @@ pub(crate) fn part(bytes: &[u8], start: usize, end: usize) -> &[u8]
     from(up_to(bytes, end), start)
 }
 
-/// The last bytes, at most so many, behind `..` where others stand in front of them. `Err` comes only for want of memory.
+/// The last bytes, at most so many, behind `..` where others stand in front of them. Returns `Err` only if memory runs out.
 pub(crate) fn cut_front(alloc: Global, most: usize, bytes: &[u8]) -> Result<Vec<u8>, AllocError>
     ensures { IfOk result (λ text. text.items ≡ cut_front most bytes.now) }
 {
@@ -64,7 +64,7 @@ pub(crate) fn cut_front(alloc: Global, most: usize, bytes: &[u8]) -> Result<Vec<
     Ok(text)
 }
 
-/// The first bytes, at most so many, and `..` where others follow them. `Err` comes only for want of memory.
+/// The first bytes, at most so many, and `..` where others follow them. Returns `Err` only if memory runs out.
 pub(crate) fn cut_back(alloc: Global, most: usize, bytes: &[u8]) -> Result<Vec<u8>, AllocError>
     ensures { IfOk result (λ text. text.items ≡ cut_back most bytes.now) }
 {
@@ -76,7 +76,7 @@ pub(crate) fn cut_back(alloc: Global, most: usize, bytes: &[u8]) -> Result<Vec<u
     Ok(text)
 }
 
-/// The first 60 bytes between backquotes. `Err` comes only for want of memory.
+/// The first 60 bytes between backquotes. Returns `Err` only if memory runs out.
 pub(crate) fn quoted(alloc: Global, bytes: &[u8]) -> Result<Vec<u8>, AllocError>
     ensures { IfOk result (λ text. text.items ≡ quoted bytes.now) }
 {

@@ -13,7 +13,7 @@ const MOST_LINE_BYTES: usize = 160;
 /// The most bytes that are shown of each part of a longer line: in front of the range, of the range, and behind it.
 const MOST_PART_BYTES: usize = 50;
 
-/// The source line of this number in which a range stands, and below it the mark of the range. `Err` comes only for want of memory.
+/// The source line of this number in which a range stands, and below it the mark of the range. Returns `Err` only if memory runs out.
 pub(crate) fn source_line(
     alloc: Global,
     file: &[u8],
@@ -36,7 +36,7 @@ pub(crate) fn source_line(
     )
 }
 
-/// How much of each part of a line of so many bytes is shown.
+/// The number of bytes of each part of a line of so many bytes that are shown.
 fn most_of(size: usize) -> usize
     ensures { result ≡ most_of size }
 {
@@ -47,7 +47,7 @@ fn most_of(size: usize) -> usize
     }
 }
 
-/// A line of this number, of three parts, the second of which is marked. `Err` comes only for want of memory.
+/// A line of this number, of three parts, the second of which is marked. Returns `Err` only if memory runs out.
 fn source_text(
     alloc: Global,
     line: u32,
@@ -69,7 +69,7 @@ fn source_text(
     Ok(text)
 }
 
-/// The number of a line, with blanks in front to five letters. `Err` comes only for want of memory.
+/// The number of a line, with blanks in front to five letters. Returns `Err` only if memory runs out.
 pub(crate) fn number(alloc: Global, line: usize) -> Result<Vec<u8>, AllocError>
     ensures { IfOk result (λ text. text.items ≡ number line) }
 {
@@ -79,7 +79,7 @@ pub(crate) fn number(alloc: Global, line: usize) -> Result<Vec<u8>, AllocError>
     Ok(text)
 }
 
-/// What stands below bytes that are not marked. `Err` comes only for want of memory.
+/// The blanks below bytes that are not marked. Returns `Err` only if memory runs out.
 fn blanks(alloc: Global, bytes: &[u8]) -> Result<Vec<u8>, AllocError>
     ensures { IfOk result (λ text. text.items ≡ blanks bytes.now) }
 {
@@ -102,7 +102,7 @@ fn blank_of(byte: u8) -> &'static [u8]
     }
 }
 
-/// What stands below bytes that are marked, and `^` below none. `Err` comes only for want of memory.
+/// The marks below bytes; `^` below none. Returns `Err` only if memory runs out.
 fn marks(alloc: Global, bytes: &[u8]) -> Result<Vec<u8>, AllocError>
     ensures { IfOk result (λ text. text.items ≡ marks bytes.now) }
 {
@@ -111,7 +111,7 @@ fn marks(alloc: Global, bytes: &[u8]) -> Result<Vec<u8>, AllocError>
     Ok(text)
 }
 
-/// What stands below the bytes behind the first one. `Err` comes only for want of memory.
+/// The marks below the bytes behind the first one. Returns `Err` only if memory runs out.
 fn further_marks(alloc: Global, bytes: &[u8]) -> Result<Vec<u8>, AllocError>
     ensures { IfOk result (λ text. text.items ≡ flat_map mark_of bytes.now) }
 {

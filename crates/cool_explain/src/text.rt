@@ -17,7 +17,7 @@ use cool_mend::{Explanation, Mend};
 use cool_syntax::Place;
 use std::alloc::{AllocError, Global};
 
-/// The explanations of faults of files of these names, one after the other. `Err` comes only for want of memory.
+/// The explanations of faults of files of these names, one after the other. Returns `Err` only if memory runs out.
 pub(crate) fn text_of(
     alloc: Global,
     names: &[String],
@@ -34,7 +34,7 @@ pub(crate) fn text_of(
     Ok(text)
 }
 
-/// The explanation of a fault. `Err` comes only for want of memory.
+/// The explanation of a fault. Returns `Err` only if memory runs out.
 fn explanation_text(
     alloc: Global,
     names: &[String],
@@ -54,7 +54,7 @@ fn explanation_text(
     Ok(text)
 }
 
-/// What mends a fault: the edit that was tried, or what mends such a fault in general. `Err` comes only for want of memory.
+/// The text on a mend: the edit that was tried, or else the general advice. Returns `Err` only if memory runs out.
 fn end_text(
     alloc: Global,
     names: &[String],
@@ -79,7 +79,7 @@ pub(crate) fn file_of(files: &[Vec<u8>], file: u32) -> &[u8]
     }
 }
 
-/// A line of words below the source line. `Err` comes only for want of memory.
+/// A line of words below the source line. Returns `Err` only if memory runs out.
 fn note_line(alloc: Global, words: &[u8]) -> Result<Vec<u8>, AllocError>
     ensures { IfOk result (λ line. line.items ≡ note_line words.now) }
 {
@@ -89,7 +89,7 @@ fn note_line(alloc: Global, words: &[u8]) -> Result<Vec<u8>, AllocError>
     Ok(line)
 }
 
-/// A line for each of these words. `Err` comes only for want of memory.
+/// A line for each of these words. Returns `Err` only if memory runs out.
 fn note_lines(alloc: Global, all: &[Vec<u8>]) -> Result<Vec<u8>, AllocError>
     ensures { IfOk result (λ text. text.items ≡ flat_map note_line (bytes_of all.now)) }
 {
@@ -100,7 +100,7 @@ fn note_lines(alloc: Global, all: &[Vec<u8>]) -> Result<Vec<u8>, AllocError>
     Ok(text)
 }
 
-/// Where the other definition stands of what is defined twice, for a fault of this file. `Err` comes only for want of memory.
+/// The place of the other definition of a thing that is defined twice, for a fault of this file. Returns `Err` only if memory runs out.
 fn other_text(
     alloc: Global,
     names: &[String],
@@ -120,7 +120,7 @@ fn other_text(
     }
 }
 
-/// Which file is meant, behind this word, where it is another one than that of the fault. `Err` comes only for want of memory.
+/// The name of a file behind this word, if it is another one than that of the fault. Returns `Err` only if memory runs out.
 fn of_file(
     alloc: Global,
     names: &[String],
@@ -148,7 +148,7 @@ fn name_of(names: &[String], file: u32) -> &[u8]
     }
 }
 
-/// What mends a fault in general. `Err` comes only for want of memory.
+/// The general advice on a fault. Returns `Err` only if memory runs out.
 fn cure_text(alloc: Global, cure: &[u8]) -> Result<Vec<u8>, AllocError>
     ensures { IfOk result (λ text. text.items ≡ cure_text cure.now) }
 {
@@ -157,7 +157,7 @@ fn cure_text(alloc: Global, cure: &[u8]) -> Result<Vec<u8>, AllocError>
     note_line(alloc, &words)
 }
 
-/// What is said of a mend, and the lines that it changes, for a fault of this file. `Err` comes only for want of memory.
+/// The words on a mend, and the lines that it changes, for a fault of this file. Returns `Err` only if memory runs out.
 fn mend_text(
     alloc: Global,
     names: &[String],
@@ -172,7 +172,7 @@ fn mend_text(
     Ok(text)
 }
 
-/// What is said of a mend, for a fault of this file. `Err` comes only for want of memory.
+/// The words on a mend, for a fault of this file. Returns `Err` only if memory runs out.
 fn mend_line(alloc: Global, names: &[String], file: u32, mend: &Mend) -> Result<Vec<u8>, AllocError>
     ensures { IfOk result (λ line. line.items ≡ mend_line (map string_bytes names.now) file mend.now) }
 {

@@ -28,12 +28,12 @@ pub struct Splice {
 #[derive(Drop)]
 pub struct Candidate {
     pub reason: Reason,
-    /// Whether it says nothing for it but that the files are a program then.
+    /// Whether all that is said for it is that the files are a program then.
     pub is_guess: bool,
     pub splices: Vec<Splice>,
 }
 
-/// The text with the splices. `Err` comes only for want of memory.
+/// The text with the splices. Returns `Err` only if memory runs out.
 pub fn spliced(alloc: Global, bytes: &[u8], splices: &[Splice]) -> Result<Vec<u8>, AllocError> {
     let mut new = Vec::new(alloc);
     let mut taken = 0;
@@ -174,14 +174,28 @@ impl<'a> Candidates<'a> {
         self.add(reason, splices)
     }
 
+    /// Adds one with three such places.
+    pub(crate) fn put_three(
+        &mut self,
+        reason: Reason,
+        first: Splice,
+        second: Splice,
+        third: Splice,
+    ) -> Result<(), AllocError> {
+        let splices = vec![in self.alloc; first, second, third]?;
+        self.add(reason, splices)
+    }
+
     /// Adds one with these places.
     fn add(&mut self, reason: Reason, splices: Vec<Splice>) -> Result<(), AllocError> {
-        let is_guess = self.is_guess;
-        self.all.push(Candidate {
+        let candidate = Candidate {
             reason,
-            is_guess,
+            is_guess: self.is_guess,
             splices,
-        })?;
+        };
+        if !self.is_silly(&candidate) {
+            self.all.push(candidate)?;
+        }
         Ok(())
     }
 

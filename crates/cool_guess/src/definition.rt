@@ -1,4 +1,4 @@
-//! Where the other definition stands of what is defined twice.
+//! The place of the other definition of a thing that is defined twice.
 
 use crate::candidate::Candidates;
 use crate::lexeme::{Lexeme, index_at, lexemes, word_at};
@@ -8,8 +8,8 @@ use cool_faults::Fault;
 use cool_syntax::Place;
 use std::alloc::{AllocError, Global};
 
-/// The place of the earlier definition of what a fault says to be defined twice: a class, a method, an attribute, a formal, a branch. `Err`
-/// comes only for want of memory.
+/// The place of the earlier definition of what a fault says to be defined twice: a class, a method, an attribute, a formal, a branch. Returns `Err` only
+/// if memory runs out.
 pub fn other_definition(
     alloc: Global,
     files: &[Vec<u8>],
@@ -43,7 +43,7 @@ pub fn other_definition(
     }
 }
 
-/// What is sought.
+/// The kind of definition that is sought.
 #[derive(Clone, Copy)]
 enum Sought {
     Class,

@@ -1,9 +1,11 @@
-//! How far the operands and expressions around a position reach, by the lexemes alone.
+//! The extents of the operands and expressions around a position, found only by the lexemes.
 
 use crate::candidate::Candidates;
+use crate::definition::is_class;
 use crate::kind::{Kind, is_one_of, kind_of};
+use crate::lexeme::{Lexeme, part};
 
-/// How many lexemes to each side are looked at.
+/// The number of lexemes to each side that are looked at.
 const LOOKED_WIDE: usize = 400;
 
 impl<'a> Candidates<'a> {
@@ -103,9 +105,50 @@ impl<'a> Candidates<'a> {
         None
     }
 
+    /// The position of the brace that closes the block in which a position stands; the number of lexemes if none does.
+    pub(crate) fn block_end(&self, index: usize) -> usize {
+        let mut depth: usize = 0;
+        for there in index..self.lexemes.len() {
+            let word = self.word(there);
+            if word == b"{".as_slice() {
+                depth = depth.saturating_add(1);
+            } else if word == b"}".as_slice() {
+                if depth == 0 {
+                    return there;
+                }
+                depth = depth.saturating_sub(1);
+            }
+        }
+        self.lexemes.len()
+    }
+
+    /// The position of the `class` of the class around a position; none if it stands in front of all classes.
+    pub(crate) fn class_before(&self, index: usize) -> Option<usize> {
+        for back in 0..index.saturating_add(1) {
+            let there = index.saturating_sub(back);
+            if is_class(self.word(there)) {
+                return Some(there);
+            }
+        }
+        None
+    }
+
+    /// The type of the nearest declaration of a name in front of a position.
+    pub(crate) fn type_of_name(&self, name: &[u8], index: usize) -> Option<Lexeme> {
+        for back in 1..index.saturating_add(1) {
+            let there = index.saturating_sub(back);
+            let is_it = self.word(there) == name
+                && self.word(there.saturating_add(1)) == b":".as_slice();
+            if is_it {
+                return Some(self.lexeme(there.saturating_add(2)));
+            }
+        }
+        None
+    }
+
     /// The bytes from the lexeme at a position to the one in front of another.
     pub(crate) fn between(&self, start: usize, end: usize) -> &'a [u8] {
-        crate::lexeme::part(
+        part(
             self.bytes,
             self.lexeme(start).start,
             self.before(end, 1).end,

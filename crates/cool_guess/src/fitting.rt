@@ -4,7 +4,7 @@ use crate::kind::{Kind, is_keyword, is_number, kind_of};
 use crate::lexeme::{Lexeme, lexemes, part, word_at, word_before};
 use std::alloc::{AllocError, Global};
 
-/// A text that shows what stands beside what. Of its lexemes keywords and signs alone are taken: its names are none of those that a program has.
+/// A text that shows which words stand beside each other. Only its keywords and signs are taken: its names are none of those that a program has.
 const SAMPLE: &'static str =
     "class A inherits B { a : T <- new T; a : T; a : T <- 1; a : T <- \"s\"; a : T <- true; \
     a() : T { { a <- a + 1; a.a(a, 1); out_string(\"s\"); out_string(a); a <- a; self; a; } }; \
@@ -17,8 +17,8 @@ const SAMPLE: &'static str =
     a() : T { { if a then a else a fi; a; } }; a() : T { a@T.a(a) }; a() : T { ~a + (a / 1) }; a() : T { a(a, a.a()) }; \
     a() : SELF_TYPE { { a; self; } }; }; class A { a : T; }; ";
 
-/// How many lexemes around a place are looked at.
-const LOOKED_AROUND: usize = 2000;
+/// The number of lexemes to each side of a place that are looked at.
+const LOOKED_AROUND: usize = 1000;
 
 /// The most words that are found for a place.
 pub(crate) const MOST_FITTING: usize = 24;
@@ -36,8 +36,8 @@ pub(crate) struct Place<'a> {
     pub(crate) words: [&'a [u8]; 4],
 }
 
-/// The words that fit a place of a text, the best first; what stands there itself, at `index` where `is_taken`, does not count.
-/// `Err` comes only for want of memory.
+/// The words that fit a place of a text, the best first; what stands there itself, at `index` where `is_taken`, does not count. Returns `Err` only if
+/// memory runs out.
 pub(crate) fn fitting<'a>(
     alloc: Global,
     bytes: &'a [u8],
@@ -90,13 +90,15 @@ fn add_fit<'a>(
     place: &Place<'_>,
 ) -> Result<(), AllocError> {
     let [farther, left, right, further] = place.words;
-    let near = likeness(word_before(bytes, lexemes, index, 1), left).saturating_mul(likeness(
-        word_at(bytes, lexemes, index.saturating_add(1)),
-        right,
-    ));
+    let near = likeness(word_before(bytes, lexemes, index, 1), left);
     if near == 0 {
         return Ok(());
     }
+    let next = likeness(word_at(bytes, lexemes, index.saturating_add(1)), right);
+    if next == 0 {
+        return Ok(());
+    }
+    let near = near.saturating_mul(next);
     let far = likeness(word_before(bytes, lexemes, index, 2), farther).saturating_add(1);
     let beyond = likeness(word_at(bytes, lexemes, index.saturating_add(2)), further).saturating_add(
         1,
@@ -113,7 +115,7 @@ fn add_fit<'a>(
     Ok(())
 }
 
-/// How alike two words are: 4 where they are the same, 1 where they are of one kind, 0 else.
+/// The likeness of two words: 4 if they are the same, 1 if they are of one kind, else 0.
 fn likeness(a: &[u8], b: &[u8]) -> usize {
     if a == b {
         return 4;
@@ -151,8 +153,7 @@ fn best<'a>(alloc: Global, found: &[Fit<'a>]) -> Result<Vec<Fit<'a>>, AllocError
 /// The most words around a place that are told.
 const MOST_AROUND: usize = 48;
 
-/// The names and constants, or the types where these are asked for, that stand nearest to a position, each once. `Err` comes only for want of
-/// memory.
+/// The names and constants, or the types where these are asked for, that stand nearest to a position, each once. Returns `Err` only if memory runs out.
 pub(crate) fn words_around<'a>(
     alloc: Global,
     bytes: &'a [u8],

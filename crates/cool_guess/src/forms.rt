@@ -1,4 +1,4 @@
-//! Forms of other languages, and those of Cool for them.
+//! Candidates for forms of other languages: the forms of Cool that mean the same.
 
 use crate::candidate::{Candidates, Reason};
 use crate::kind::{Kind, is_one_of, kind_of};
@@ -8,10 +8,10 @@ use std::alloc::AllocError;
 /// The words and signs in front of a type.
 static BEFORE_TYPES: [&str; 5] = [":", "new", "@", "inherits", "class"];
 
-/// How many lexemes behind `elif` its `fi` is looked for.
+/// The number of lexemes behind `elif` among which its `fi` is looked for.
 const LOOKED_AHEAD: usize = 200;
 
-/// How many lexemes the formals of a method have at most that are looked at.
+/// The most lexemes of a method's formals that are looked at.
 const LOOKED_AT_FORMALS: usize = 40;
 
 impl<'a> Candidates<'a> {

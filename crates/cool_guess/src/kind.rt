@@ -6,7 +6,7 @@ pub(crate) static KEYWORDS: [&str; 19] = [
     "then", "while", "case", "esac", "new", "of", "not", "true",
 ];
 
-/// What a lexeme is.
+/// The kind of a lexeme.
 #[derive(Clone, Copy)]
 pub(crate) enum Kind {
     /// A keyword, a sign, or nothing.

@@ -4,10 +4,10 @@ ghost use Rattle.std.specs.Prelude.{◌≤◌, length};
 
 use std::alloc::{AllocError, Global};
 
-/// How many comments that are not closed are looked through for their end: each looks at the rest of the text.
+/// The most comments that are not closed whose end is looked for: each search goes through the rest of the text.
 const MOST_OPEN: usize = 8;
 
-/// From where up to where a lexeme stands.
+/// The range of a lexeme.
 #[derive(Clone, Copy)]
 pub struct Lexeme {
     pub start: usize,
@@ -21,7 +21,7 @@ pub fn part(bytes: &[u8], start: usize, end: usize) -> &[u8] {
     &bytes[start..end]
 }
 
-/// The lexemes of a text, without white space and comments. `Err` comes only for want of memory.
+/// The lexemes of a text, without white space and comments. Returns `Err` only if memory runs out.
 pub fn lexemes(alloc: Global, bytes: &[u8]) -> Result<Vec<Lexeme>, AllocError> {
     let mut all = Vec::new(alloc);
     let mut end = 0;
@@ -48,14 +48,21 @@ pub fn lexemes(alloc: Global, bytes: &[u8]) -> Result<Vec<Lexeme>, AllocError> {
     Ok(all)
 }
 
-/// The position of the first lexeme that ends behind a byte.
+/// The position of the first of a text's lexemes that ends behind a byte; their number if none does.
 pub fn index_at(lexemes: &[Lexeme], at: usize) -> usize {
-    for index in 0..lexemes.len() {
-        if lexemes[index].end > at {
-            return index;
+    let mut first: usize = 0;
+    let mut last = lexemes.len();
+    for _ in 0..usize::BITS {
+        if first >= last {
+            break;
+        }
+        let middle = first.saturating_add(last.saturating_sub(first) / 2);
+        match lexemes.get(middle) {
+            Some(lexeme) if lexeme.end <= at => first = middle.saturating_add(1),
+            _ => last = middle,
         }
     }
-    lexemes.len()
+    first
 }
 
 /// The bytes of the lexeme at a position, or none.
@@ -79,7 +86,7 @@ pub(crate) fn word_before<'a>(
     }
 }
 
-/// How many bytes of white space or of a comment up to the end of its line the bytes begin with.
+/// The number of bytes of white space, or of a comment up to the end of its line, that the bytes begin with.
 fn blank_length(rest: &[u8]) -> usize {
     match rest {
         [b' ' | b'\n' | b'\r' | b'\t' | 11 | 12, ..] => 1,
@@ -88,7 +95,7 @@ fn blank_length(rest: &[u8]) -> usize {
     }
 }
 
-/// How many bytes come before the end of the line.
+/// The number of bytes before the end of the line.
 pub(crate) fn line_length(rest: &[u8]) -> usize
     ensures { result ≤ length rest.now }
 {
@@ -105,7 +112,7 @@ fn is_comment(rest: &[u8]) -> bool {
     matches!(rest, [b'(', b'*', ..])
 }
 
-/// How long the comment is that the bytes begin with; 0 where it is not closed, so that its signs are lexemes.
+/// The length of the comment that the bytes begin with; 0 if it is not closed, so that its signs are lexemes.
 fn comment_length(rest: &[u8]) -> usize {
     let mut depth: usize = 0;
     let mut taken = 0;
@@ -131,7 +138,7 @@ fn comment_length(rest: &[u8]) -> usize {
     0
 }
 
-/// How long the lexeme is that the bytes begin with.
+/// The length of the lexeme that the bytes begin with.
 fn lexeme_length(rest: &[u8]) -> usize {
     match rest {
         [b'"', ..] => string_length(rest),
@@ -141,7 +148,7 @@ fn lexeme_length(rest: &[u8]) -> usize {
     }
 }
 
-/// How long the string constant is that the bytes begin with, up to its quote or the end of its line.
+/// The length of the string constant that the bytes begin with, up to its quote or the end of its line.
 fn string_length(rest: &[u8]) -> usize {
     let mut escaped = true;
     for index in 0..rest.len() {
@@ -155,7 +162,7 @@ fn string_length(rest: &[u8]) -> usize {
     rest.len()
 }
 
-/// How many bytes of a name or a number the bytes begin with.
+/// The length of the name or number that the bytes begin with.
 fn name_length(rest: &[u8]) -> usize {
     for index in 0..rest.len() {
         if !is_name_byte(rest[index]) {

@@ -1,11 +1,13 @@
-//! Guesses of edits that may mend a fault of a Cool text, and of what else helps its reader.
+//! Guesses of edits that may mend a fault of a Cool text, and words that help its reader.
 //!
-//! Comes in: the bytes of source files, and a fault. Goes out: candidates, the likeliest first, what is said of words of other languages, and
-//! where the other definition stands of what is defined twice. Nothing is promised of them but that they come: `cool_mend` tries each edit.
+//! Input: the bytes of source files, and a fault. Output: candidates, the likeliest first, words on forms of other languages, and the other definition of
+//! a thing that is defined twice. No clause says which candidates come: `cool_mend` tries each edit.
 #![tactic(auto)]
 
 mod candidate;
+mod declarations;
 mod definition;
+mod excerpt;
 mod extents;
 mod fitting;
 mod forms;
@@ -15,14 +17,18 @@ mod meaning_guesses;
 mod names;
 mod nearness;
 mod other_words;
+mod outline;
 mod signs;
+mod source;
 mod telling;
 mod text_guesses;
 
 pub use candidate::{Candidate, Reason, Splice, spliced};
 pub use definition::other_definition;
+pub use excerpt::{Excerpt, Program};
 pub use lexeme::{Lexeme, index_at, lexemes, part};
-pub use meaning_guesses::meaning_candidates;
-pub use other_words::{advice, is_advised};
+pub use meaning_guesses::{beside_candidates, meaning_candidates};
+pub use other_words::{advice, is_advised, type_advice};
+pub use source::{Range, Source};
 pub use telling::{difference, reason_words};
 pub use text_guesses::text_candidates;

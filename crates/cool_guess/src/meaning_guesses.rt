@@ -3,17 +3,19 @@
 use crate::candidate::{Candidate, Candidates, Reason};
 use crate::definition::{is_class, parent_around};
 use crate::fitting::fitting;
-use crate::kind::{is_number, is_one_of, is_type_name};
+use crate::kind::{Kind, is_number, is_one_of, is_type_name, kind_of};
 use crate::lexeme::Lexeme;
 use crate::names::{BASIC_CLASSES, MOST_NAMES, class_names, names_near, type_name};
 use crate::nearness::{are_near, distance};
 use crate::signs::{NAMES, TYPES};
+use crate::source::Source;
+use crate::text_guesses::is_constant;
 use cool_check::{TypeFault, TypeKind};
 use cool_classes::ClassKind;
 use cool_faults::Fault;
 use std::alloc::{AllocError, Global};
 
-/// What other languages call void.
+/// The names of other languages for void.
 static VOIDS: [&str; 5] = ["null", "nil", "NULL", "void", "None"];
 
 /// Methods by which other languages compare.
@@ -30,19 +32,29 @@ static COUNTERPARTS: [(&str, &str); 4] = [
 /// The methods that take a constant.
 static WRITING: [&str; 2] = ["out_string", "out_int"];
 
-/// What stands behind the second operand of a sum.
+/// The words in front of a variable of a `let`.
+static BEFORE_VARIABLES: [&str; 2] = ["let", ","];
+
+/// The constants of Bool.
+static TRUTHS: [&str; 2] = ["true", "false"];
+
+/// The words behind the second operand of a sum.
 static BEHIND_SUMS: [&str; 8] = [")", "+", ";", ",", "}", "fi", "then", "in"];
 
-/// How many lexemes of a declaration are looked at.
+/// The number of lexemes of a declaration that are looked at.
 const LOOKED_ALONG: usize = 64;
 
-/// How many words that fit beside a fault of typing are tried for a place.
+/// The number of lexemes in front of a name among which a `let` of it is looked for.
+const LOOKED_FOR_LET: usize = 400;
+
+/// The most words that are tried for a place beside a fault of typing.
 const MOST_BESIDE: usize = 6;
 
-/// The candidates for a fault at a position of a text, the likeliest first. `Err` comes only for want of memory.
+/// The candidates for a fault of classes, features or typing at a position of a text, the likeliest first, among them no words that were found by what
+/// stands beside them. Returns `Err` only if memory runs out.
 pub fn meaning_candidates(
     alloc: Global,
-    files: &[Vec<u8>],
+    sources: &[Source<'_>],
     fault: &Fault,
     bytes: &[u8],
     lexemes: &[Lexeme],
@@ -50,80 +62,101 @@ pub fn meaning_candidates(
 ) -> Result<Vec<Candidate>, AllocError> {
     let mut found = Candidates::new(alloc, bytes, lexemes);
     match fault {
-        Fault::Class(fault) => found.add_for_class(files, fault.kind, index)?,
-        Fault::Typing(fault) => {
-            found.add_for_typing(files, fault, index)?;
-            found.add_beside(index)?;
-        }
+        Fault::Class(fault) => found.add_for_class(sources, fault.kind, index)?,
+        Fault::Typing(fault) => found.add_for_typing(sources, fault, index)?,
         _ => {}
     }
     let Candidates { all, .. } = found;
     Ok(all)
 }
 
+/// The candidates for a fault of typing at a position of a text by what stands beside it, which are tried if no other one will do. Returns `Err` only if
+/// memory runs out.
+pub fn beside_candidates(
+    alloc: Global,
+    fault: &Fault,
+    bytes: &[u8],
+    lexemes: &[Lexeme],
+    index: usize,
+) -> Result<Vec<Candidate>, AllocError> {
+    let mut found = Candidates::new(alloc, bytes, lexemes);
+    if let Fault::Typing(_) = fault {
+        found.add_beside(index)?;
+    }
+    let Candidates { all, .. } = found;
+    Ok(all)
+}
+
 impl<'a> Candidates<'a> {
+    /// Adds the candidates for a fault of classes or features of this kind at a position.
     fn add_for_class(
         &mut self,
-        files: &[Vec<u8>],
+        sources: &[Source<'_>],
         kind: ClassKind,
         index: usize,
     ) -> Result<(), AllocError> {
         match kind {
             ClassKind::C2 | ClassKind::C3 | ClassKind::C4 | ClassKind::C5 => {
-                self.add_near_after(files, index, 4)?;
+                self.add_near_after(sources, index, 4)?;
                 self.add_parents(index)
             }
             ClassKind::C6 => self.add_main_class(),
             ClassKind::F2 => self.add_no_attribute(index),
             ClassKind::F5 => self.add_own_class(index),
             ClassKind::F6 => {
-                self.add_near_after(files, index, 1)?;
-                self.add_types(files, self.lexeme(index))
+                self.add_near_after(sources, index, 1)?;
+                self.add_types(sources, self.lexeme(index))
             }
-            ClassKind::F7 => self.add_all_declared(files, index),
+            ClassKind::F7 => self.add_all_declared(sources, index),
             ClassKind::F8 => self.add_main_method(index),
             _ => Ok(()),
         }
     }
 
+    /// Adds the candidates for a fault of typing at a position.
     fn add_for_typing(
         &mut self,
-        files: &[Vec<u8>],
+        sources: &[Source<'_>],
         fault: &TypeFault,
         index: usize,
     ) -> Result<(), AllocError> {
         match fault.kind {
             TypeKind::E1 => {
                 self.add_unknown(index)?;
-                self.add_near(files, index)?;
-                self.add_attribute(files, index)
+                self.add_call(sources, index)?;
+                self.add_near(sources, index)?;
+                if self.add_body_of_let(index)? {
+                    return Ok(());
+                }
+                self.add_attribute(sources, index)
             }
             TypeKind::E4 => {
                 self.add_heir(index)?;
                 self.add_calls(index)?;
-                self.add_near(files, index)
+                self.add_near(sources, index)
             }
             TypeKind::E5 => self.add_arguments(index),
             TypeKind::E7 | TypeKind::E8 | TypeKind::E11 | TypeKind::E12 => {
-                self.add_near_after(files, index, 1)?;
-                self.add_types(files, self.lexeme(index))
+                self.add_near_after(sources, index, 1)?;
+                self.add_types(sources, self.lexeme(index))
             }
-            _ => self.add_for_value(files, fault, index),
+            _ => self.add_for_value(sources, fault, index),
         }
     }
 
     /// Candidates for a value whose type does not fit.
     fn add_for_value(
         &mut self,
-        files: &[Vec<u8>],
+        sources: &[Source<'_>],
         fault: &TypeFault,
         index: usize,
     ) -> Result<(), AllocError> {
         match fault.kind {
             TypeKind::E14 | TypeKind::E15 | TypeKind::E16 => {
                 self.add_joined(index)?;
+                self.add_operands(index)?;
                 self.add_constants(index.saturating_sub(2), 5)?;
-                self.add_near(files, index)
+                self.add_near(sources, index)
             }
             TypeKind::E9 => {
                 self.add_compared(index)?;
@@ -131,18 +164,32 @@ impl<'a> Candidates<'a> {
             }
             TypeKind::E3 | TypeKind::E6 => {
                 self.add_constants(index, 8)?;
-                self.add_found(files, fault, index)
+                self.add_found(sources, fault, index)
             }
             TypeKind::E17 | TypeKind::E18 => {
                 self.add_constants(index, 24)?;
-                self.add_found(files, fault, index)?;
-                self.add_declared(files, index)
+                self.add_found(sources, fault, index)?;
+                self.add_declared(sources, index)
             }
             _ => Ok(()),
         }
     }
 
-    /// What fits by what stands beside the fault: in the place of a lexeme, and between two; and each lexeme taken out.
+    /// Int as the declared type of a name beside a sign.
+    fn add_operands(&mut self, index: usize) -> Result<(), AllocError> {
+        for there in [index.saturating_sub(1), index, index.saturating_add(1)] {
+            let word = self.word(there);
+            if kind_of(word) == Kind::Object {
+                if let Some(declared) = self.type_of_name(word, there) {
+                    let said = Reason::Said("numbers alone are added and compared");
+                    self.put_at(said, declared, b"Int")?;
+                }
+            }
+        }
+        Ok(())
+    }
+
+    /// Words that fit by those beside the fault, in the place of a lexeme and between two; and each lexeme taken out.
     fn add_beside(&mut self, index: usize) -> Result<(), AllocError> {
         for there in [
             index,
@@ -162,17 +209,21 @@ impl<'a> Candidates<'a> {
         Ok(())
     }
 
-    /// What fits in the place of the lexeme at a position, and in front of it.
+    /// Words that fit in the place of the lexeme at a position, and in front of it.
     fn add_fitting(&mut self, index: usize) -> Result<(), AllocError> {
         let here = self.lexeme(index);
         let others = fitting(self.alloc, self.bytes, self.lexemes, index, true)?;
         self.is_guess = true;
         for fit in others.iter().take(MOST_BESIDE) {
-            self.put_at(Reason::Other, here, fit.word)?;
+            if !is_constant(fit.word) {
+                self.put_at(Reason::Other, here, fit.word)?;
+            }
         }
         let more = fitting(self.alloc, self.bytes, self.lexemes, index, false)?;
         for fit in more.iter().take(MOST_BESIDE) {
-            self.insert(index, fit.word)?;
+            if !is_constant(fit.word) {
+                self.insert(index, fit.word)?;
+            }
         }
         self.is_guess = false;
         Ok(())
@@ -198,18 +249,72 @@ impl<'a> Candidates<'a> {
         Ok(())
     }
 
-    /// An attribute of this name, in front of the features of the class.
-    fn add_attribute(&mut self, files: &[Vec<u8>], index: usize) -> Result<(), AllocError> {
+    /// `f` as `f()`, where a class has a method of that name without formals.
+    fn add_call(&mut self, sources: &[Source<'_>], index: usize) -> Result<(), AllocError> {
+        let here = self.lexeme(index);
+        let word = self.text(here);
+        for source in sources {
+            let around = Candidates::new(self.alloc, source.bytes, &source.lexemes);
+            for there in 0..source.lexemes.len() {
+                let is_method = around.word(there) == word
+                    && around.word(there.saturating_add(1)) == b"(".as_slice()
+                    && around.word(there.saturating_add(2)) == b")".as_slice()
+                    && around.word(there.saturating_add(3)) == b":".as_slice();
+                if is_method {
+                    let said = Reason::Said("a method is called with parentheses: `f()`");
+                    return self.put(said, here.end, here.end, b"()");
+                }
+            }
+        }
+        Ok(())
+    }
+
+    /// Braces around the rest of the block as the body of a `let` that declares the name at a position; whether there is such a `let` in the class.
+    fn add_body_of_let(&mut self, index: usize) -> Result<bool, AllocError> {
         let name = self.word(index);
-        for back in 0..index.saturating_add(1) {
+        for back in 1..index.min(LOOKED_FOR_LET).saturating_add(1) {
             let there = index.saturating_sub(back);
             if is_class(self.word(there)) {
-                for open in [there.saturating_add(2), there.saturating_add(4)] {
-                    if self.word(open) == b"{".as_slice() {
-                        return self.put_attribute(files, self.lexeme(open).end, name);
-                    }
+                return Ok(false);
+            }
+            let is_let = self.word(there) == name
+                && self.word(there.saturating_add(1)) == b":".as_slice()
+                && is_one_of(&BEFORE_VARIABLES, self.word_before(there, 1));
+            if is_let {
+                self.put_body_of_let(there, index)?;
+                return Ok(true);
+            }
+        }
+        Ok(false)
+    }
+
+    /// Braces from the first `in` behind a position up to the end of the block in which a later position stands.
+    fn put_body_of_let(&mut self, start: usize, index: usize) -> Result<(), AllocError> {
+        for there in start..index {
+            if self.word(there) == b"in".as_slice() {
+                let close = self.block_end(index);
+                if close < self.lexemes.len() {
+                    let open = self.lexeme(there).end;
+                    let close = self.lexeme(close).start;
+                    let first = self.splice(open, open, b" {")?;
+                    let second = self.splice(close, close, b"}; ")?;
+                    let said = Reason::Said("the variable of a `let` is known in its body alone");
+                    self.put_two(said, first, second)?;
                 }
                 return Ok(());
+            }
+        }
+        Ok(())
+    }
+
+    /// An attribute of this name, in front of the features of the class.
+    fn add_attribute(&mut self, sources: &[Source<'_>], index: usize) -> Result<(), AllocError> {
+        let Some(class) = self.class_before(index) else {
+            return Ok(());
+        };
+        for open in [class.saturating_add(2), class.saturating_add(4)] {
+            if self.word(open) == b"{".as_slice() {
+                return self.put_attribute(sources, self.lexeme(open).end, self.word(index));
             }
         }
         Ok(())
@@ -218,14 +323,14 @@ impl<'a> Candidates<'a> {
     /// An attribute of this name at a byte, of each type.
     fn put_attribute(
         &mut self,
-        files: &[Vec<u8>],
+        sources: &[Source<'_>],
         at: usize,
         name: &[u8],
     ) -> Result<(), AllocError> {
         for class in ["Int", "String", "Bool"] {
             self.put_typed(at, name, class.as_bytes())?;
         }
-        let classes = class_names(self.alloc, files, MOST_NAMES)?;
+        let classes = class_names(self.alloc, sources, MOST_NAMES)?;
         for class in classes.as_slice() {
             self.put_typed(at, name, class)?;
         }
@@ -305,14 +410,14 @@ impl<'a> Candidates<'a> {
     /// The type that was found in the place of the declared one: of the variable, or else of the feature at a position.
     fn add_found(
         &mut self,
-        files: &[Vec<u8>],
+        sources: &[Source<'_>],
         fault: &TypeFault,
         index: usize,
     ) -> Result<(), AllocError> {
         let Some(found) = fault.found else {
             return Ok(());
         };
-        let name = type_name(self.alloc, files, found)?;
+        let name = type_name(self.alloc, sources, found)?;
         let said = Reason::Said("the declared type is that of the value");
         if let Some(declared) = self.declared(fault.kind, index) {
             self.put_at(said, declared, &name)?;
@@ -325,21 +430,12 @@ impl<'a> Candidates<'a> {
         if kind != TypeKind::E3 {
             return self.type_behind(index);
         }
-        let name = self.word_before(index, 1);
         let name = if self.word(index) == b"<-".as_slice() {
-            name
+            self.word_before(index, 1)
         } else {
             self.word(index)
         };
-        for back in 1..index.saturating_add(1) {
-            let there = index.saturating_sub(back);
-            let is_it = self.word(there) == name
-                && self.word(there.saturating_add(1)) == b":".as_slice();
-            if is_it {
-                return Some(self.lexeme(there.saturating_add(2)));
-            }
-        }
-        None
+        self.type_of_name(name, index)
     }
 
     /// The type behind the first colon outside of parentheses, from a position on.
@@ -359,12 +455,12 @@ impl<'a> Candidates<'a> {
     }
 
     /// Names near to the one at a position, and what Cool has for it.
-    fn add_near(&mut self, files: &[Vec<u8>], index: usize) -> Result<(), AllocError> {
+    fn add_near(&mut self, sources: &[Source<'_>], index: usize) -> Result<(), AllocError> {
         let here = self.lexeme(index);
         let word = self.text(here);
         self.put_ours(here, &NAMES)?;
         self.put_ours(here, &TYPES)?;
-        let names = names_near(self.alloc, files, word)?;
+        let names = names_near(self.alloc, sources, word)?;
         for apart in 0..4 {
             for name in names.as_slice() {
                 if distance(word, name) == apart && self.all.len() < MOST_NAMES {
@@ -378,14 +474,14 @@ impl<'a> Candidates<'a> {
     /// The same for each type among so many lexemes from a position on.
     fn add_near_after(
         &mut self,
-        files: &[Vec<u8>],
+        sources: &[Source<'_>],
         index: usize,
         many: usize,
     ) -> Result<(), AllocError> {
         for offset in 0..many {
             let there = index.saturating_add(offset);
             if is_type_name(self.word(there)) {
-                self.add_near(files, there)?;
+                self.add_near(sources, there)?;
             }
         }
         Ok(())
@@ -393,18 +489,13 @@ impl<'a> Candidates<'a> {
 
     /// The class around inherits from IO.
     fn add_heir(&mut self, index: usize) -> Result<(), AllocError> {
-        for back in 0..index.saturating_add(1) {
-            let there = index.saturating_sub(back);
-            if is_class(self.word(there)) {
-                if self.word(there.saturating_add(2)) == b"{".as_slice() {
-                    let name = self.lexeme(there.saturating_add(1));
-                    let said = Reason::Said(
-                        "the methods of IO are those of classes that inherit from it",
-                    );
-                    self.put(said, name.end, name.end, b" inherits IO")?;
-                }
-                return Ok(());
-            }
+        let Some(class) = self.class_before(index) else {
+            return Ok(());
+        };
+        if self.word(class.saturating_add(2)) == b"{".as_slice() {
+            let name = self.lexeme(class.saturating_add(1));
+            let said = Reason::Said("the methods of IO are those of classes that inherit from it");
+            self.put(said, name.end, name.end, b" inherits IO")?;
         }
         Ok(())
     }
@@ -479,9 +570,9 @@ impl<'a> Candidates<'a> {
     }
 
     /// Other types in the declaration that begins at a position.
-    fn add_declared(&mut self, files: &[Vec<u8>], index: usize) -> Result<(), AllocError> {
+    fn add_declared(&mut self, sources: &[Source<'_>], index: usize) -> Result<(), AllocError> {
         match self.type_behind(index) {
-            Some(declared) => self.add_types(files, declared),
+            Some(declared) => self.add_types(sources, declared),
             None => Ok(()),
         }
     }
@@ -495,23 +586,20 @@ impl<'a> Candidates<'a> {
 
     /// The class around in the place of the type at a position.
     fn add_own_class(&mut self, index: usize) -> Result<(), AllocError> {
-        for back in 1..index.saturating_add(1) {
-            let there = index.saturating_sub(back);
-            if is_class(self.word(there)) {
-                let class = self.word(there.saturating_add(1));
-                return self.put_at(Reason::Other, self.lexeme(index), class);
-            }
-        }
-        Ok(())
+        let Some(class) = self.class_before(index) else {
+            return Ok(());
+        };
+        let name = self.word(class.saturating_add(1));
+        self.put_at(Reason::Other, self.lexeme(index), name)
     }
 
     /// Other types for each formal, and for the result, of the method at a position.
-    fn add_all_declared(&mut self, files: &[Vec<u8>], index: usize) -> Result<(), AllocError> {
+    fn add_all_declared(&mut self, sources: &[Source<'_>], index: usize) -> Result<(), AllocError> {
         for offset in 0..LOOKED_ALONG {
             let there = index.saturating_add(offset);
             match self.word(there) {
                 b"{" | b";" => return Ok(()),
-                b":" => self.add_types(files, self.lexeme(there.saturating_add(1)))?,
+                b":" => self.add_types(sources, self.lexeme(there.saturating_add(1)))?,
                 _ => {}
             }
         }
@@ -519,10 +607,10 @@ impl<'a> Candidates<'a> {
     }
 
     /// All types in the place of one, at most so many.
-    fn add_types(&mut self, files: &[Vec<u8>], declared: Lexeme) -> Result<(), AllocError> {
+    fn add_types(&mut self, sources: &[Source<'_>], declared: Lexeme) -> Result<(), AllocError> {
         let said = Reason::Said("the declared type is another");
         self.put_each(said, declared, &BASIC_CLASSES)?;
-        let names = class_names(self.alloc, files, MOST_NAMES)?;
+        let names = class_names(self.alloc, sources, MOST_NAMES)?;
         for name in names.as_slice() {
             self.put_at(said, declared, name)?;
         }
@@ -555,6 +643,10 @@ impl<'a> Candidates<'a> {
         match word {
             [b'"', inner @ .., b'"'] if is_number(inner) => {
                 let said = Reason::Said("a number stands without quotes");
+                self.put_at(said, there, inner)
+            }
+            [b'"', inner @ .., b'"'] if is_one_of(&TRUTHS, inner) => {
+                let said = Reason::Said("`true` and `false` stand without quotes");
                 self.put_at(said, there, inner)
             }
             [b'0'..=b'9', ..] => {

@@ -2,8 +2,9 @@
 
 use crate::definition::is_class;
 use crate::kind::{is_keyword, is_name, is_type_name};
-use crate::lexeme::{lexemes, part};
+use crate::lexeme::part;
 use crate::nearness::are_near;
+use crate::source::Source;
 use cool_classes::{BOOL, ClassId, INT, IO, OBJECT, STRING, Ty};
 use std::alloc::{AllocError, Global};
 
@@ -11,7 +12,7 @@ use std::alloc::{AllocError, Global};
 pub(crate) static BASIC_CLASSES: [&str; 5] = ["Int", "String", "Bool", "IO", "Object"];
 
 /// The methods of basic classes.
-static BASIC_METHODS: [&str; 10] = [
+pub(crate) static BASIC_METHODS: [&str; 10] = [
     "out_string",
     "out_int",
     "in_string",
@@ -30,7 +31,7 @@ pub(crate) const MOST_NAMES: usize = 12;
 /// The names of all files, and of the basic classes, that are near to a word and of its kind, each once.
 pub(crate) fn names_near(
     alloc: Global,
-    files: &[Vec<u8>],
+    sources: &[Source<'_>],
     word: &[u8],
 ) -> Result<Vec<Vec<u8>>, AllocError> {
     let mut names = Vec::new(alloc);
@@ -38,14 +39,13 @@ pub(crate) fn names_near(
     add_near_ones(alloc, &mut names, word, &BASIC_METHODS)?;
     add_near_name(alloc, &mut names, word, b"SELF_TYPE")?;
     add_near_name(alloc, &mut names, word, b"self")?;
-    for file in files {
-        let found = lexemes(alloc, file)?;
-        for lexeme in found.as_slice() {
+    for source in sources {
+        for lexeme in source.lexemes.as_slice() {
             add_near_name(
                 alloc,
                 &mut names,
                 word,
-                part(file, lexeme.start, lexeme.end),
+                part(source.bytes, lexeme.start, lexeme.end),
             )?;
         }
     }
@@ -85,15 +85,14 @@ fn add_near_name(
 /// The names of the classes that the files define, in their order, at most so many.
 pub(crate) fn class_names(
     alloc: Global,
-    files: &[Vec<u8>],
+    sources: &[Source<'_>],
     most: usize,
 ) -> Result<Vec<Vec<u8>>, AllocError> {
     let mut names = Vec::new(alloc);
-    for file in files {
-        let found = lexemes(alloc, file)?;
+    for source in sources {
         let mut is_behind = false;
-        for lexeme in found.as_slice() {
-            let word = part(file, lexeme.start, lexeme.end);
+        for lexeme in source.lexemes.as_slice() {
+            let word = part(source.bytes, lexeme.start, lexeme.end);
             if is_behind && names.len() < most {
                 names.push(Vec::from_slice(alloc, word)?)?;
             }
@@ -116,7 +115,7 @@ pub(crate) fn is_among(names: &[Vec<u8>], name: &[u8]) -> bool {
 /// The name of a type, of a class by its number in the table of these files.
 pub(crate) fn type_name(
     alloc: Global,
-    files: &[Vec<u8>],
+    sources: &[Source<'_>],
     found: Ty,
 ) -> Result<Vec<u8>, AllocError> {
     let Ty::Class(class) = found else {
@@ -130,7 +129,7 @@ pub(crate) fn type_name(
         STRING => b"String",
         ClassId(number) => {
             let index = (number as usize).saturating_sub(BASIC_CLASSES.len());
-            let names = class_names(alloc, files, index.saturating_add(1))?;
+            let names = class_names(alloc, sources, index.saturating_add(1))?;
             return match names.get(index) {
                 Some(name) => Vec::from_slice(alloc, name),
                 None => Ok(Vec::new(alloc)),

@@ -1,8 +1,8 @@
-//! Which words are near to each other, as a word is to one that was mistyped.
+//! The nearness of words, as of a word to one that was mistyped.
 
 ghost use Rattle.std.specs.Prelude.{◌≤◌, length};
 
-/// How many changes lead from one word to the other, counted as the longer of what is left between the bytes that they begin and end with alike.
+/// The number of changes from one word to the other: the greater length that is left without the bytes that they begin and end with alike.
 pub(crate) fn distance(a: &[u8], b: &[u8]) -> usize {
     let front = alike_in_front(a, b);
     let back = alike_behind(&a[front..], &b[front..]);
@@ -23,7 +23,7 @@ pub(crate) fn are_near(a: &[u8], b: &[u8]) -> bool {
         2
     };
     let apart = distance(a, b);
-    apart > 0 && (apart <= most || (apart == 2 && are_exchanged(a, b)))
+    a != b && (apart <= most || (apart == 2 && are_exchanged(a, b)))
 }
 
 /// Whether two bytes beside each other are exchanged.

@@ -1,10 +1,14 @@
-//! What is said of words and signs of other languages.
+//! Hints on words, signs and forms of other languages.
 
+use crate::candidate::Candidates;
+use crate::kind::{Kind, kind_of};
 use crate::lexeme::{Lexeme, word_at, word_before};
 use crate::signs::ADVICE;
+use cool_classes::{INT, STRING, Ty};
+use cool_faults::Fault;
 use std::alloc::{AllocError, Global};
 
-/// What is said of the lexeme at a position and of the one before it. `Err` comes only for want of memory.
+/// The words on the lexeme at a position and on the one before it. Returns `Err` only if memory runs out.
 pub fn advice(
     alloc: Global,
     bytes: &[u8],
@@ -20,6 +24,46 @@ pub fn advice(
         let said =
             "behind a dot stands a call: an attribute is seen in its own class and in those below it alone";
         all.push(Vec::from_slice(alloc, said.as_bytes())?)?;
+    }
+    if let Some(said) = foreign_form(alloc, bytes, lexemes, index) {
+        all.push(Vec::from_slice(alloc, said.as_bytes())?)?;
+    }
+    Ok(all)
+}
+
+/// The words on a form of another language at a position, for which no edit at one place will do.
+fn foreign_form(
+    alloc: Global,
+    bytes: &[u8],
+    lexemes: &[Lexeme],
+    index: usize,
+) -> Option<&'static str> {
+    let around = Candidates::new(alloc, bytes, lexemes);
+    if around.is_constructor(index) {
+        return Some(
+            "Cool has no constructors: a method that sets the attributes and gives `self` does that",
+        );
+    }
+    if around.is_cast(index) {
+        return Some("Cool has no casts: `case` asks for the class of a value");
+    }
+    let is_constant = matches!(kind_of(around.word(index)), Kind::Number | Kind::String);
+    if is_constant && around.word_before(index, 1) == b"of".as_slice() {
+        return Some(
+            "a branch of `case` is for a class, `x : Int => ..`: values are compared by `if`",
+        );
+    }
+    None
+}
+
+/// The words on a fault of typing whose two types tell more. Returns `Err` only if memory runs out.
+pub fn type_advice(alloc: Global, fault: &Fault) -> Result<Vec<Vec<u8>>, AllocError> {
+    let mut all = Vec::new(alloc);
+    if let Fault::Typing(fault) = fault {
+        if let (Some(Ty::Class(INT)), Some(Ty::Class(STRING))) = (fault.found, fault.due) {
+            let said = "no method makes a String of an Int: `out_int` prints a number";
+            all.push(Vec::from_slice(alloc, said.as_bytes())?)?;
+        }
     }
     Ok(all)
 }

@@ -1,11 +1,12 @@
-//! Signs and words of other languages, and what Cool has in their place.
+//! Signs and words of other languages, and those of Cool in their place.
 
 /// Two lexemes beside each other, of which the fault is told at one, what stands in their place, and what is said of it. The likeliest come
 /// first.
-pub(crate) static PAIRS: [(&str, &str, &str, &str); 24] = [
+pub(crate) static PAIRS: [(&str, &str, &str, &str); 25] = [
     ("=", "=", "=", "`=` compares: there is no `==`"),
     (":", "=", "<-", "`<-` gives a value: there is no `:=`"),
     ("-", ">", "=>", "a branch of `case` has `=>`"),
+    ("-", ">", ":", "the type of a result stands behind `:`"),
     ("=", "<", "<=", "`<=` for `=<`"),
     ("<", ">", "=", "`not a = b` for `<>`"),
     ("/", "/", "--", "a comment begins with `--`"),
@@ -104,7 +105,10 @@ pub(crate) static WORDS: [(&str, &str, &str); 45] = [
 ];
 
 /// Names that other languages have for types, and those of Cool.
-pub(crate) static TYPES: [(&str, &str); 14] = [
+pub(crate) static TYPES: [(&str, &str); 17] = [
+    ("int", "Int"),
+    ("string", "String"),
+    ("bool", "Bool"),
     ("boolean", "Bool"),
     ("Boolean", "Bool"),
     ("integer", "Int"),

@@ -1,11 +1,11 @@
-//! What leads from one text to another, and how it is told.
+//! The difference of two texts, and the words on it.
 
 use crate::candidate::Reason;
 use crate::lexeme::{is_name_byte, line_length, part};
 use std::alloc::{AllocError, Global};
 
-/// The range of the old text, and the bytes in its place, that lead to the new one: from the first byte that differs to the last, and no word
-/// in part. `Err` comes only for want of memory.
+/// The range of the old text, and the bytes in its place, that lead to the new one: from the first byte that differs to the last, and no word in part.
+/// Returns `Err` only if memory runs out.
 pub fn difference(
     alloc: Global,
     old: &[u8],
@@ -34,7 +34,7 @@ pub fn difference(
     Ok((start, old.len().saturating_sub(same), text))
 }
 
-/// How many bytes two texts begin with alike.
+/// The number of bytes that two texts begin with alike.
 fn same_in_front(a: &[u8], b: &[u8]) -> usize {
     let most = a.len().min(b.len());
     for index in 0..most {
@@ -45,7 +45,7 @@ fn same_in_front(a: &[u8], b: &[u8]) -> usize {
     most
 }
 
-/// How many bytes two texts end with alike.
+/// The number of bytes that two texts end with alike.
 fn same_behind(a: &[u8], b: &[u8]) -> usize {
     let most = a.len().min(b.len());
     for back in 0..most {
@@ -65,7 +65,7 @@ fn goes_on(text: &[u8], at: usize) -> bool {
     }
 }
 
-/// What is said of an edit that puts new bytes in the place of old ones. `Err` comes only for want of memory.
+/// The words on an edit that puts new bytes in the place of old ones. Returns `Err` only if memory runs out.
 pub fn reason_words(
     alloc: Global,
     old: &[u8],

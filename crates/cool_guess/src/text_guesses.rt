@@ -13,21 +13,23 @@ use std::alloc::{AllocError, Global};
 /// Braces, and words that have an expression behind them.
 static OPENED: [&str; 5] = ["{", "then", "else", "loop", "in"];
 
-/// What closes a brace or the expression behind a word.
+/// The words that close a brace or the expression behind a word.
 static CLOSED: [&str; 5] = ["}", "fi", "pool", "else", ")"];
 
-/// What is tried in front of a fault and in its place, the likeliest first.
+/// The words that are tried in front of a fault and in its place, the likeliest first.
 static PIECES: [&str; 18] = [
     ";", "fi", "in", ")", "}", "pool", "esac", "then", "loop", "of", "else", "(", ":", "<-", "=>",
     ",", ".", "{",
 ];
 
-/// What is tried after these: it is told only where the files are a program then.
-static GUESSES: [&str; 30] = [
+/// The words that are tried after these: such an edit is told only if it makes the files a program.
+static GUESSES: [&str; 24] = [
     "=", "+", "<", "-", "*", "/", "<=", "@", "let", "if", "while", "case", "new", "not", "isvoid",
-    "~", "inherits", "class", "0", "1", "true", "false", "self", "\"\"", "Main", "Int", "String",
-    "Bool", "Object", "IO",
+    "~", "inherits", "class", "self", "Int", "String", "Bool", "Object", "IO",
 ];
+
+/// Values that are tried where one is missing, and nowhere else.
+static VALUES: [&str; 4] = ["0", "true", "\"\"", "1"];
 
 /// Several at once.
 static PHRASES: [&str; 10] = [
@@ -51,13 +53,13 @@ static OPENERS: [&str; 11] = [
     "if", "while", "case", "let", "(", "{", "new", "not", "class", "isvoid", "~",
 ];
 
-/// How many lexemes in front of the fault are looked at.
+/// The number of lexemes in front of the fault that are looked at.
 const LOOKED_BACK: usize = 4;
 
-/// How many lexemes in front of the fault may be those behind a word that is missing.
+/// The number of lexemes in front of the fault among which a word may be missing.
 const LOOKED_FAR: usize = 40;
 
-/// What may be missing in the middle of a word that is two.
+/// The signs that may be missing in the middle of a word that is two.
 static PARTING: [&str; 10] = [" ", "(", ".", ", ", " : ", "; ", ") ", " + ", " - ", " = "];
 
 /// The longest words that are parted.
@@ -66,7 +68,7 @@ const MOST_LETTERS: usize = 40;
 /// The most braces, words and signs of a line that a string may have swallowed.
 const MOST_SWALLOWED: usize = 6;
 
-/// The candidates for the fault at a position of a text, the likeliest first. `Err` comes only for want of memory.
+/// The candidates for the fault at a position of a text, the likeliest first. Returns `Err` only if memory runs out.
 pub fn text_candidates(
     alloc: Global,
     bytes: &[u8],
@@ -74,7 +76,11 @@ pub fn text_candidates(
     index: usize,
 ) -> Result<Vec<Candidate>, AllocError> {
     let mut found = Candidates::new(alloc, bytes, lexemes);
+    if found.is_foreign(index) {
+        return Ok(Vec::new(alloc));
+    }
     found.add_words(index)?;
+    found.add_statements(index)?;
     found.add_forms(index)?;
     found.add_commented(index)?;
     found.add_closed(index)?;
@@ -88,25 +94,31 @@ pub fn text_candidates(
     for back in 1..LOOKED_BACK {
         found.add_missing(index, back)?;
     }
-    found.add_doubled(index, LOOKED_BACK, LOOKED_FAR)?;
-    found.add_openers(index)?;
-    for back in 0..LOOKED_BACK {
-        found.add_others(index, back)?;
-    }
-    for back in 0..LOOKED_BACK {
-        found.add_parted(index, back)?;
-    }
-    found.add_around(index, 0)?;
-    found.add_around(index, 1)?;
-    found.add_phrases(index)?;
-    for back in 1..LOOKED_BACK {
-        found.add_extra(index, back)?;
-    }
+    found.add_farther(index)?;
     let Candidates { all, .. } = found;
     Ok(all)
 }
 
 impl<'a> Candidates<'a> {
+    /// Adds those that are less likely: at places farther from the fault, and by words that stand elsewhere.
+    fn add_farther(&mut self, index: usize) -> Result<(), AllocError> {
+        self.add_doubled(index, LOOKED_BACK, LOOKED_FAR)?;
+        self.add_openers(index)?;
+        for back in 0..LOOKED_BACK {
+            self.add_others(index, back)?;
+        }
+        for back in 0..LOOKED_BACK {
+            self.add_parted(index, back)?;
+        }
+        self.add_around(index, 0)?;
+        self.add_around(index, 1)?;
+        self.add_phrases(index)?;
+        for back in 1..LOOKED_BACK {
+            self.add_extra(index, back)?;
+        }
+        Ok(())
+    }
+
     /// Signs and words of other languages.
     fn add_words(&mut self, index: usize) -> Result<(), AllocError> {
         self.put_pairs(index, &PAIRS)?;
@@ -115,7 +127,7 @@ impl<'a> Candidates<'a> {
         self.put_words(self.before(index, 1), &WORDS)
     }
 
-    /// What a table has for the lexeme at a position and the one before it.
+    /// The text that a table has for the lexeme at a position and the one before it.
     fn put_pairs(
         &mut self,
         index: usize,
@@ -146,7 +158,7 @@ impl<'a> Candidates<'a> {
         }
     }
 
-    /// What a table has for a lexeme.
+    /// The text that a table has for a lexeme.
     fn put_words(
         &mut self,
         place: Lexeme,
@@ -254,7 +266,7 @@ impl<'a> Candidates<'a> {
         self.put_near(self.before(index, 1), &KEYWORDS)
     }
 
-    /// Those of a table that are near to a lexeme.
+    /// The words of a table that are near to a lexeme.
     fn put_near(&mut self, place: Lexeme, table: &[&str]) -> Result<(), AllocError> {
         for known in table {
             if are_near(self.text(place), known.as_bytes()) {
@@ -366,7 +378,7 @@ impl<'a> Candidates<'a> {
         Ok(text)
     }
 
-    /// What may be missing in front of the lexeme so many before the fault.
+    /// Words that may be missing in front of the lexeme so many before the fault.
     fn add_missing(&mut self, index: usize, back: usize) -> Result<(), AllocError> {
         let Some(there) = index.checked_sub(back) else {
             return Ok(());
@@ -380,6 +392,9 @@ impl<'a> Candidates<'a> {
         self.insert_each(there, &PIECES)?;
         self.is_guess = true;
         self.insert_each(there, &GUESSES)?;
+        if back == 0 {
+            self.insert_each(there, &VALUES)?;
+        }
         self.is_guess = false;
         Ok(())
     }
@@ -437,7 +452,7 @@ impl<'a> Candidates<'a> {
         Ok(())
     }
 
-    /// What may be meant in the place of the lexeme so many before the fault.
+    /// Words that may be meant in the place of the lexeme so many before the fault.
     fn add_others(&mut self, index: usize, back: usize) -> Result<(), AllocError> {
         let Some(there) = index.checked_sub(back) else {
             return Ok(());
@@ -445,8 +460,11 @@ impl<'a> Candidates<'a> {
         let here = self.lexeme(there);
         let fits = fitting(self.alloc, self.bytes, self.lexemes, there, true)?;
         self.is_guess = true;
+        let is_free = kind_of(self.text(here)) != Kind::Fixed;
         for fit in fits.as_slice() {
-            self.put_at(Reason::Other, here, fit.word)?;
+            if is_free || !is_constant(fit.word) {
+                self.put_at(Reason::Other, here, fit.word)?;
+            }
         }
         self.put_each(Reason::Other, here, &PIECES)?;
         self.put_each(Reason::Other, here, &GUESSES)?;
@@ -467,7 +485,9 @@ impl<'a> Candidates<'a> {
             self.insert(there, word)?;
         }
         for word in words.as_slice() {
-            self.put_at(Reason::Other, here, word)?;
+            if !is_constant(word) {
+                self.put_at(Reason::Other, here, word)?;
+            }
         }
         self.is_guess = false;
         Ok(())
@@ -489,7 +509,7 @@ impl<'a> Candidates<'a> {
         Ok(())
     }
 
-    /// What may be missing at a byte in the middle of a word, or be meant in the place of the rest of it.
+    /// Signs that may be missing at a byte in the middle of a word, or be meant in the place of the rest of it.
     fn put_parts(&mut self, place: usize, end: usize) -> Result<(), AllocError> {
         self.is_guess = true;
         let middle = Lexeme {
@@ -524,4 +544,9 @@ fn is_opener(word: &[u8]) -> bool {
 /// Whether a byte is a sign that stands right behind a word.
 fn is_end(byte: &[u8]) -> bool {
     matches!(byte, b";" | b")" | b"," | b".")
+}
+
+/// Whether a word is a number or a string.
+pub(crate) fn is_constant(word: &[u8]) -> bool {
+    matches!(kind_of(word), Kind::Number | Kind::String)
 }

@@ -1,4 +1,4 @@
-//! What files are after an edit.
+//! Files after an edit.
 
 ghost use Rattle.std.specs.Prelude.{◌≡◌, ◌++◌, ◌≤◌, IfOk, IfSome, length, true};
 ghost use Rattle.cool_syntax.specs.declared.TheConstants.{MOST_FILES, MOST_SOURCE_BYTES};
@@ -9,7 +9,7 @@ use crate::edit::Edit;
 use cool_syntax::{MOST_FILES, MOST_SOURCE_BYTES};
 use std::alloc::{AllocError, Global};
 
-/// The edited files, or none where the range lies in none of them, or they are too large then. `Err` comes only for want of memory.
+/// The edited files, or none where the range lies in none of them, or they are too large then. Returns `Err` only if memory runs out.
 pub(crate) fn edited(
     alloc: Global,
     files: &[Vec<u8>],
@@ -39,7 +39,7 @@ pub(crate) fn edited(
     }
 }
 
-/// Adds copies of files. `Err` comes only for want of memory.
+/// Adds copies of files. Returns `Err` only if memory runs out.
 fn append_copies(alloc: Global, all: &mut Vec<Vec<u8>>, files: &[Vec<u8>]) -> Result<(), AllocError>
     ensures { IfOk result (λ _. bytes_of all.new.items ≡ bytes_of all.old.items ++ bytes_of files.now) }
 {
@@ -49,7 +49,7 @@ fn append_copies(alloc: Global, all: &mut Vec<Vec<u8>>, files: &[Vec<u8>]) -> Re
     Ok(())
 }
 
-/// The bytes with others in the place of a range. `Err` comes only for want of memory.
+/// The bytes with others in the place of a range. Returns `Err` only if memory runs out.
 fn replaced(
     alloc: Global,
     start: usize,

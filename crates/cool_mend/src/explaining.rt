@@ -12,15 +12,15 @@ ghost use Rattle.cool_mend.specs.Explanations.{AreExplained, AreMends, IsFaulty,
 use crate::explanation::{Explained, Explanation, Mend, Notice};
 use crate::noticing::notices;
 use crate::search::{Found, Search};
-use crate::trial::{fault_list, mends};
+use crate::trial::{fault_list, mending};
 use crate::types::{class_table, fault_methods, fault_types};
 use cool_classes::ClassTable;
 use cool_faults::Fault;
-use cool_guess::{Lexeme, advice, index_at, lexemes, other_definition, part};
+use cool_guess::{Lexeme, Source, advice, index_at, other_definition, part, type_advice};
 use std::alloc::{AllocError, Global};
 
-/// What is told of files: an explanation of each of their faults, in the order of the fault list, with an edit that was tried and mends it, where one
-/// was found. There are at most 64 files, and they have at most 1,048,576 bytes together. `Err` comes only for want of memory.
+/// An explanation of each fault of the files, in the order of the fault list, with an edit that was tried and mends it, if one was found. There are at
+/// most 64 files, and they have at most 1,048,576 bytes together. Returns `Err` only if memory runs out.
 pub fn explain(alloc: Global, files: &[Vec<u8>]) -> Result<Explained, AllocError>
     requires few { length files.now ≤ MOST_FILES }
     requires small { total (bytes_of files.now) ≤ MOST_SOURCE_BYTES }
@@ -42,7 +42,7 @@ pub fn explain(alloc: Global, files: &[Vec<u8>]) -> Result<Explained, AllocError
     })
 }
 
-/// The notices of files with this class table and these faults: none where there is a fault. `Err` comes only for want of memory.
+/// The notices of files with this class table and these faults: none where there is a fault. Returns `Err` only if memory runs out.
 fn noticed(
     alloc: Global,
     files: &[Vec<u8>],
@@ -62,7 +62,7 @@ fn noticed(
     }
 }
 
-/// The explanations of these faults of files. `Err` comes only for want of memory.
+/// The explanations of these faults of files. Returns `Err` only if memory runs out.
 fn explanations(
     alloc: Global,
     files: &[Vec<u8>],
@@ -76,20 +76,23 @@ fn explanations(
     ensures told { IfOk result (λ all. AllByRecursion (IsTold (bytes_of files.now)) all.items) }
     ensures mends { IfOk result (λ all. AreMends (bytes_of files.now) faults.now 0 all.items) }
 {
-    let mut search = Search::new(alloc, files, faults);
+    let sources = sources(alloc, files)?;
+    let mut search = Search::new(alloc, &sources, faults);
+    let mut left = MOST_TRIED_BYTES;
     let mut all = Vec::new(alloc);
     for number in 0..faults.len() {
         let found = search.find(number)?;
-        let mend = tried(alloc, files, faults, number, found)?;
-        all.push(explanation(alloc, files, classes, &faults[number], mend)?)?;
+        let mend = tried(alloc, files, faults, number, found, &mut left)?;
+        all.push(explanation(alloc, files, &sources, classes, &faults[number], mend)?)?;
     }
     Ok(all)
 }
 
-/// The explanation of a fault, with this mend. `Err` comes only for want of memory.
+/// The explanation of a fault, with this mend. Returns `Err` only if memory runs out.
 fn explanation(
     alloc: Global,
     files: &[Vec<u8>],
+    sources: &[Source<'_>],
     classes: &Option<ClassTable>,
     fault: &Fault,
     mend: Option<Mend>,
@@ -100,30 +103,31 @@ fn explanation(
     ensures mend { IfOk result (λ x. x.mend ≡ mend) }
 {
     let at = fault.place();
-    let bytes: &[u8] = match files.get(at.file as usize) {
-        Some(file) => file.as_slice(),
-        None => b"",
+    let (bytes, all): (&[u8], &[Lexeme]) = match sources.get(at.file as usize) {
+        Some(source) => (source.bytes, source.lexemes.as_slice()),
+        None => (b"", &[]),
     };
-    let all = lexemes(alloc, bytes)?;
-    let index = index_at(&all, at.byte as usize);
-    let here = lexeme_at(&all, index, bytes.len());
+    let index = index_at(all, at.byte as usize);
+    let here = lexeme_at(all, index, bytes.len());
     let word = part(bytes, here.start, here.end);
+    let mut said = advice(alloc, bytes, all, index)?;
+    said.append(&mut type_advice(alloc, fault)?)?;
     Ok(Explanation {
         fault: *fault,
         here,
         before: match index.checked_sub(1) {
-            Some(last) => lexeme_at(&all, last, bytes.len()),
+            Some(last) => lexeme_at(all, last, bytes.len()),
             None => Lexeme { start: 0, end: 0 },
         },
         types: fault_types(alloc, classes, fault)?,
         methods: fault_methods(alloc, classes, fault, word)?,
         other: other_definition(alloc, files, fault)?,
-        said: besides(alloc, advice(alloc, bytes, &all, index)?, &mend)?,
+        said: besides(alloc, said, &mend)?,
         mend,
     })
 }
 
-/// What is said, but for the words of a mend. `Err` comes only for want of memory.
+/// The words that are said, except those of a mend. Returns `Err` only if memory runs out.
 fn besides(
     alloc: Global,
     said: Vec<Vec<u8>>,
@@ -149,22 +153,55 @@ fn lexeme_at(lexemes: &[Lexeme], index: usize, end: usize) -> Lexeme {
     }
 }
 
-/// What was found for the fault of this number, where it mends it. `Err` comes only for want of memory.
+/// The most bytes of files that are tried for all faults.
+const MOST_TRIED_BYTES: usize = 8_388_608;
+
+/// The files as sources. Returns `Err` only if memory runs out.
+fn sources<'a>(alloc: Global, files: &'a [Vec<u8>]) -> Result<Vec<Source<'a>>, AllocError> {
+    let mut all = Vec::new(alloc);
+    for file in files {
+        all.push(Source::new(alloc, file)?)?;
+    }
+    Ok(all)
+}
+
+/// The first of the edits that mends the fault of this number in all of the files. If that is their only fault, an edit that leaves none goes before one
+/// that leaves another. Returns `Err` only if memory runs out.
 fn tried(
     alloc: Global,
     files: &[Vec<u8>],
     faults: &[Fault],
     number: usize,
-    found: Option<Found>,
+    found: Vec<Found>,
+    left: &mut usize,
 ) -> Result<Option<Mend>, AllocError>
     ensures { IfOk result (λ told. IfSome told (IsMend (bytes_of files.now) faults.now number)) }
 {
-    let Some(Found { edit, words }) = found else {
-        return Ok(None);
-    };
-    if mends(alloc, files, faults, number, &edit)? {
-        Ok(Some(Mend { edit, words }))
-    } else {
-        Ok(None)
+    let size = size_of(files);
+    let mut kept = None;
+    for each in found {
+        if size > *left {
+            return Ok(kept);
+        }
+        *left -= size;
+        let Found { edit, words } = each;
+        if let Some(rest) = mending(alloc, files, faults, number, &edit)? {
+            if rest == 0 || faults.len() > 1 {
+                return Ok(Some(Mend { edit, words }));
+            }
+            if kept.is_none() {
+                kept = Some(Mend { edit, words });
+            }
+        }
     }
+    Ok(kept)
+}
+
+/// The number of bytes of files, or the greatest number if it is smaller.
+fn size_of(files: &[Vec<u8>]) -> usize {
+    let mut size: usize = 0;
+    for file in files {
+        size = size.saturating_add(file.len());
+    }
+    size
 }

@@ -5,12 +5,12 @@ use cool_faults::Fault;
 use cool_guess::Lexeme;
 use cool_syntax::Place;
 
-/// What is told of files.
+/// All that is told of files.
 #[derive(Drop)]
 pub struct Explained {
     /// An explanation of each fault of their fault list, in its order.
     pub explanations: Vec<Explanation>,
-    /// Where they are a program: what is likely a mistake all the same, in the order of the text.
+    /// Warnings if the files are a program: likely mistakes, in the order of the text.
     pub notices: Vec<Notice>,
 }
 
@@ -26,9 +26,9 @@ pub struct Explanation {
     pub types: Option<Types>,
     /// Methods of the class in which the fault looked for one.
     pub methods: Option<Methods>,
-    /// Where the other definition stands of what is defined twice.
+    /// The place of the other definition of a thing that is defined twice.
     pub other: Option<Place>,
-    /// What else is said.
+    /// Further words.
     pub said: Vec<Vec<u8>>,
     pub mend: Option<Mend>,
 }
@@ -56,11 +56,11 @@ pub struct Mend {
     pub words: Vec<u8>,
 }
 
-/// What is legal, and likely a mistake.
+/// A warning: legal, and likely a mistake.
 #[derive(Drop)]
 pub struct Notice {
     pub at: Place,
-    /// Where the lexeme there ends.
+    /// The byte behind the lexeme there.
     pub end: usize,
     pub words: Vec<u8>,
 }

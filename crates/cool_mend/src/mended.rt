@@ -44,7 +44,7 @@ fn are_others(edit: &Edit, lines: Lines, before: &[Fault], number: usize, after:
     passed(edit, lines, &before[number + 1..], after, front) == after.len()
 }
 
-/// How far files with this fault list come: up to the phase of it, and past all where it is empty.
+/// The phase of the first fault of a fault list; one more than all phases if it is empty.
 pub(crate) fn reached(faults: &[Fault]) -> u32
     ensures { result ≡ reached faults.now }
 {
@@ -81,14 +81,14 @@ fn class_phase(kind: ClassKind) -> u32
     }
 }
 
-/// How many ends of lines an edit adds and takes.
+/// The numbers of ends of lines that an edit adds and takes.
 #[derive(Clone, Copy)]
 struct Lines {
     more: usize,
     less: usize,
 }
 
-/// How many lines end in some bytes.
+/// The number of lines that end in some bytes.
 fn line_ends(bytes: &[u8]) -> usize
     ensures { result ≡ line_ends bytes.now }
 {
@@ -101,7 +101,7 @@ fn line_ends(bytes: &[u8]) -> usize
     count
 }
 
-/// How many of the faults after an edit are passed, from one of this number on, where each of these faults before it passes one at most: itself.
+/// The number of faults after an edit that are passed, from one of this number on: each of these faults before it passes at most one, itself.
 fn passed(edit: &Edit, lines: Lines, faults: &[Fault], after: &[Fault], start: usize) -> usize
     requires start { start ≤ length after.now }
     ensures bound { result ≤ length after.now }
@@ -115,7 +115,7 @@ fn passed(edit: &Edit, lines: Lines, faults: &[Fault], after: &[Fault], start: u
     found
 }
 
-/// How many of the faults after an edit are passed, where so many were, and this fault passes the next one if that is itself.
+/// The number of faults after an edit that are passed if so many were, and this fault passes the next one if that is itself.
 fn next(edit: &Edit, lines: Lines, fault: &Fault, after: &[Fault], found: usize) -> usize
     requires bound { found ≤ length after.now }
     ensures bound { result ≤ length after.now }

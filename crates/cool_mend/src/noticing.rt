@@ -15,7 +15,7 @@ use std::alloc::{AllocError, Global};
 /// The most notices of a program that are told.
 pub const MOST_NOTICES: usize = 20;
 
-/// The first notices that are due in a program, feature by feature in the order of the text. `Err` comes only for want of memory.
+/// The first notices that are due in a program, feature by feature in the order of the text. Returns `Err` only if memory runs out.
 pub(crate) fn notices(
     alloc: Global,
     files: &[Vec<u8>],
@@ -33,7 +33,7 @@ pub(crate) fn notices(
     Ok(all)
 }
 
-/// Adds the notices that are due in a feature, until there are so many. `Err` comes only for want of memory.
+/// Adds the notices that are due in a feature, until there are so many. Returns `Err` only if memory runs out.
 fn add_of_feature(
     alloc: Global,
     files: &[Vec<u8>],
@@ -66,7 +66,7 @@ fn body_of(feature: &Feature) -> Option<&Body>
     }
 }
 
-/// A notice with its range and its words. `Err` comes only for want of memory.
+/// A notice with its range and its words. Returns `Err` only if memory runs out.
 fn told(alloc: Global, files: &[Vec<u8>], found: Found) -> Result<Notice, AllocError>
     ensures { IfOk result (λ notice. saying notice ≡ due_saying found) }
 {

@@ -1,428 +1,506 @@
-//! The search for an edit that mends a fault. It promises nothing of what it finds: `explaining.rt` tries that.
+//! The search for edits that may mend a fault. It tries candidates on an excerpt of the program and promises nothing of the edits that it finds:
+//! `explaining.rt` tries them on all files.
 
 ghost use Rattle.std.specs.Prelude.{◌≡◌, ◌≤◌, length, true};
 ghost use Rattle.cool_syntax.specs.declared.TheConstants.{MOST_SOURCE_BYTES};
 
 use crate::edit::Edit;
-use crate::editing::edited;
 use crate::mended::reached;
-use crate::trial::{fault_list, mends, text_fault};
+use crate::trial::{one_file_faults, text_fault};
+use cool_check::TypeFault;
 use cool_faults::Fault;
 use cool_guess::{
-    Candidate, Lexeme, Reason, difference, index_at, is_advised, lexemes, meaning_candidates, part,
-    reason_words, spliced, text_candidates,
+    Candidate, Excerpt, Program, Reason, Source, beside_candidates, difference, index_at,
+    is_advised, meaning_candidates, part, reason_words, spliced, text_candidates,
 };
+use cool_lexer::LexKind;
 use cool_syntax::MOST_SOURCE_BYTES;
 use std::alloc::{AllocError, Global};
 
-/// How many edits of a text one after the other are tried for a fault.
+/// The phase of the first faults of files that have trees.
+const FIRST_OF_TREES: u32 = 2;
+
+/// The most edits of a text, one after the other, that are tried for a fault.
 const MOST_STEPS: usize = 6;
 
-/// The most bytes that are tried for all faults.
-const MOST_TRIED_BYTES: usize = 67_108_864;
+/// The most bytes of excerpts that are tried for all faults.
+const MOST_TRIED_BYTES: usize = 8_388_608;
 
-/// The most fault lists that are made for a fault, the fewest that may be, and how many for all faults, as far as that goes.
-const MOST_LISTS: usize = 250;
+/// The number of bytes left below which no more edits are looked for.
+const FEWEST_BYTES: usize = 4096;
 
-const FEWEST_LISTS: usize = 4;
+/// The most excerpts that are tried in a round.
+const MOST_TRIALS: usize = 1000;
 
-const LISTS_FOR_ALL: usize = 1500;
+/// The most excerpts that are tried in a round if the files have many faults.
+const FEWEST_TRIALS: usize = 60;
 
-/// An edit that may mend a fault, and what is said of it.
+/// The excerpts that are shared out among the faults.
+const TRIALS_FOR_ALL: usize = 6000;
+
+/// The most edits that are found for a fault.
+const MOST_FOUND: usize = 8;
+
+/// The number of excerpts that are tried once an edit is found on which other features may depend.
+const MOST_MORE: usize = 40;
+
+/// An edit that may mend a fault, and the words on it.
 #[derive(Drop)]
 pub(crate) struct Found {
     pub(crate) edit: Edit,
     pub(crate) words: Vec<u8>,
 }
 
-/// The files, and how much may still be tried.
+/// The files, and the number of trials that are left.
 #[derive(Drop)]
 pub(crate) struct Search<'a> {
     alloc: Global,
-    files: &'a [Vec<u8>],
+    sources: &'a [Source<'a>],
     faults: &'a [Fault],
-    /// How many bytes may still be tried for all faults.
+    /// The number of bytes that may still be tried for all faults.
     left: usize,
-    /// How many fault lists may still be made for this fault.
-    lists: usize,
+    /// The number of excerpts that may still be tried in this round.
+    trials: usize,
 }
 
-/// What a round of trials finds.
+/// A text in the place of a file, and the reason for it.
+#[derive(Drop)]
+struct Changed {
+    text: Vec<u8>,
+    reason: Reason,
+}
+
+/// The result of a round of trials.
 #[derive(Drop)]
 enum Round {
-    /// A text without the fault.
-    Whole(Vec<u8>, Reason),
-    /// A text whose fault is further on, at this byte.
-    Further(Vec<u8>, usize, Reason),
+    /// Texts without the fault, the best first.
+    Ready(Vec<Changed>),
+    /// A text that has this fault further on.
+    Further(Changed, Fault),
     /// No such text.
     Nothing,
 }
 
-/// What becomes of a text by a candidate.
-#[derive(Drop)]
-enum Trial {
-    /// It has no fault of lexemes or syntax.
-    Tree(Vec<u8>),
-    /// Its first fault is at this byte.
-    Fault(Vec<u8>, usize),
-    /// No more may be tried.
-    Over,
+/// A fault of a text in the place of a file.
+#[derive(Clone, Copy)]
+struct Spot<'s> {
+    fault: Fault,
+    /// The number of the file.
+    file: u32,
+    /// The text.
+    here: &'s Source<'s>,
+    /// The position of the lexeme at the fault.
+    index: usize,
 }
 
-/// The best of the texts that were tried and are no program.
+impl<'s> Spot<'s> {
+    /// The spot of this fault of a text in the place of the file of a number.
+    fn new(fault: Fault, file: u32, here: &'s Source<'s>) -> Spot<'s> {
+        Spot {
+            fault,
+            file,
+            here,
+            index: index_at(&here.lexemes, fault.place().byte as usize),
+        }
+    }
+
+    /// The byte at which the fault is.
+    fn at(&self) -> usize {
+        self.fault.place().byte as usize
+    }
+
+    /// Whether the fault is one of lexemes or syntax.
+    fn is_text(&self) -> bool {
+        matches!(self.fault, Fault::Lex(_) | Fault::Syntax(_))
+    }
+
+    /// Whether no edit is told that leaves another fault.
+    fn is_closed(&self) -> bool {
+        self.is_text() && is_advised(self.here.bytes, &self.here.lexemes, self.index)
+    }
+}
+
+/// The best of the texts that were tried.
 #[derive(Drop)]
 struct Best {
-    round: Round,
-    /// Whether no text will do but a program.
-    is_closed: bool,
-    /// How many bytes stand behind the fault of the text whose fault is furthest on.
-    rest: usize,
-    /// How good the files are with the best text that has no fault of lexemes or syntax; 0 where there is none.
+    /// The phase of the excerpt's faults without a candidate, and their number.
+    phase: u32,
+    many: usize,
+    /// The texts that have no fault in the excerpt.
+    ready: Vec<Changed>,
+    /// The text that comes furthest of those that have a tree, and its rank.
+    tree: Option<Changed>,
     rank: u32,
+    /// The text whose fault is furthest on, that fault, and the number of bytes behind it in the excerpt.
+    further: Option<Changed>,
+    next: Option<Fault>,
+    rest: usize,
 }
 
 impl Best {
-    /// Takes note of a text whose first fault is at a byte.
-    fn note_fault(&mut self, candidate: &Candidate, new: Vec<u8>, next: usize) {
-        let rest = new.len().saturating_sub(next);
-        if self.rank == 0 && !self.is_closed && !candidate.is_guess && rest < self.rest {
-            self.rest = rest;
-            self.round = Round::Further(new, next, candidate.reason);
+    /// No text yet, for an excerpt with these faults.
+    fn new(alloc: Global, excerpt: &Excerpt, base: &[Fault]) -> Best {
+        Best {
+            phase: reached(base),
+            many: base.len(),
+            ready: Vec::new(alloc),
+            tree: None,
+            rank: rank_of(base),
+            further: None,
+            next: None,
+            rest: rest_of(&excerpt.text, base).saturating_sub(2),
         }
     }
 
-    /// Takes note of a text that has no fault of lexemes or syntax.
-    fn note_tree(&mut self, candidate: &Candidate, new: Vec<u8>, rank: u32) {
-        if rank > self.rank && !self.is_closed && !candidate.is_guess {
-            self.rank = rank;
-            self.round = Round::Whole(new, candidate.reason);
-        }
+    /// Whether there is no text.
+    fn is_nothing(&self) -> bool {
+        self.ready.is_empty() && self.tree.is_none() && self.further.is_none()
     }
-}
-
-/// The text of the file of a number that has a fault at a byte, and its lexemes.
-#[derive(Clone, Copy)]
-struct Text<'b> {
-    file: u32,
-    bytes: &'b [u8],
-    lexemes: &'b [Lexeme],
-    at: usize,
 }
 
 impl<'a> Search<'a> {
     /// A search for faults of these files, which are all that they have.
-    pub(crate) fn new(alloc: Global, files: &'a [Vec<u8>], faults: &'a [Fault]) -> Search<'a> {
+    pub(crate) fn new(alloc: Global, sources: &'a [Source<'a>], faults: &'a [Fault]) -> Search<'a> {
         Search {
             alloc,
-            files,
+            sources,
             faults,
             left: MOST_TRIED_BYTES,
-            lists: MOST_LISTS,
+            trials: MOST_TRIALS,
         }
     }
 
-    /// An edit that may mend the fault of this number.
-    pub(crate) fn find(&mut self, number: usize) -> Result<Option<Found>, AllocError> {
+    /// Edits that may mend the fault of this number, the likeliest first. Returns `Err` only if memory runs out.
+    pub(crate) fn find(&mut self, number: usize) -> Result<Vec<Found>, AllocError> {
         let Some(fault) = self.faults.get(number) else {
-            return Ok(None);
+            return Ok(Vec::new(self.alloc));
         };
-        let place = fault.place();
-        let Some(file) = self.files.get(place.file as usize) else {
-            return Ok(None);
+        let mut fault = *fault;
+        let file = fault.place().file;
+        let Some(source) = self.sources.get(file as usize) else {
+            return Ok(Vec::new(self.alloc));
         };
-        self.lists = lists_for_each(self.faults.len());
-        let mut bytes = Vec::from_slice(self.alloc, file.as_slice())?;
-        let mut at = place.byte as usize;
+        let mut bytes = Vec::from_slice(self.alloc, source.bytes)?;
         let mut first = None;
-        for _ in 0..MOST_STEPS {
-            match self.round(number, fault, place.file, &bytes, at)? {
-                Round::Whole(new, reason) => {
-                    let reason = first.unwrap_or(reason);
-                    return Ok(Some(self.found(place.file, &new, reason)?));
-                }
-                Round::Further(new, next, reason) => {
-                    bytes = new;
-                    at = next;
-                    first = Some(first.unwrap_or(reason));
-                }
-                Round::Nothing => return Ok(None),
+        for step in 0..MOST_STEPS {
+            if self.left < FEWEST_BYTES {
+                break;
             }
-        }
-        Ok(None)
-    }
-
-    /// The edit that leads to this text in the place of a file, and what is said of it.
-    fn found(&self, file: u32, new: &[u8], reason: Reason) -> Result<Found, AllocError> {
-        let edit = self.edit(file, new)?;
-        let old = part(self.old(file), edit.start, edit.end);
-        let words = reason_words(self.alloc, old, &edit.text, reason)?;
-        Ok(Found { edit, words })
-    }
-
-    /// The edit that leads to this text in the place of a file.
-    fn edit(&self, file: u32, new: &[u8]) -> Result<Edit, AllocError> {
-        let (start, end, text) = difference(self.alloc, self.old(file), new)?;
-        Ok(Edit {
-            file,
-            start,
-            end,
-            text,
-        })
-    }
-
-    /// The bytes of a file.
-    fn old(&self, file: u32) -> &'a [u8] {
-        match self.files.get(file as usize) {
-            Some(bytes) => bytes.as_slice(),
-            None => b"",
-        }
-    }
-
-    /// Tries the candidates for a fault at a byte of the text of a file.
-    fn round(
-        &mut self,
-        number: usize,
-        fault: &Fault,
-        file: u32,
-        bytes: &[u8],
-        at: usize,
-    ) -> Result<Round, AllocError> {
-        let found = lexemes(self.alloc, bytes)?;
-        let text = Text {
-            file,
-            bytes,
-            lexemes: &found,
-            at,
-        };
-        let index = index_at(&found, at);
-        match fault {
-            Fault::Lex(_) | Fault::Syntax(_) => {
-                let all = text_candidates(self.alloc, bytes, &found, index)?;
-                let is_lexical = matches!(fault, Fault::Lex(_));
-                self.try_text(text, index, is_lexical, &all)
-            }
-            _ => {
-                let all = meaning_candidates(self.alloc, self.files, fault, bytes, &found, index)?;
-                self.try_meaning(number, text, &all)
-            }
-        }
-    }
-
-    /// Tries candidates for a fault of lexemes or syntax: the first after which the files are a program, or else the one after which they come
-    /// furthest.
-    fn try_text(
-        &mut self,
-        text: Text<'_>,
-        index: usize,
-        is_lexical: bool,
-        all: &[Candidate],
-    ) -> Result<Round, AllocError> {
-        let (start, end) = if is_lexical {
-            (0, text.bytes.len())
-        } else {
-            class_around(text, index)
-        };
-        let mut best = Best {
-            round: Round::Nothing,
-            is_closed: is_advised(text.bytes, text.lexemes, index),
-            rest: text.bytes.len().saturating_sub(text.at).saturating_sub(2),
-            rank: 0,
-        };
-        for candidate in all {
-            match self.trial(text, candidate, start, end)? {
-                Trial::Over => return Ok(best.round),
-                Trial::Fault(new, next) => best.note_fault(candidate, new, next),
-                Trial::Tree(new) => {
-                    let rank = self.rank(text.file, &new)?;
-                    if rank == FAULTLESS {
-                        return Ok(Round::Whole(new, candidate.reason));
-                    }
-                    best.note_tree(candidate, new, rank);
-                }
-            }
-        }
-        Ok(best.round)
-    }
-
-    /// What becomes of a text by a candidate, of which the class in this range is looked at first.
-    fn trial(
-        &mut self,
-        text: Text<'_>,
-        candidate: &Candidate,
-        start: usize,
-        end: usize,
-    ) -> Result<Trial, AllocError> {
-        let splices = candidate.splices.as_slice();
-        let (start, end) = if are_within(candidate, start, end) {
-            (start, end)
-        } else {
-            (0, text.bytes.len())
-        };
-        let new = spliced(self.alloc, part(text.bytes, 0, end), splices)?;
-        let class = part(&new, start, new.len());
-        if !self.may_try(class) {
-            return Ok(Trial::Over);
-        }
-        let first = text_fault(self.alloc, text.file, class)?;
-        let mut whole = new;
-        whole.extend_from_slice(part(text.bytes, end, text.bytes.len()))?;
-        if let Some(place) = first {
-            let next = start.saturating_add(place.byte as usize);
-            return Ok(Trial::Fault(whole, next));
-        }
-        if !self.may_try(&whole) {
-            return Ok(Trial::Over);
-        }
-        match text_fault(self.alloc, text.file, &whole)? {
-            Some(place) => Ok(Trial::Fault(whole, place.byte as usize)),
-            None => Ok(Trial::Tree(whole)),
-        }
-    }
-
-    /// Whether these bytes may be tried, which then are.
-    fn may_try(&mut self, bytes: &[u8]) -> bool
-        ensures { result ≡ true → length bytes.now ≤ MOST_SOURCE_BYTES }
-    {
-        if bytes.len() > self.left || bytes.len() as u64 > MOST_SOURCE_BYTES {
-            return false;
-        }
-        self.left = self.left.saturating_sub(bytes.len());
-        true
-    }
-
-    /// How good the files are with this text in the place of a file: the more, the better, and 1 at least.
-    fn rank(&mut self, file: u32, text: &[u8]) -> Result<u32, AllocError> {
-        match self.faults_with(file, text)? {
-            Some(faults) => Ok(rank_of(&faults).max(1)),
-            None => Ok(1),
-        }
-    }
-
-    /// The fault list of the files with this text in the place of a file, where one may still be made.
-    fn faults_with(&mut self, file: u32, text: &[u8]) -> Result<Option<Vec<Fault>>, AllocError> {
-        let edit = self.edit(file, text)?;
-        let Some(new) = edited(self.alloc, self.files, &edit)? else {
-            return Ok(None);
-        };
-        let mut size: usize = 0;
-        for bytes in new.as_slice() {
-            size = size.saturating_add(bytes.len());
-        }
-        if size > self.left || self.lists == 0 {
-            return Ok(None);
-        }
-        self.left = self.left.saturating_sub(size);
-        self.lists = self.lists.saturating_sub(1);
-        Ok(Some(fault_list(self.alloc, &new)?))
-    }
-
-    /// Tries candidates for a fault of classes, features or typing: the first after which the files are a program, or else the first that mends
-    /// it, or else the one after which the fault of this number is furthest on.
-    fn try_meaning(
-        &mut self,
-        number: usize,
-        text: Text<'_>,
-        all: &[Candidate],
-    ) -> Result<Round, AllocError> {
-        let mut best = Round::Nothing;
-        let mut best_rest = text.bytes.len().saturating_sub(text.at).saturating_sub(2);
-        let mut is_whole = false;
-        for candidate in all {
-            let new = spliced(self.alloc, text.bytes, candidate.splices.as_slice())?;
-            let Some(faults) = self.faults_with(text.file, &new)? else {
-                return Ok(best);
+            self.trials = trials_for_each(self.faults.len());
+            let round = if step == 0 {
+                self.round(Spot::new(fault, file, source))?
+            } else {
+                let here = Source::new(self.alloc, &bytes)?;
+                self.round(Spot::new(fault, file, &here))?
             };
-            if faults.is_empty() {
-                return Ok(Round::Whole(new, candidate.reason));
-            }
-            if is_whole || candidate.is_guess {
-                continue;
-            }
-            if self.mends(number, text.file, &new, &faults)? {
-                is_whole = true;
-                best = Round::Whole(new, candidate.reason);
-                continue;
-            }
-            if let Some(next) = self.further(number, text.file, &faults) {
-                let rest = new.len().saturating_sub(next);
-                if rest < best_rest {
-                    best_rest = rest;
-                    best = Round::Further(new, next, candidate.reason);
+            match round {
+                Round::Ready(all) => return self.found(file, source.bytes, &all, first),
+                Round::Further(changed, next) => {
+                    first = Some(first.unwrap_or(changed.reason));
+                    fault = next;
+                    let Changed { text, .. } = changed;
+                    bytes = text;
                 }
+                Round::Nothing => break,
+            }
+        }
+        Ok(Vec::new(self.alloc))
+    }
+
+    /// The edits that lead to these texts in the place of a file, with the first reason for them if there is one.
+    fn found(
+        &self,
+        file: u32,
+        old: &[u8],
+        all: &[Changed],
+        first: Option<Reason>,
+    ) -> Result<Vec<Found>, AllocError> {
+        let mut found = Vec::new(self.alloc);
+        for changed in all {
+            let (start, end, text) = difference(self.alloc, old, &changed.text)?;
+            let reason = first.unwrap_or(changed.reason);
+            let words = reason_words(self.alloc, part(old, start, end), &text, reason)?;
+            let edit = Edit {
+                file,
+                start,
+                end,
+                text,
+            };
+            found.push(Found { edit, words })?;
+        }
+        Ok(found)
+    }
+
+    /// Tries the candidates for a fault.
+    fn round(&mut self, spot: Spot<'_>) -> Result<Round, AllocError> {
+        let (bytes, lexemes) = (spot.here.bytes, spot.here.lexemes.as_slice());
+        let all = if spot.is_text() {
+            text_candidates(self.alloc, bytes, lexemes, spot.index)?
+        } else {
+            meaning_candidates(
+                self.alloc,
+                self.sources,
+                &spot.fault,
+                bytes,
+                lexemes,
+                spot.index,
+            )?
+        };
+        let excerpt = self.excerpt(spot, &all)?;
+        if !self.may_try(&excerpt.text) {
+            return Ok(Round::Nothing);
+        }
+        let base = one_file_faults(self.alloc, &excerpt.text)?;
+        let mut best = self.best(spot, &all, &excerpt, &base)?;
+        if spot.is_text() {
+            return self.judged_text(spot, best);
+        }
+        if best.is_nothing() {
+            let guesses = beside_candidates(self.alloc, &spot.fault, bytes, lexemes, spot.index)?;
+            best = self.best(spot, &guesses, &excerpt, &base)?;
+        }
+        judged_meaning(best)
+    }
+
+    /// The best of the candidates in an excerpt that has these faults.
+    fn best(
+        &mut self,
+        spot: Spot<'_>,
+        all: &[Candidate],
+        excerpt: &Excerpt,
+        base: &[Fault],
+    ) -> Result<Best, AllocError> {
+        let is_closed = spot.is_closed();
+        let mut best = Best::new(self.alloc, excerpt, base);
+        let mut more = MOST_MORE;
+        for candidate in all {
+            if !best.ready.is_empty() {
+                if more == 0 {
+                    return Ok(best);
+                }
+                more = more.saturating_sub(1);
+            }
+            let Some(text) = excerpt.with(self.alloc, candidate)? else {
+                continue;
+            };
+            if !self.may_try(&text) {
+                return Ok(best);
+            }
+            let faults = one_file_faults(self.alloc, &text)?;
+            if faults.is_empty() {
+                best.ready.push(self.changed(spot, candidate)?)?;
+                if best.ready.len() >= MOST_FOUND || is_within(spot.here, candidate) {
+                    return Ok(best);
+                }
+            } else if !is_closed && !candidate.is_guess {
+                self.note(spot, excerpt, candidate, &text, &faults, &mut best)?;
             }
         }
         Ok(best)
     }
 
-    /// Whether the fault of this number is mended by a text in the place of a file, with which the files have this fault list.
-    fn mends(
+    /// Takes note of a candidate with which the excerpt is this text with these faults, if it is better than the best one.
+    fn note(
         &self,
-        number: usize,
-        file: u32,
+        spot: Spot<'_>,
+        excerpt: &Excerpt,
+        candidate: &Candidate,
         text: &[u8],
         faults: &[Fault],
-    ) -> Result<bool, AllocError> {
-        if rank_of(faults) <= rank_of(self.faults) {
-            return Ok(false);
-        }
-        let edit = self.edit(file, text)?;
-        mends(self.alloc, self.files, self.faults, number, &edit)
-    }
-
-    /// At which byte the fault of this number stands in this list, where it has as many as before and that one in the same file.
-    fn further(&self, number: usize, file: u32, faults: &[Fault]) -> Option<usize> {
-        if rank_of(faults) != rank_of(self.faults) {
-            return None;
-        }
-        let place = faults.get(number)?.place();
-        if place.file == file {
-            Some(place.byte as usize)
+        best: &mut Best,
+    ) -> Result<(), AllocError> {
+        let rank = rank_of(faults);
+        let is_further = if spot.is_text() {
+            reached(faults) < FIRST_OF_TREES
         } else {
-            None
+            reached(faults) == best.phase
+        };
+        if rank > best.rank && (!spot.is_text() || !is_further) {
+            best.rank = rank;
+            best.tree = Some(self.changed(spot, candidate)?);
         }
+        let rest = rest_of(text, faults);
+        if is_further && faults.len() == best.many && rest < best.rest {
+            best.rest = rest;
+            best.further = Some(self.changed(spot, candidate)?);
+            best.next = next_of(excerpt, faults, candidate);
+        }
+        Ok(())
     }
-}
 
-/// The range of the class in which a fault of syntax is told, and of the one in front of it where it is told at the head of the next. All in front
-/// of it is good, and what stands behind it is looked at once the class is.
-fn class_around(text: Text<'_>, index: usize) -> (usize, usize) {
-    let mut start = 0;
-    let mut end = text.bytes.len();
-    for there in 0..text.lexemes.len() {
-        let lexeme = text.lexemes[there];
-        if part(text.bytes, lexeme.start, lexeme.end).eq_ignore_ascii_case(b"class") {
-            if there < index {
-                start = lexeme.start;
-            } else if there > index {
-                end = lexeme.start;
-                break;
+    /// The result of a round for a fault of lexemes or syntax: the best text, if its first such fault, if any, is further on.
+    fn judged_text(&mut self, spot: Spot<'_>, best: Best) -> Result<Round, AllocError> {
+        let Best {
+            mut ready,
+            tree,
+            further,
+            ..
+        } = best;
+        if ready.is_empty() {
+            if let Some(changed) = tree.or(further) {
+                ready.push(changed)?;
             }
         }
+        let Some(first) = ready.first() else {
+            return Ok(Round::Nothing);
+        };
+        self.trials = self.trials.max(1);
+        if !self.may_try(&first.text) {
+            return Ok(Round::Nothing);
+        }
+        let Some(fault) = text_fault(self.alloc, spot.file, &first.text)? else {
+            return Ok(Round::Ready(ready));
+        };
+        let rest = first.text.len().saturating_sub(fault.place().byte as usize);
+        if rest.saturating_add(2) >= spot.here.bytes.len().saturating_sub(spot.at()) {
+            return Ok(Round::Nothing);
+        }
+        let changed = Changed {
+            text: Vec::from_slice(self.alloc, &first.text)?,
+            reason: first.reason,
+        };
+        Ok(Round::Further(changed, fault))
     }
-    (start, end)
+
+    /// The excerpt for a fault, or all of the files if the excerpt has another fault.
+    fn excerpt(&mut self, spot: Spot<'_>, all: &[Candidate]) -> Result<Excerpt, AllocError> {
+        let program = Program {
+            sources: self.sources,
+            number: spot.file as usize,
+            here: spot.here,
+        };
+        let range = match spot.fault {
+            // A comment is not closed: its end may be missing anywhere behind it.
+            Fault::Lex(fault) if fault.kind == LexKind::L5 => {
+                return Excerpt::whole(self.alloc, program);
+            }
+            Fault::Lex(_) | Fault::Syntax(_) => spot.here.stretch_around(spot.at()),
+            Fault::Class(_) => spot.here.class_around(spot.at()),
+            _ => spot.here.feature_around(spot.at()),
+        };
+        let is_all = matches!(spot.fault, Fault::Class(_));
+        let excerpt = Excerpt::around(self.alloc, program, range, all, is_all)?;
+        if self.may_try(&excerpt.text) {
+            let found = one_file_faults(self.alloc, &excerpt.text)?;
+            if is_same(&excerpt, &found, spot) {
+                return Ok(excerpt);
+            }
+        }
+        Excerpt::whole(self.alloc, program)
+    }
+
+    /// The text of a spot with a candidate.
+    fn changed(&self, spot: Spot<'_>, candidate: &Candidate) -> Result<Changed, AllocError> {
+        Ok(Changed {
+            text: spliced(self.alloc, spot.here.bytes, candidate.splices.as_slice())?,
+            reason: candidate.reason,
+        })
+    }
+
+    /// Whether these bytes may be tried; if so, they are counted.
+    fn may_try(&mut self, bytes: &[u8]) -> bool
+        ensures { result ≡ true → length bytes.now ≤ MOST_SOURCE_BYTES }
+    {
+        if self.trials == 0 || bytes.len() > self.left || bytes.len() as u64 > MOST_SOURCE_BYTES {
+            return false;
+        }
+        self.trials = self.trials.saturating_sub(1);
+        self.left = self.left.saturating_sub(bytes.len());
+        true
+    }
 }
 
-/// Whether all that a candidate changes lies in a range.
-fn are_within(candidate: &Candidate, start: usize, end: usize) -> bool {
+/// The result of a round for a fault of classes, features or typing.
+fn judged_meaning(best: Best) -> Result<Round, AllocError> {
+    let Best {
+        mut ready,
+        tree,
+        further,
+        next,
+        ..
+    } = best;
+    if ready.is_empty() {
+        if let Some(changed) = tree {
+            ready.push(changed)?;
+        }
+    }
+    if !ready.is_empty() {
+        return Ok(Round::Ready(ready));
+    }
+    match (further, next) {
+        (Some(changed), Some(fault)) => Ok(Round::Further(changed, fault)),
+        _ => Ok(Round::Nothing),
+    }
+}
+
+/// Whether the first fault of an excerpt is that of a spot.
+fn is_same(excerpt: &Excerpt, found: &[Fault], spot: Spot<'_>) -> bool {
+    let Some(first) = found.first() else {
+        return false;
+    };
+    let is_there = excerpt.place(spot.at(), spot.at()) == Some(first.place().byte as usize);
+    match (first, spot.fault) {
+        (Fault::Lex(_), Fault::Lex(_)) | (Fault::Syntax(_), Fault::Syntax(_)) => is_there,
+        (Fault::Class(a), Fault::Class(b)) => a.kind == b.kind,
+        (Fault::Typing(a), Fault::Typing(b)) => a.kind == b.kind && is_there,
+        _ => false,
+    }
+}
+
+/// Whether all that a candidate changes lies in the body of a feature.
+fn is_within(here: &Source<'_>, candidate: &Candidate) -> bool {
     for splice in candidate.splices.as_slice() {
-        if splice.start < start || splice.end > end {
+        if !here.is_in_body(splice.start) {
             return false;
         }
     }
     true
 }
 
-/// How many fault lists may be made for each of so many faults.
-fn lists_for_each(many: usize) -> usize {
-    (LISTS_FOR_ALL / many.max(1))
-        .max(FEWEST_LISTS)
-        .min(MOST_LISTS)
+/// The number of bytes of a text behind the first of its faults.
+fn rest_of(text: &[u8], faults: &[Fault]) -> usize {
+    match faults.first() {
+        Some(fault) => text.len().saturating_sub(fault.place().byte as usize),
+        None => 0,
+    }
 }
 
-/// The rank of files with no fault.
-const FAULTLESS: u32 = 5_000_000;
+/// The first fault of an excerpt with a candidate, at its place in the file with the candidate. Its types are those of the excerpt, and left out.
+fn next_of(excerpt: &Excerpt, faults: &[Fault], candidate: &Candidate) -> Option<Fault> {
+    let Some(Fault::Typing(fault)) = faults.first() else {
+        return None;
+    };
+    let mut more: usize = 0;
+    let mut less: usize = 0;
+    for splice in candidate.splices.as_slice() {
+        more = more.saturating_add(splice.text.len());
+        less = less.saturating_add(splice.end.saturating_sub(splice.start));
+    }
+    let before = (fault.at.byte as usize)
+        .saturating_add(less)
+        .checked_sub(more)?;
+    let byte = excerpt
+        .origin(before)?
+        .saturating_add(more)
+        .saturating_sub(less);
+    let mut at = fault.at;
+    at.byte = u32::try_from(byte).ok()?;
+    Some(Fault::Typing(TypeFault {
+        kind: fault.kind,
+        at,
+        found: None,
+        due: None,
+    }))
+}
 
-/// How good files with this fault list are: the further they come, and the fewer faults, the better.
+/// The most excerpts that are tried in a round if the files have so many faults.
+fn trials_for_each(many: usize) -> usize {
+    (TRIALS_FOR_ALL / many.max(1))
+        .max(FEWEST_TRIALS)
+        .min(MOST_TRIALS)
+}
+
+/// A number that is greater the better the files with this fault list are: the later their first phase with faults, and then the fewer faults.
 fn rank_of(faults: &[Fault]) -> u32 {
     let many = faults.len().min(999_999) as u32;
     reached(faults)

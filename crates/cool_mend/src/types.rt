@@ -19,7 +19,7 @@ use std::alloc::{AllocError, Global};
 /// The most methods of a class that are told.
 const MOST_METHODS: usize = 24;
 
-/// The class table that files are, or none. `Err` comes only for want of memory.
+/// The class table that files are, or none. Returns `Err` only if memory runs out.
 pub(crate) fn class_table(
     alloc: Global,
     files: &[Vec<u8>],
@@ -35,7 +35,7 @@ pub(crate) fn class_table(
     }
 }
 
-/// The types of a fault that do not fit, where it has such, and there is a class table. `Err` comes only for want of memory.
+/// The types of a fault that do not fit, where it has such, and there is a class table. Returns `Err` only if memory runs out.
 pub(crate) fn fault_types(
     alloc: Global,
     classes: &Option<ClassTable>,
@@ -49,7 +49,7 @@ pub(crate) fn fault_types(
     }
 }
 
-/// Methods of the class in which a fault looked for the one of this name, where there is a class table. `Err` comes only for want of memory.
+/// Methods of the class in which a fault looked for the one of this name, where there is a class table. Returns `Err` only if memory runs out.
 pub(crate) fn fault_methods(
     alloc: Global,
     classes: &Option<ClassTable>,
@@ -64,7 +64,7 @@ pub(crate) fn fault_methods(
     }
 }
 
-/// The types of a fault that do not fit, where it has such. `Err` comes only for want of memory.
+/// The types of a fault that do not fit, where it has such. Returns `Err` only if memory runs out.
 fn types_of(alloc: Global, classes: &ClassTable, fault: &Fault) -> Result<Option<Types>, AllocError>
     ensures { IfOk result (λ told. IfSome told (AreTypes classes.now fault.now)) }
 {
@@ -86,7 +86,7 @@ fn types_of(alloc: Global, classes: &ClassTable, fault: &Fault) -> Result<Option
     }
 }
 
-/// How a type is written, where it is one of the table. `Err` comes only for want of memory.
+/// The text of a type, if it is one of the table. Returns `Err` only if memory runs out.
 fn type_text(alloc: Global, classes: &ClassTable, ty: Ty) -> Result<Option<Vec<u8>>, AllocError>
     ensures { IfOk result (λ text. IfSome text (λ it. it.items ≡ type_text classes.now ty)) }
 {
@@ -102,8 +102,8 @@ fn type_text(alloc: Global, classes: &ClassTable, ty: Ty) -> Result<Option<Vec<u
     }
 }
 
-/// Methods of the class in which a fault looked for one: that of this name, or where there is none those that the class has, at most so many. `Err`
-/// comes only for want of memory.
+/// Methods of the class in which a fault looked for one: that of this name, or where there is none those that the class has, at most so many. Returns
+/// `Err` only if memory runs out.
 fn methods_of(
     alloc: Global,
     classes: &ClassTable,
@@ -132,7 +132,7 @@ fn methods_of(
     }
 }
 
-/// The method of this name that a class has, or where it has none those that it has, at most so many. `Err` comes only for want of memory.
+/// The method of this name that a class has, or where it has none those that it has, at most so many. Returns `Err` only if memory runs out.
 fn named_or_all(
     alloc: Global,
     classes: &ClassTable,
@@ -151,7 +151,7 @@ fn named_or_all(
     Ok(all)
 }
 
-/// Adds the methods that a class has, each once, at most so many in all. `Err` comes only for want of memory.
+/// Adds the methods that a class has, each once, at most so many in all. Returns `Err` only if memory runs out.
 fn add_methods(
     alloc: Global,
     classes: &ClassTable,
@@ -181,7 +181,7 @@ fn add_methods(
     Ok(())
 }
 
-/// Adds the method of a class that has the name of a feature, where that is a method, as `add_method` does. `Err` comes only for want of memory.
+/// Adds the method of a class that has the name of a feature, where that is a method, as `add_method` does. Returns `Err` only if memory runs out.
 fn add_feature(
     alloc: Global,
     classes: &ClassTable,
@@ -199,7 +199,7 @@ fn add_feature(
     }
 }
 
-/// Adds the method of this name that a class has, if it has one, and it is not there, and they are not too many. `Err` comes only for want of memory.
+/// Adds the method of this name that a class has, if it has one, and it is not there, and they are not too many. Returns `Err` only if memory runs out.
 fn add_method(
     alloc: Global,
     classes: &ClassTable,

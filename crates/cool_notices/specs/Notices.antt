@@ -1,4 +1,4 @@
--- What is legal in a program and likely a mistake, by the forms of expressions alone: the notices that are due in an expression.
+-- The notices that are due in an expression: forms that are legal and likely a mistake.
 use Rattle.std.specs.Prelude.{◌≡◌, ℕ, zero, ◌-◌, List, [], ◌∷◌, ◌++◌, length, take, Bool, true, false, bytes_eq, Option, Some, None, option_map, unwrap_or, is_some, if◌then◌else◌, codes, refl}
 use Rattle.std.specs.Option.{option_to_list}
 use Rattle.cool_syntax.specs.declared.operator.ArithOp.{ArithOp}

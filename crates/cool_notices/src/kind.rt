@@ -30,7 +30,7 @@ pub struct Notice {
 }
 
 impl NoticeKind {
-    /// What is said of it.
+    /// Its words.
     pub fn words(self) -> &'static str
         ensures { result.now ≡ words self }
     {

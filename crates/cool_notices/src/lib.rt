@@ -1,6 +1,6 @@
 //! What is legal in a program, and likely a mistake.
 //!
-//! Comes in: the body of a feature. Goes out: notices, each with its kind and its place. `specs/Notices.antt` defines what each says.
+//! Input: the body of a feature. Output: notices, each with its kind and its place. `specs/Notices.antt` defines what each says.
 #![tactic(auto)]
 
 mod kind;

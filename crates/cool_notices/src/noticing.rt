@@ -10,7 +10,7 @@ use crate::kind::{Notice, NoticeKind};
 use cool_syntax::{ArithOp, Body, CompareOp, Name, Node, NodeId, Place};
 use std::alloc::{AllocError, Global};
 
-/// The first of the notices that are due in a body, so many: those of an expression after those of its parts. `Err` comes only for want of memory.
+/// The first notices that are due in a body, at most so many: those of an expression after those of its parts. Returns `Err` only if memory runs out.
 pub fn body_notices(alloc: Global, body: &Body, most: usize) -> Result<Vec<Notice>, AllocError>
     ensures { IfOk result (λ all. all.items ≡ take most (due_notices body.now)) }
 {
@@ -23,7 +23,7 @@ pub fn body_notices(alloc: Global, body: &Body, most: usize) -> Result<Vec<Notic
     Ok(all)
 }
 
-/// Adds a notice, where there is one and there are not so many yet. `Err` comes only for want of memory.
+/// Adds a notice, where there is one and there are not so many yet. Returns `Err` only if memory runs out.
 fn add(all: &mut Vec<Notice>, most: usize, notice: Option<Notice>) -> Result<(), AllocError>
     ensures { OnOk result (all.new.items ≡ up_to most all.old.items (option_to_list notice)) }
 {
@@ -34,7 +34,7 @@ fn add(all: &mut Vec<Notice>, most: usize, notice: Option<Notice>) -> Result<(),
     Ok(())
 }
 
-/// Adds the notices of the items of a block but the last; none of another expression. `Err` comes only for want of memory.
+/// Adds the notices of the items of a block but the last; none of another expression. Returns `Err` only if memory runs out.
 fn add_idle(body: &Body, id: NodeId, most: usize, all: &mut Vec<Notice>) -> Result<(), AllocError>
     requires below { id.0 < tree_size body.now }
     ensures { OnOk result (all.new.items ≡ up_to most all.old.items (block_notices (tree_at body.now id))) }
@@ -61,7 +61,7 @@ fn idle_notice(body: &Body, id: NodeId) -> Option<Notice>
     })
 }
 
-/// Which notice is due at an expression whose value is not used.
+/// The notice that is due at an expression whose value is not used.
 fn idle_kind(body: &Body, id: NodeId) -> Option<NoticeKind>
     requires below { id.0 < tree_size body.now }
     ensures { result ≡ idle_kind (tree_at body.now id) }

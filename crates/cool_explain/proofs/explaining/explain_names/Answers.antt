@@ -1,4 +1,4 @@
--- What is told was written, or a write failed; else just a note.
+-- The text was written, or a write failed; else there is only a note.
 use Rattle.std.proofs.Common.{◌∙◌, ℕ, List, ◌++◌, ap, inl, map, sym, subst, append-nil}
 use Rattle.std.specs.Prelude.{Bool, string_bytes}
 use Rattle.cool_ports.specs.SinkBytes.{appended}

@@ -1,4 +1,4 @@
--- What is told is what `explain` gives.
+-- The text is that of the result of `explain`.
 use Rattle.std.proofs.Common.{List, subst}
 use Rattle.cool_mend.specs.declared.explanation.Explanation.{Explanation}
 use Rattle.cool_explain.specs.Ends.{HasFaults}

@@ -1,4 +1,4 @@
--- What holds of devices that did nothing before.
+-- The clauses for devices that did nothing before.
 use Rattle.std.specs.Prelude.{true, false}
 use Rattle.cool_sources.proofs.FreshShelves.{after_none, were_unread}
 use Rattle.cool_explain.proofs.FreshDevices.{has_explained, was_cut_short}

@@ -1,4 +1,4 @@
--- What stands below the bytes so far.
+-- The marks below the bytes so far.
 use Rattle.std.proofs.Common.{◌≡◌, ◌++◌, drop}
 use Rattle.std.specs.List.{flat_map}
 use Rattle.cool_explain.specs.SourceLines.{blank_of}

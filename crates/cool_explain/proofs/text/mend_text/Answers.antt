@@ -1,4 +1,4 @@
--- What is said of a mend, and behind it the lines.
+-- The words on a mend, and behind them the lines.
 use Rattle.std.proofs.Common.{◌∙◌, ℕ, List, ◌++◌, ap, map}
 use Rattle.std.specs.Prelude.{string_bytes}
 use Rattle.cool_explain.specs.Changes.{changed_text}

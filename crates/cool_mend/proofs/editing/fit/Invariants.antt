@@ -1,4 +1,4 @@
--- What the files so far have is taken of the limit.
+-- The bytes of the files so far are subtracted from the limit.
 use Rattle.std.proofs.Common.{◌≡◌, ◌+◌, drop}
 use Rattle.cool_syntax.specs.declared.TheConstants.{MOST_SOURCE_BYTES}
 use Rattle.cool_faults.specs.Files.{bytes_of, total}

@@ -1,0 +1,383 @@
+//! Candidates for declarations and statements of Java, C and Python: the forms of Cool that mean the same.
+
+use crate::candidate::{Candidate, Candidates, Reason, Splice};
+use crate::definition::is_class;
+use crate::kind::{Kind, is_one_of, kind_of};
+use crate::lexeme::{Lexeme, index_at, line_length, part};
+use crate::names::BASIC_METHODS;
+use crate::signs::TYPES;
+use std::alloc::AllocError;
+
+/// The signs behind the name in a declaration `int x = 5;`, `int x <- 5;` or `int x;`.
+static BEHIND_VARIABLES: [&str; 3] = ["=", "<-", ";"];
+
+/// The comparisons, which are not joined.
+static COMPARISONS: [&str; 3] = ["<", "<=", "="];
+
+/// Names of the object whose method is called.
+static OWN: [&str; 2] = ["self", "this"];
+
+/// The signs behind a statement.
+static BEHIND_STATEMENTS: [&str; 2] = [";", "}"];
+
+/// The words that begin a line which brings in another file.
+static IMPORTS: [&str; 4] = ["import", "include", "package", "using"];
+
+/// The signs in front of a formal.
+static BEFORE_FORMALS: [&str; 2] = ["(", ","];
+
+/// The signs in front of a feature.
+static BEFORE_FEATURES: [&str; 2] = ["{", ";"];
+
+/// The methods that print.
+static PRINTING: [&str; 2] = ["out_string", "out_int"];
+
+/// The most lexemes of an import that are looked at.
+const LOOKED_FOR_IMPORT: usize = 12;
+
+impl<'a> Candidates<'a> {
+    /// Adds the candidates for a fault of lexemes or syntax at a position.
+    pub(crate) fn add_statements(&mut self, index: usize) -> Result<(), AllocError> {
+        self.add_local(index)?;
+        self.add_local(index.saturating_sub(1))?;
+        self.add_method(index)?;
+        self.add_method(index.saturating_sub(1))?;
+        self.add_counted(index)?;
+        self.add_counted_down(index)?;
+        self.add_called(index)?;
+        self.add_own(index)?;
+        self.add_chained(index)?;
+        self.add_printed(index)?;
+        self.add_missing_end(index)?;
+        self.add_import(index)
+    }
+
+    /// No `self` as a formal; the type of a branch for all other values; the end of a class in front of the next one.
+    fn add_missing_end(&mut self, index: usize) -> Result<(), AllocError> {
+        let word = self.word(index);
+        let last = self.before(index, 1);
+        if word == b",".as_slice() && self.text(last) == b"self".as_slice() {
+            let said = Reason::Said("`self` is no formal: it is always there");
+            let end = self.lexeme(index.saturating_add(1)).start;
+            return self.put(said, last.start, end, b"");
+        }
+        if word == b"=>".as_slice() {
+            let said = Reason::Said("a branch for all other values is one of Object");
+            return self.put(said, last.end, last.end, b" : Object");
+        }
+        if is_class(word) {
+            return self.put(Reason::Missing, last.end, last.end, b"\n};");
+        }
+        Ok(())
+    }
+
+    /// `int x = 5; ..` in a block as `let x : Int <- 5 in { .. };`, and elsewhere as `x : Int <- 5`.
+    fn add_local(&mut self, index: usize) -> Result<(), AllocError> {
+        let class = self.lexeme(index);
+        let name = self.lexeme(index.saturating_add(1));
+        let sign = index.saturating_add(2);
+        let is_one = matches!(kind_of(self.text(class)), Kind::Object | Kind::Type)
+            && kind_of(self.text(name)) == Kind::Object;
+        if !is_one || !is_one_of(&BEHIND_VARIABLES, self.word(sign)) {
+            return Ok(());
+        }
+        let ty = self.cool_type(index)?;
+        let has_value = self.word(sign) != b";".as_slice();
+        let end = if has_value {
+            self.lexeme(sign).end
+        } else {
+            name.end
+        };
+        let given: &'static [u8] = if has_value { b" <-" } else { b"" };
+        let text = self.declared_as(self.text(name), &ty, given)?;
+        let semicolon = self.expression_end(sign);
+        let close = self.block_end(semicolon.saturating_add(1));
+        if self.word(semicolon) == b";".as_slice() && self.word(close) == b"}".as_slice() {
+            let mut let_text = Vec::from_slice(self.alloc, b"let ")?;
+            let_text.extend_from_slice(&text)?;
+            let first = self.splice(class.start, end, &let_text)?;
+            self.put_let(first, self.lexeme(semicolon), self.lexeme(close).start)?;
+        }
+        let said = Reason::Said("a type stands behind its name: `x : C`");
+        self.put(said, class.start, end, &text)
+    }
+
+    /// The head of a `let`, ` in {` in the place of the semicolon behind it, and `}` in front of the brace that begins at a byte.
+    fn put_let(
+        &mut self,
+        first: Splice,
+        semicolon: Lexeme,
+        close: usize,
+    ) -> Result<(), AllocError> {
+        let said = Reason::Said("a variable is declared by `let`, and known in its body alone");
+        let second = self.splice(semicolon.start, semicolon.end, b" in {")?;
+        let third = self.splice(close, close, b"}; ")?;
+        self.put_three(said, first, second, third)
+    }
+
+    /// A name, its type, and the sign in front of its value.
+    fn declared_as(&self, name: &[u8], ty: &[u8], given: &[u8]) -> Result<Vec<u8>, AllocError> {
+        let mut text = Vec::from_slice(self.alloc, name)?;
+        text.extend_from_slice(b" : ")?;
+        text.extend_from_slice(ty)?;
+        text.extend_from_slice(given)?;
+        Ok(text)
+    }
+
+    /// The type of Cool for the one at a position.
+    fn cool_type(&self, index: usize) -> Result<Vec<u8>, AllocError> {
+        let word = self.word(index);
+        for (other, ours) in &TYPES {
+            if other.as_bytes() == word {
+                return Vec::from_slice(self.alloc, ours.as_bytes());
+            }
+        }
+        let mut text = Vec::from_slice(self.alloc, word)?;
+        if let Some(first) = text.first_mut() {
+            *first = first.to_ascii_uppercase();
+        }
+        Ok(text)
+    }
+
+    /// `++n` as `n <- n + 1`.
+    fn add_counted(&mut self, index: usize) -> Result<(), AllocError> {
+        let name = self.lexeme(index.saturating_add(2));
+        let word = self.text(name);
+        if self.word(index) == b"+".as_slice()
+            && self.word(index.saturating_add(1)) == b"+".as_slice()
+            && kind_of(word) == Kind::Object
+        {
+            let text = self.joined(&[word, b" <- ", word, b" + 1"])?;
+            let said = Reason::Said("a variable is counted by `x <- x + 1`");
+            self.put(said, self.lexeme(index).start, name.end, &text)?;
+        }
+        Ok(())
+    }
+
+    /// `n--` as `n <- n - 1`, where `--` begins a comment up to the end of the line.
+    fn add_counted_down(&mut self, index: usize) -> Result<(), AllocError> {
+        let last = self.before(index, 1);
+        let word = self.text(last);
+        let behind = part(self.bytes, last.end, self.bytes.len());
+        if kind_of(word) == Kind::Object && matches!(behind, [b'-', b'-', ..]) {
+            let text = self.joined(&[word, b" <- ", word, b" - 1;"])?;
+            let said = Reason::Said("`--` begins a comment: a variable is counted by `x <- x - 1`");
+            let end = last.end.saturating_add(line_length(behind));
+            self.put(said, last.start, end, &text)?;
+        }
+        Ok(())
+    }
+
+    /// `f x` as `f(x)`.
+    fn add_called(&mut self, index: usize) -> Result<(), AllocError> {
+        let last = self.before(index, 1);
+        let here = self.lexeme(index);
+        let is_operand = matches!(
+            kind_of(self.text(here)),
+            Kind::Object | Kind::Number | Kind::String
+        );
+        if kind_of(self.text(last)) != Kind::Object
+            || !is_operand
+            || !self.is_method(self.text(last))
+        {
+            return Ok(());
+        }
+        let end = self.before(self.expression_end(index), 1).end;
+        let first = self.splice(last.end, here.start, b"(")?;
+        let second = self.splice(end, end, b")")?;
+        let said = Reason::Said("the arguments of a call stand in parentheses");
+        self.put_two(said, first, second)
+    }
+
+    /// Whether a word names a method: one of a basic class, or one that the text has.
+    fn is_method(&self, word: &[u8]) -> bool {
+        if is_one_of(&BASIC_METHODS, word) {
+            return true;
+        }
+        for index in 0..self.lexemes.len() {
+            if self.word(index) == word && self.word(index.saturating_add(1)) == b"(".as_slice() {
+                return true;
+            }
+        }
+        false
+    }
+
+    /// `self.x` and `this.x` as `x`.
+    fn add_own(&mut self, index: usize) -> Result<(), AllocError> {
+        let object = self.before(index, 3);
+        let name = self.word_before(index, 1);
+        // The value is a variable of that name, which hides the attribute.
+        let is_hidden = self.word(index.saturating_add(1)) == name
+            && is_one_of(&BEHIND_STATEMENTS, self.word(index.saturating_add(2)));
+        if !is_hidden
+            && self.word_before(index, 2) == b".".as_slice()
+            && is_one_of(&OWN, self.text(object))
+        {
+            let said = Reason::Said("an attribute stands alone: `x` for `self.x`");
+            self.put(said, object.start, self.before(index, 1).start, b"")?;
+        }
+        Ok(())
+    }
+
+    /// `a < b < c` as `if a < b then b < c else false fi`.
+    fn add_chained(&mut self, index: usize) -> Result<(), AllocError> {
+        if !is_one_of(&COMPARISONS, self.word(index)) {
+            return Ok(());
+        }
+        let start = self.expression_start(index);
+        let middle = self.operand_start(index);
+        if middle <= start || !is_one_of(&COMPARISONS, self.word_before(middle, 1)) {
+            return Ok(());
+        }
+        let end = self.expression_end(index);
+        let text = self.joined(&[
+            b"if ",
+            self.between(start, index),
+            b" then ",
+            self.between(middle, end),
+            b" else false fi",
+        ])?;
+        let said = Reason::Said("comparisons are not joined: `if a < b then b < c else false fi`");
+        let from = self.lexeme(start).start;
+        self.put(said, from, self.before(end, 1).end, &text)
+    }
+
+    /// `System.out.println(..)` as `out_string(..)`.
+    fn add_printed(&mut self, index: usize) -> Result<(), AllocError> {
+        let start = self.lexeme(index);
+        let last = index.saturating_add(4);
+        let is_one = self.text(start) == b"System".as_slice()
+            && self.word(last.saturating_add(1)) == b"(".as_slice();
+        if !is_one {
+            return Ok(());
+        }
+        for name in &PRINTING {
+            let said = Reason::Said("`out_string` and `out_int` of IO print");
+            self.put(said, start.start, self.lexeme(last).end, name.as_bytes())?;
+        }
+        Ok(())
+    }
+
+    /// No `import ..;` at the head of a file.
+    fn add_import(&mut self, index: usize) -> Result<(), AllocError> {
+        if !is_one_of(&IMPORTS, self.word(index)) {
+            return Ok(());
+        }
+        for there in index..index.saturating_add(LOOKED_FOR_IMPORT) {
+            if self.word(there) == b";".as_slice() {
+                let said = Reason::Said("Cool has no `import`: all files stand in the call");
+                return self.put(said, self.lexeme(index).start, self.lexeme(there).end, b"");
+            }
+        }
+        Ok(())
+    }
+
+    /// `T f(T a, T b)` as `f(a : T, b : T) : T`.
+    fn add_method(&mut self, index: usize) -> Result<(), AllocError> {
+        let class = self.lexeme(index);
+        let name = self.lexeme(index.saturating_add(1));
+        let open = index.saturating_add(2);
+        let is_one = matches!(kind_of(self.text(class)), Kind::Object | Kind::Type)
+            && matches!(kind_of(self.text(name)), Kind::Object)
+            && self.word(open) == b"(".as_slice();
+        let Some(close) = self.closing(open) else {
+            return Ok(());
+        };
+        if !is_one || self.word(close.saturating_add(1)) != b"{".as_slice() {
+            return Ok(());
+        }
+        let mut text = Vec::from_slice(self.alloc, self.text(name))?;
+        text.extend_from_slice(b"(")?;
+        self.add_cool_formals(&mut text, open, close)?;
+        text.extend_from_slice(b") : ")?;
+        text.extend_from_slice(&self.cool_type(index)?)?;
+        let said = Reason::Said("a type stands behind its name: `f(x : C) : D`");
+        self.put(said, class.start, self.lexeme(close).end, &text)
+    }
+
+    /// Adds the formals `T a, T b` between two positions as `a : T, b : T`.
+    fn add_cool_formals(
+        &self,
+        text: &mut Vec<u8>,
+        open: usize,
+        close: usize,
+    ) -> Result<(), AllocError> {
+        for there in open.saturating_add(1)..close {
+            if is_one_of(&BEFORE_FORMALS, self.word_before(there, 1)) {
+                let ty = self.cool_type(there)?;
+                let formal = self.declared_as(self.word(there.saturating_add(1)), &ty, b"")?;
+                text.extend_from_slice(&formal)?;
+            } else if self.word(there) == b",".as_slice() {
+                text.extend_from_slice(b", ")?;
+            }
+        }
+        Ok(())
+    }
+
+    /// Whether a constructor or a value with a cast stands at a position: Cool has no form for them.
+    pub(crate) fn is_foreign(&self, index: usize) -> bool {
+        self.is_cast(index) || self.is_constructor(index)
+    }
+
+    /// Whether the type of a cast `(T) x` stands at a position, or the value behind it.
+    pub(crate) fn is_cast(&self, index: usize) -> bool {
+        let is_value = kind_of(self.word(index)) != Kind::Fixed
+            && self.word_before(index, 1) == b")".as_slice()
+            && kind_of(self.word_before(index, 2)) == Kind::Type
+            && self.word_before(index, 3) == b"(".as_slice();
+        let is_type = kind_of(self.word(index)) == Kind::Type
+            && self.word_before(index, 1) == b"(".as_slice()
+            && self.word(index.saturating_add(1)) == b")".as_slice();
+        is_value || is_type
+    }
+
+    /// Whether a method with the name of its class begins at a position.
+    pub(crate) fn is_constructor(&self, index: usize) -> bool {
+        let is_method = kind_of(self.word(index)) == Kind::Type
+            && self.word(index.saturating_add(1)) == b"(".as_slice()
+            && is_one_of(&BEFORE_FEATURES, self.word_before(index, 1));
+        match self.class_before(index) {
+            Some(class) => is_method && self.word(class.saturating_add(1)) == self.word(index),
+            None => false,
+        }
+    }
+
+    /// Whether a candidate takes away a call or a type that was written, though all that is said for it is that the rest is legal.
+    pub(crate) fn is_silly(&self, candidate: &Candidate) -> bool {
+        if matches!(candidate.reason, Reason::Said(_)) {
+            return false;
+        }
+        for splice in candidate.splices.as_slice() {
+            if splice.start < splice.end && self.takes_meaning(splice) {
+                return true;
+            }
+        }
+        false
+    }
+
+    /// Whether a splice takes away a call or a type, and puts no other name in its place.
+    fn takes_meaning(&self, splice: &Splice) -> bool {
+        let new = kind_of(splice.text.trim_ascii());
+        for index in index_at(self.lexemes, splice.start)..self.lexemes.len() {
+            let lexeme = self.lexeme(index);
+            if lexeme.start >= splice.end {
+                return false;
+            }
+            let is_whole = lexeme.start >= splice.start && lexeme.end <= splice.end;
+            if is_whole && self.has_meaning(index) && new != kind_of(self.text(lexeme)) {
+                return true;
+            }
+        }
+        false
+    }
+
+    /// Whether the name of a call or a type stands at a position, and does not stand twice.
+    fn has_meaning(&self, index: usize) -> bool {
+        let word = self.word(index);
+        let next = self.word(index.saturating_add(1));
+        let is_call = kind_of(word) == Kind::Object && next == b"(".as_slice();
+        (is_call || kind_of(word) == Kind::Type)
+            && word != next
+            && word != self.word_before(index, 1)
+    }
+}
