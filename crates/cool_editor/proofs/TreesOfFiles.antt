@@ -21,7 +21,7 @@ use Rattle.cool_editor.specs.TokenLines.{fault_line, lex_word}
 use Rattle.cool_editor.specs.TreeLines.{AreTreesOf, classes_text}
 use Rattle.cool_editor.specs.TreeLines as lines
 
--- what stands first of what is left of a list
+-- the first item of the rest of a list
 item_left : (p : List Class) (k : ℕ) (c : Class) (cs : List Class) → drop k p ≡ c ∷ cs → (k < length p) × (get_or p k nothing ≡ c) × (drop (suc k) p ≡ cs)
 item_left [] zero c cs e = absurd (let long = ap length e in omega arith)
 item_left [] (suc k) c cs e = absurd (let long = ap length e in omega arith)
@@ -50,7 +50,7 @@ file_small [] i file h is = absurd (omega arith)
 file_small (f ∷ files) zero file h is = let long = ap (λ (v : Vec ℕ). length v.items) is in omega arith
 file_small (f ∷ files) (suc i) file h is = let rest = file_small files i file (omega arith) is in omega arith
 
--- what holds where a call comes well follows there
+-- the conclusion holds if a call succeeds and it follows there
 pub on_ok : {A E : Type 0} {P Q : Type 0} (r : Result A E) → (P → Q) → OnOk r P → OnOk r Q
 on_ok (Ok a) f h = f h
 on_ok (Err e) f h = tt

@@ -74,7 +74,7 @@ HaveNone Tokens contents = ⊥
 HaveNone Trees contents = ⊥
 HaveNone Code contents = (faults : List Fault) × IsRefusedFor contents faults
 
--- what is written of files, or nothing
+-- the text that is written for files, or nothing
 abbrev pub IsTextOf : Form → List (List ℕ) → List (List ℕ) → Option (Vec ℕ) → Type 0
 IsTextOf form names contents (Some text) = IsWritten form names contents text.items
 IsTextOf form names contents None = HaveNone form contents
@@ -134,7 +134,7 @@ note_of form Done = []
 note_of form WriteFault = []
 note_of form Memory = []
 
--- what is put to the notes of a call that ends so: its note, at once, where it has one
+-- the messages of a call that ends in this way: its message, in one write, if it has one
 abbrev pub puts_of : Form → Status → List (List ℕ)
 puts_of form Usage = note_of form Usage ∷ []
 puts_of form Refused = note_of form Refused ∷ []

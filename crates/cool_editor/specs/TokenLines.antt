@@ -90,7 +90,7 @@ byte_text b =
 abbrev pub string_text : List ℕ → List ℕ
 string_text bytes = codes "\"" ++ (flat_map byte_text bytes ++ codes "\"")
 
--- what a token is, the first word of its line, and its value, the last
+-- the kind of a token, the first word of its line, and its value, the last
 abbrev pub kind_word : TokenKind → List ℕ
 kind_word (kind.Key k) = codes "keyword"
 kind_word (kind.TypeId name) = codes "type"

@@ -4,7 +4,7 @@ use Rattle.std.specs.Prelude.{nat_eq, Bool, false, if◌then◌else◌}
 use Rattle.std.proofs.lemmas.List.{at_drop_more, take_more}
 use Rattle.cool_explain.specs.SourceLines.{first_line}
 
--- of bytes that begin with a newline it is empty
+-- the line of bytes that begin with a newline is empty
 empty_at : (b : ℕ) (bs : List ℕ) → b ≡ 10 → first_line (b ∷ bs) ≡ []
 empty_at b bs e = ap (λ (x : ℕ). first_line (x ∷ bs)) e
 

@@ -57,7 +57,7 @@ type_cure E16 = codes "compare first: `not x = 0`"
 type_cure E17 = codes "the value is of the declared class or of one below it"
 type_cure E18 = codes "the last item of a block is its value; an `if` has the type above both parts, a `while` has Object"
 
--- what mends a fault in general
+-- general advice for a fault
 abbrev pub cure_words : Fault → List ℕ
 cure_words (Lex f) = lex_cure f.kind
 cure_words (Syntax f) = codes "a `;`, `fi`, `pool` or `esac` missing before it; `~` is minus, `--` a comment"

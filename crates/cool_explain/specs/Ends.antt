@@ -17,7 +17,7 @@ use Rattle.cool_explain.specs.declared.form.Form.{Form}
 use Rattle.cool_explain.specs.declared.form.Form.TheVariants.{Text, Lines}
 use Rattle.cool_explain.specs.declared.explaining.Answer.{Answer}
 
--- what is told of files of these names, in this form
+-- the answer for files of these names, in this form
 abbrev pub form_text : Form → List (List ℕ) → List (List ℕ) → Explained → List ℕ
 form_text Text names contents told = text_of names contents told.explanations.items
 form_text Lines names contents told = lines_of contents told
@@ -38,7 +38,7 @@ abbrev pub HasFaults : Bool → List Explanation → Type 0
 HasFaults true all = all ≢ []
 HasFaults false all = all ≡ []
 
--- what is told of files of these bytes, in this form
+-- the answer for files of these bytes, in this form
 pub record IsAnswerOf (form : Form) (names contents : List (List ℕ)) (answer : Answer) : Type 0 where
   pub told : Explained
   pub is : IsTold contents told
@@ -68,7 +68,7 @@ note_of Refused = []
 note_of WriteFault = []
 note_of Memory = []
 
--- what is put to the notes of a call that ends so: its note, at once, where it has one
+-- the messages of a call that ends in this way: its message, in one write, if it has one
 abbrev pub puts_of : Status → List (List ℕ)
 puts_of Usage = note_of Usage ∷ []
 puts_of FileFault = note_of FileFault ∷ []

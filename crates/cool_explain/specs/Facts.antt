@@ -15,7 +15,7 @@ abbrev pub lexeme_text : List ℕ → List ℕ → List ℕ
 lexeme_text none [] = none
 lexeme_text none (b ∷ bs) = quoted (b ∷ bs)
 
--- what stands at a fault, and what before it
+-- the lexeme at a fault, and the one before it
 abbrev pub found_words : List ℕ → Explanation → List ℕ
 found_words file x =
     codes "found " ++ (lexeme_text (codes "the end of the file") (part x.here.start x.here.end file)
@@ -83,6 +83,6 @@ abbrev pub method_facts : Option Methods → List (List ℕ)
 method_facts None = []
 method_facts (Some methods) = method_words methods ∷ []
 
--- what is known of a fault of this file, a fact each
+-- the facts about a fault of this file
 abbrev pub facts : List ℕ → Explanation → List (List ℕ)
 facts file x = found_facts file x x.fault ++ (type_facts x.fault x.types ++ (method_facts x.methods ++ bytes_of x.said.items))

@@ -73,7 +73,7 @@ explanation_lines files x =
 abbrev pub notice_line : Notice → List ℕ
 notice_line n = codes "notice " ++ (range_text n.at n.end ++ word_line (codes " ") n.words.items)
 
--- what is told of these files
+-- the answer for these files
 abbrev pub lines_of : List (List ℕ) → Explained → List ℕ
 lines_of files told = flat_map (explanation_lines files) told.explanations.items ++ flat_map notice_line told.notices.items
 

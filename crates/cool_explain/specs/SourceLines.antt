@@ -29,14 +29,14 @@ is_inner b = nat_le 128 b && nat_lt b 192
 abbrev pub blank_of : ℕ → List ℕ
 blank_of b = if nat_eq b 9 then 9 ∷ [] else if is_inner b then [] else codes " "
 
--- what stands below bytes that are not marked
+-- the line below bytes that are not marked
 abbrev pub blanks : List ℕ → List ℕ
 blanks = flat_map blank_of
 
 abbrev pub mark_of : ℕ → List ℕ
 mark_of b = if is_inner b then [] else codes "^"
 
--- what stands below bytes that are marked, and ^ below none
+-- the line below marked bytes, with ^ below none
 abbrev pub marks : List ℕ → List ℕ
 marks bytes = codes "^" ++ flat_map mark_of (drop 1 bytes)
 

@@ -14,7 +14,7 @@ use Rattle.cool_explain.specs.Facts.{facts}
 use Rattle.cool_explain.specs.Shown.{shown}
 use Rattle.cool_explain.specs.SourceLines.{source_line}
 
--- what has this number, or nothing
+-- the item of this number, or nothing
 abbrev pub file_of : List (List ℕ) → ℕ → List ℕ
 file_of files number = get_or files number []
 
@@ -31,11 +31,11 @@ abbrev pub other_text : List (List ℕ) → ℕ → Option Place → List ℕ
 other_text names file None = []
 other_text names file (Some p) = note_line (codes "the other one stands in line " ++ (decimal p.line ++ of_file names file p.file (codes " of ")))
 
--- what mends a fault in general
+-- general advice for a fault
 abbrev pub cure_text : List ℕ → List ℕ
 cure_text cure = note_line (codes "to mend it: " ++ cure)
 
--- what is said of a mend
+-- the words about a fix
 abbrev pub mend_line : List (List ℕ) → ℕ → Mend → List ℕ
 mend_line names file m = note_line (m.words.items ++ (of_file names file m.edit.file (codes ", in ") ++ codes ":"))
 

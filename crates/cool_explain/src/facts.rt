@@ -1,4 +1,4 @@
-//! What is known of a fault, in words.
+//! The facts about a fault, in words.
 
 ghost use Rattle.std.specs.Prelude.{◌≡◌, ◌++◌, IfOk, ℕ, List, [], map};
 ghost use Rattle.std.specs.Global.{Vec};

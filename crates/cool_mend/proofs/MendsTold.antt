@@ -20,7 +20,7 @@ pub mends_next : (files : List (List ℕ)) (faults : List Fault) (next : ℕ) (x
 mends_next files faults next xs x within each are is =
     mends_pushed files faults 0 next xs x (omega (arith, length-map xs (λ (x : Explanation). x.fault), ap length each, length-take next faults)) are is
 
--- what holds of each fault holds of each explanation's
+-- a property of each fault holds of each explanation's fault
 pub of_faults : (P : Fault → Type 0) (xs : List Explanation) (faults : List Fault) → map (λ (x : Explanation). x.fault) xs ≡ faults → AllByRecursion P faults → AllByRecursion (λ (x : Explanation). P x.fault) xs
 of_faults P xs faults is all = by xs (subst (AllByRecursion P) (sym is) all) where
   by : (ys : List Explanation) → AllByRecursion P (map (λ (x : Explanation). x.fault) ys) → AllByRecursion (λ (x : Explanation). P x.fault) ys

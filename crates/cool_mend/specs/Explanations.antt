@@ -71,7 +71,7 @@ pub record AreMethods (p : List Class) (fault : Fault) (class : List ℕ) (metho
   pub named : class ≡ name_of p id
   pub each : AllByRecursion (λ (m : Vec ℕ). IsMethod p id m.items) methods
 
--- what is told of types and of methods is so in the class table that the files are
+-- the types and methods in an explanation are those of the class table of the files
 abbrev pub HaveTypes : List (List ℕ) → Fault → Types → Type 0
 HaveTypes files fault told = (p : List Class) × IsTableOf files p × AreTypes p fault told
 

@@ -31,7 +31,7 @@ due_in_class c = flat_map due_in_feature c.features
 abbrev pub due_in_program : List Class → List Due
 due_in_program p = flat_map due_in_class p
 
--- what a notice says, and where: of one that is due, and of one that is told
+-- the text and the place of a notice: of one by the definition, and of one that is written
 pub record Saying : Type 0 where
   pub at : Place
   pub words : List ℕ

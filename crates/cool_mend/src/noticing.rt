@@ -1,4 +1,4 @@
-//! What is legal in a program, and likely a mistake.
+//! Expressions that are legal in a program, and likely a mistake.
 
 ghost use Rattle.std.specs.Prelude.{◌≡◌, List, map, take, option_map, IfOk, OnOk};
 ghost use Rattle.cool_notices.specs.declared.kind.Notice.{Notice as Due};

@@ -122,7 +122,7 @@ division_is_noticed p = refl
 other_division_is_not : (p : Place) → due_notices (trees.Arith p Div (trees.Int p 0) (trees.Int p 3)) ≡ []
 other_division_is_not p = refl
 
--- what is said of it
+-- the text of a notice
 abbrev pub words : NoticeKind → List ℕ
 words kind.Comparison = codes "`=` compares, and the answer is not used: `<-` gives a value"
 words kind.Unused = codes "this has no effect: its value is not used"

@@ -12,7 +12,7 @@ use Rattle.cool_explain.specs.Ends.{IsExplained, note_of, puts_of}
 use Rattle.cool_explain.proofs.AnswersWritten.{no_note, of_accepted, of_refused, was_cut, was_written}
 use Rattle.cool_explain.proofs.explaining.explain_names.Goals as goal
 
--- what is told was written
+-- the explanations were written
 pub returns-in-Ok-put_pieces-clause-accepted : goal.returns-in-Ok-put_pieces-clause-accepted
 returns-in-Ok-put_pieces-clause-accepted g c done =
     let shelf = shelf_use g.F.Shelf.files g.F.Shelf.faults g.F.Shelf.asked g.F.Shelf.gave c.args.files.now c.names_answer.new.files in
