@@ -79,7 +79,7 @@ def unused(*rules):
 
 def not_reached(shown):
     """The definitions of these, each a file and a name, on which the headline of `run` does not rest."""
-    sys.path.insert(0, str(pathlib.Path(__file__).resolve().parent.parent.parent / "conformance"))
+    sys.path.insert(0, str(pathlib.Path(__file__).resolve().parent.parent.parent / "tools"))
     from sources import HEADLINE, Definitions, listed
 
     definitions = Definitions(listed("crates/*/specs/*.antt"))

@@ -143,7 +143,7 @@ class Definitions:
         found, due = set(), []
         for file, name, *field in roots:
             if (file, name) not in self.items or not set(field) <= set(self.parts[file, name]):
-                raise LookupError("%s has no %s: say in conformance/sources.py what the headline of `run` is" % (file, ".".join([name, *field])))
+                raise LookupError("%s has no %s: say in tools/sources.py what the headline of `run` is" % (file, ".".join([name, *field])))
             found.add((file, name))
             due += self.named(file, self.field(file, name, *field) if field else self.items[file, name])
         while due:
