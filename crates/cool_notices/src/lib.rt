@@ -1,4 +1,4 @@
-//! What is legal in a program, and likely a mistake.
+//! Warnings about parts of a program that are legal, and likely mistakes.
 //!
 //! Input: the body of a feature. Output: notices, each with its kind and its place. `specs/Notices.antt` defines what each says.
 #![tactic(auto)]
