@@ -10,6 +10,7 @@ from phase_cases import LONGEST_STRING, joined
 from phase_difference import first_difference
 from phase_tokens import token_lines, tokens_of
 from phase_trees import NO_TYPE, Trees, tree_lines
+from scoring import begin
 
 MODULES = {"lexer": ["lexing"], "parser": ["parsing"], "semant": ["typing_rules", "classes"]}
 UNKNOWN = b": ?"
@@ -37,7 +38,7 @@ def wrong_phases(count):
     """For each phase of a mutant, and of the small compiler: the phase, the name, whether the result is right, a case that finds it, the first difference."""
     OF_PROCESS["cases"] = list(map(Wanted, graded_cases()))
     asked = [(phase, name) for phase, modules in MODULES.items() for name in ["none", *names(modules, count)]]
-    with multiprocessing.get_context("fork").Pool(2, maxtasksperchild=1) as pool:
+    with multiprocessing.get_context("fork").Pool(2, begin, maxtasksperchild=1) as pool:
         for (phase, name), found in zip(asked, pool.imap(finder, asked, 1)):
             yield phase, name, (found is None) == (name == "none"), *(found or ("-", "no difference"))
 
