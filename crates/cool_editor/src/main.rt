@@ -2,27 +2,12 @@
 //! `cool_editor --code FILES` where the code of each expression of the program stands, and which names are in scope there; `cool_editor --tokens FILES`
 //! their tokens, and `cool_editor --trees FILES` their trees with the types of all expressions.
 //!
-//! Input: a form, and names of files. Output: a line for each mark of `cool_names`, as `specs/Lines.antt` defines it, the table of code of `cool_emit`,
-//! the tokens as `specs/TokenLines.antt` defines their lines, the trees as `specs/TreeLines.antt` does, or a status. The program meets
-//! `specs/Ends.antt`. `perform` is everything that it does if its arguments are text, and its clause is the promise over the system's files and streams
-//! (`specs/Processes.antt`).
+//! `perform` of `cool_listings` is all that it does if the arguments are text.
 #![tactic(auto)]
 
-mod answer;
-mod files;
-mod form;
-mod line;
-mod listing;
-mod node_text;
-mod note;
-mod process;
-mod tokens;
-mod trees;
-
+use cool_listings::{BAD_COMMAND_LINE, perform};
 use cool_ports::StdSink;
 use cool_sources::{Status, tell};
-use note::BAD_COMMAND_LINE;
-use process::perform;
 use std::alloc::Global;
 use std::io::ErrorKind;
 use std::process::ExitCode;

@@ -1,27 +1,12 @@
 //! The program that explains faults: `cool_explain FILES` writes for each fault of the files the line of `check`, the source line with its range
 //! marked, what is known of the fault, and lines that mend it. `cool_explain --lines FILES` writes the same for programs.
 //!
-//! Input: a form, and names of files. Output: the explanations of `cool_mend` as `specs/Texts.antt` and `specs/Lines.antt` write them, or a
-//! status. It meets `specs/Ends.antt`; `perform` is all that it does where the words are text, and its clause is the promise over the system's files
-//! and streams (`specs/Processes.antt`).
+//! `perform` of `cool_explanations` is all that it does if the arguments are text.
 #![tactic(auto)]
 
-mod changes;
-mod cures;
-mod explaining;
-mod facts;
-mod form;
-mod lines;
-mod note;
-mod process;
-mod shown;
-mod source_line;
-mod text;
-
+use cool_explanations::{BAD_COMMAND_LINE, perform};
 use cool_ports::StdSink;
 use cool_sources::{Status, tell};
-use note::BAD_COMMAND_LINE;
-use process::perform;
 use std::alloc::Global;
 use std::io::ErrorKind;
 use std::process::ExitCode;

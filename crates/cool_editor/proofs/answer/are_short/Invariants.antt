@@ -1,9 +1,0 @@
--- Each name so far is short.
-use Rattle.std.proofs.Common.{◌≡◌, drop, map}
-use Rattle.std.specs.Prelude.{string_bytes}
-use Rattle.cool_editor.specs.Ends.{fit}
-use Rattle.cool_editor.specs.declared.form.Form.TheVariants.{Code}
-use Rattle.cool_editor.proofs.answer.are_short.Given as goal
-
-abbrev pub invariant-loop-name : goal.invariant-loop-name
-invariant-loop-name l = fit Code (map string_bytes (drop l.name-index l.names)) ≡ fit Code (map string_bytes l.names)

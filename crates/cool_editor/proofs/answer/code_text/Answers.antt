@@ -1,8 +1,0 @@
--- The names are short.
-use Rattle.std.proofs.Common.{map}
-use Rattle.std.specs.Prelude.{string_bytes}
-use Rattle.cool_editor.proofs.ShortNames.{short_names}
-use Rattle.cool_editor.proofs.answer.code_text.Goals as goal
-
-pub table-requires-clause-names : goal.table-requires-clause-names
-table-requires-clause-names c = short_names (map string_bytes c.args.names.now) c.requires.fit

@@ -1,7 +1,0 @@
--- The text so far with that of the branches that are left is all.
-use Rattle.std.proofs.Common.{◌≡◌, ◌++◌, drop, flat_map}
-use Rattle.cool_editor.specs.NodeTexts.{branch_text}
-use Rattle.cool_editor.proofs.node_text.branches_text.Given as goal
-
-abbrev pub invariant-loop-branch : goal.invariant-loop-branch
-invariant-loop-branch l = l.text.items ++ flat_map branch_text (drop l.branch-index l.branches) ≡ flat_map branch_text l.branches

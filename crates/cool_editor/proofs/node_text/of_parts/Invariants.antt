@@ -1,7 +1,0 @@
--- The text so far with the numbers that are left is all.
-use Rattle.std.proofs.Common.{◌≡◌, ◌++◌, drop, flat_map}
-use Rattle.cool_editor.specs.NodeTexts.{parts_text}
-use Rattle.cool_editor.proofs.node_text.of_parts.Given as goal
-
-abbrev pub invariant-loop-part : goal.invariant-loop-part
-invariant-loop-part l = l.text.items ++ parts_text (drop l.part-index l.parts) ≡ l.word ++ parts_text l.parts

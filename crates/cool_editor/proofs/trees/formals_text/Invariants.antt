@@ -1,7 +1,0 @@
--- The lines so far with those of the formals that are left are all.
-use Rattle.std.proofs.Common.{◌≡◌, ◌++◌, drop, flat_map}
-use Rattle.cool_editor.specs.TreeLines.{formal_line}
-use Rattle.cool_editor.proofs.trees.formals_text.Given as goal
-
-abbrev pub invariant-loop-formal : goal.invariant-loop-formal
-invariant-loop-formal l = l.text.items ++ flat_map formal_line (drop l.formal-index l.formals) ≡ flat_map formal_line l.formals

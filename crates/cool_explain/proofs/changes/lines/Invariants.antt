@@ -1,8 +1,0 @@
--- The lines so far with those that are left are all.
-use Rattle.std.proofs.Common.{◌≡◌, ◌++◌, drop, []}
-use Rattle.cool_faults.specs.Files.{bytes_of}
-use Rattle.cool_explain.specs.Changes.{lines_from}
-use Rattle.cool_explain.proofs.changes.lines.Given as goal
-
-abbrev pub invariant-loop-index : goal.invariant-loop-index
-invariant-loop-index l = bytes_of l.all.items ++ lines_from l.line.items (drop l.index l.bytes) ≡ lines_from [] l.bytes

@@ -1,8 +1,0 @@
--- The facts so far with those that are left are all.
-use Rattle.std.proofs.Common.{◌≡◌, ◌++◌, drop}
-use Rattle.cool_faults.specs.Files.{bytes_of}
-use Rattle.cool_explain.specs.Facts.{facts}
-use Rattle.cool_explain.proofs.facts.facts.Given as goal
-
-abbrev pub invariant-loop-words : goal.invariant-loop-words
-invariant-loop-words l = bytes_of l.all.items ++ bytes_of (drop l.words-index l.told.said.items) ≡ facts l.file l.told

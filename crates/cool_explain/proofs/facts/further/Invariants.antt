@@ -1,8 +1,0 @@
--- The methods so far with those that are left are all.
-use Rattle.std.proofs.Common.{◌≡◌, ◌++◌, drop}
-use Rattle.cool_faults.specs.Files.{bytes_of}
-use Rattle.cool_explain.specs.Facts.{further}
-use Rattle.cool_explain.proofs.facts.further.Given as goal
-
-abbrev pub invariant-loop-method : goal.invariant-loop-method
-invariant-loop-method l = l.words.items ++ further (bytes_of (drop l.method-index l.methods)) ≡ further (bytes_of l.methods)

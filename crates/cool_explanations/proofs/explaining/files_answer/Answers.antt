@@ -1,0 +1,13 @@
+-- The text is that of the result of `explain`.
+use Rattle.std.proofs.Common.{List, subst}
+use Rattle.cool_mend.specs.declared.explanation.Explanation.{Explanation}
+use Rattle.cool_explanations.specs.Ends.{HasFaults}
+use Rattle.cool_explanations.proofs.explaining.files_answer.Goals as goal
+
+pub returns : goal.returns
+returns c = record {
+  told = c.in_ok-told.told;
+  is = record { explained = c.in_ok-told.ensures.explained; noticed = c.in_ok-told.ensures.noticed; quiet = c.in_ok-told.ensures.quiet };
+  faults = subst (λ (all : List Explanation). HasFaults c.has_faults.result all) c.deref.ensures.value c.has_faults.ensures;
+  text = c.in_ok-form_text.ensures;
+}

@@ -1,0 +1,7 @@
+-- The bytes so far are of the line.
+use Rattle.std.proofs.Common.{◌≡◌, ◌++◌, drop, take}
+use Rattle.cool_explanations.specs.SourceLines.{first_line}
+use Rattle.cool_explanations.proofs.source_line.first_line.Given as goal
+
+abbrev pub invariant-loop-index : goal.invariant-loop-index
+invariant-loop-index l = take l.index l.bytes ++ first_line (drop l.index l.bytes) ≡ first_line l.bytes

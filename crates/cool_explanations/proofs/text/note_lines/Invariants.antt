@@ -1,0 +1,9 @@
+-- The lines so far with those that are left are all.
+use Rattle.std.proofs.Common.{◌≡◌, ◌++◌, drop}
+use Rattle.std.specs.List.{flat_map}
+use Rattle.cool_faults.specs.Files.{bytes_of}
+use Rattle.cool_explanations.specs.Texts.{note_line}
+use Rattle.cool_explanations.proofs.text.note_lines.Given as goal
+
+abbrev pub invariant-loop-words : goal.invariant-loop-words
+invariant-loop-words l = l.text.items ++ flat_map note_line (bytes_of (drop l.words-index l.all)) ≡ flat_map note_line (bytes_of l.all)

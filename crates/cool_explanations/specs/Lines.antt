@@ -1,0 +1,82 @@
+-- Explanations for programs. FILE is the number of the file among the names, from 0, LINE counts from 1, and START, END and BYTE are bytes, from 0.
+--
+--     fault FILE:LINE:START:END KIND: WORDS    as `check` tells it
+--     fact WORDS                               what is known of the fault
+--     other FILE:LINE:BYTE                     where the other definition stands of what is defined twice
+--     cure WORDS                               what mends such a fault in general
+--     mend WORDS                               an edit that was tried follows
+--     edit FILE:START:END TEXT                 TEXT goes in the place of these bytes
+--     notice FILE:LINE:START:END WORDS         legal, but likely a mistake
+--
+-- In WORDS and TEXT \n is a newline, and \\ a backslash.
+use Rattle.std.specs.Prelude.{◌≡◌, refl, ℕ, List, [], ◌∷◌, ◌++◌, codes, decimal, max, nat_eq, Option, Some, None, if◌then◌else◌}
+use Rattle.std.specs.List.{flat_map}
+use Rattle.cool_syntax.specs.declared.place.Place.{Place}
+use Rattle.cool_faults.specs.Texts.{fault_words}
+use Rattle.cool_faults.specs.Verdicts.{place_of}
+use Rattle.cool_mend.specs.declared.edit.Edit.{Edit}
+use Rattle.cool_mend.specs.declared.explanation.Explained.{Explained}
+use Rattle.cool_mend.specs.declared.explanation.Explanation.{Explanation}
+use Rattle.cool_mend.specs.declared.explanation.Mend.{Mend}
+use Rattle.cool_mend.specs.declared.explanation.Notice.{Notice}
+use Rattle.cool_explanations.specs.Cures.{cure_words}
+use Rattle.cool_explanations.specs.Facts.{facts}
+use Rattle.cool_explanations.specs.Shown.{shown}
+use Rattle.cool_explanations.specs.Texts.{file_of}
+
+-- a place, and where the range ends that begins there
+abbrev pub range_text : Place → ℕ → List ℕ
+range_text p end = decimal p.file ++ (codes ":" ++ (decimal p.line ++ (codes ":" ++ (decimal p.byte ++ (codes ":" ++ decimal (max end p.byte))))))
+
+-- bytes on one line
+abbrev pub escaped_byte : ℕ → List ℕ
+escaped_byte b = if nat_eq b 10 then codes "\\n" else (if nat_eq b 92 then codes "\\\\" else b ∷ [])
+
+abbrev pub escaped : List ℕ → List ℕ
+escaped = flat_map escaped_byte
+
+-- a line of words behind what it is
+abbrev pub word_line : List ℕ → List ℕ → List ℕ
+word_line what words = what ++ (escaped (shown words) ++ codes "\n")
+
+abbrev pub fact_line : List ℕ → List ℕ
+fact_line = word_line (codes "fact ")
+
+abbrev pub other_line : Option Place → List ℕ
+other_line None = []
+other_line (Some p) = codes "other " ++ (decimal p.file ++ (codes ":" ++ (decimal p.line ++ (codes ":" ++ (decimal p.byte ++ codes "\n")))))
+
+abbrev pub edit_line : Edit → List ℕ
+edit_line e =
+    codes "edit " ++ (decimal e.file ++ (codes ":" ++ (decimal e.start ++ (codes ":" ++ (decimal e.end ++ (codes " " ++ (escaped e.text.items ++ codes "\n")))))))
+
+abbrev pub mend_lines : Mend → List ℕ
+mend_lines m = word_line (codes "mend ") m.words.items ++ edit_line m.edit
+
+abbrev pub end_lines : Option Mend → List ℕ
+end_lines None = []
+end_lines (Some m) = mend_lines m
+
+-- the line of a fault
+abbrev pub first_line : Explanation → List ℕ
+first_line x = codes "fault " ++ (range_text (place_of x.fault) x.here.end ++ word_line (codes " ") (fault_words x.fault))
+
+-- the explanation of a fault of these files
+abbrev pub explanation_lines : List (List ℕ) → Explanation → List ℕ
+explanation_lines files x =
+    first_line x
+    ++ (flat_map fact_line (facts (file_of files (place_of x.fault).file) x)
+    ++ (other_line x.other
+    ++ (word_line (codes "cure ") (cure_words x.fault)
+    ++ end_lines x.mend)))
+
+abbrev pub notice_line : Notice → List ℕ
+notice_line n = codes "notice " ++ (range_text n.at n.end ++ word_line (codes " ") n.words.items)
+
+-- the answer for these files
+abbrev pub lines_of : List (List ℕ) → Explained → List ℕ
+lines_of files told = flat_map (explanation_lines files) told.explanations.items ++ flat_map notice_line told.notices.items
+
+-- Worked example: a text of two lines with a backslash.
+one_line : escaped (codes "a\\\nb") ≡ codes "a\\\\\\nb"
+one_line = refl

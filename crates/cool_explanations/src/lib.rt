@@ -1,0 +1,24 @@
+//! Explaining faults: for each fault of files the line of `check`, the source line with its range marked, what is known of the fault, and lines that mend
+//! it; for people, or for programs.
+//!
+//! Input: arguments, files and writers. Output: the explanations of `cool_mend` as `specs/Texts.antt` and `specs/Lines.antt` write them, or a status.
+//! `perform` is everything that the program `cool_explain` does if its arguments are text, and its clause is the promise over the system's files and
+//! streams (`specs/Processes.antt`).
+#![tactic(auto)]
+
+mod changes;
+mod cures;
+mod explaining;
+mod facts;
+mod form;
+mod lines;
+mod note;
+mod process;
+mod shown;
+mod source_line;
+mod text;
+
+pub use explaining::explain_names;
+pub use form::Form;
+pub use note::BAD_COMMAND_LINE;
+pub use process::{Process, explain_over_system, perform};

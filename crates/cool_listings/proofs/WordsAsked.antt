@@ -1,0 +1,41 @@
+-- The call that is read from arguments has the form and the names that the arguments ask for, so it ends as they say.
+use Rattle.std.proofs.Common.{◌≡◌, ◌⊎◌, inl, inr, ℕ, List, [], ◌∷◌, Bool, true, false, Option, Some, None, refl, sym, subst}
+use Rattle.std.specs.Prelude.{String}
+use Rattle.std.specs.Global.{Global}
+use Rattle.cool_sources.specs.CommandLine.{IsCall, call_of, words_of}
+use Rattle.cool_sources.specs.declared.command_line.Call.{Call}
+use Rattle.cool_sources.specs.declared.status.Status.{Status}
+use Rattle.cool_listings.specs.Processes.{HasEnded, call_asked, form_of, names_of, option_of, other_form}
+use Rattle.cool_listings.specs.declared.form.Form.{Form}
+use Rattle.cool_listings.specs.declared.form.Form.TheVariants.{Marks}
+
+-- a call with the form that its flag chooses
+pub asked_by_call : (other : Form) (asked : Option (Bool × List (List ℕ))) (call : Call) (form : Form) → IsCall asked (Some call)
+    → ((call.other ≡ true) × (form ≡ other)) ⊎ ((call.other ≡ false) × (form ≡ Marks)) → (form_of other asked ≡ form) × (names_of asked ≡ words_of call.names.now)
+asked_by_call other None call form h chosen = absurd h
+asked_by_call other (Some (true, names)) call form h (inl (flag, is)) = (sym is, sym h.1)
+asked_by_call other (Some (true, names)) call form h (inr (flag, is)) = let wrong : call.other ≡ true = h.0 in absurd cc
+asked_by_call other (Some (false, names)) call form h (inl (flag, is)) = let wrong : call.other ≡ false = h.0 in absurd cc
+asked_by_call other (Some (false, names)) call form h (inr (flag, is)) = (sym is, sym h.1)
+
+-- the call that is read with the option of the form is that of the arguments
+pub call_read : (words : List (List ℕ)) (other : Form) (option : List ℕ) (call : Option Call) → other ≡ other_form words → option ≡ option_of other → IsCall (call_of option words) call
+    → IsCall (call_asked words) call
+call_read words other option call chosen is h =
+    subst (λ (form : Form). IsCall (call_of (option_of form) words) call) chosen (subst (λ (bytes : List ℕ). IsCall (call_of bytes words) call) is h)
+
+-- no word is there where its bytes are none
+pub no_words : (words : List (String Global)) → words_of words ≡ [] → words ≡ []
+no_words [] e = refl
+no_words (w ∷ words) e = absurd cc
+
+-- and no call
+pub asked_by_none : (other : Form) (asked : Option (Bool × List (List ℕ))) → IsCall asked None → (form_of other asked ≡ Marks) × (names_of asked ≡ [])
+asked_by_none other None h = (refl, refl)
+asked_by_none other (Some call) h = absurd h
+
+-- a process ends as it does for an equal form and equal names
+pub ended_so : (form other : Form) (names words asked gave : List (List ℕ)) (status : Status) (held : Option (List ℕ)) (puts : List (List ℕ)) (noted : Option (List ℕ)) → form ≡ other → names ≡ words
+    → HasEnded other words asked gave status held puts noted → HasEnded form names asked gave status held puts noted
+ended_so form other names words asked gave status held puts noted e f h =
+    subst (λ (x : Form). HasEnded x names asked gave status held puts noted) (sym e) (subst (λ (ws : List (List ℕ)). HasEnded other ws asked gave status held puts noted) (sym f) h)

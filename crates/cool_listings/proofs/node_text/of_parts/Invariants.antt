@@ -1,0 +1,7 @@
+-- The text so far with the numbers that are left is all.
+use Rattle.std.proofs.Common.{◌≡◌, ◌++◌, drop, flat_map}
+use Rattle.cool_listings.specs.NodeTexts.{parts_text}
+use Rattle.cool_listings.proofs.node_text.of_parts.Given as goal
+
+abbrev pub invariant-loop-part : goal.invariant-loop-part
+invariant-loop-part l = l.text.items ++ parts_text (drop l.part-index l.parts) ≡ l.word ++ parts_text l.parts

@@ -1,0 +1,20 @@
+-- The clauses of `list_names`, for fresh devices, are those of the process.
+use Rattle.cool_sources.proofs.FreshShelves.{after_none, were_unread}
+use Rattle.cool_listings.proofs.FreshDevices.{has_listed, has_refused, was_cut_short}
+use Rattle.cool_listings.proofs.process.list_over_system.Goals as goal
+
+pub returns-clause-listed : goal.returns-clause-listed
+returns-clause-listed g c done = has_listed c.args.form _ _ c.new-files.ensures.asked c.new-files.ensures.gave _ c.new-out.ensures.held (c.list_names-status.ensures.listed done)
+
+pub returns-clause-refused : goal.returns-clause-refused
+returns-clause-refused g c refused = has_refused c.args.form _ _ c.new-files.ensures.asked c.new-files.ensures.gave (c.list_names-status.ensures.refused refused)
+
+pub returns-clause-file_fault : goal.returns-clause-file_fault
+returns-clause-file_fault g c unread = were_unread _ _ c.new-files.ensures.asked c.new-files.ensures.gave (c.list_names-status.ensures.file_fault unread)
+
+pub returns-clause-write_fault : goal.returns-clause-write_fault
+returns-clause-write_fault g c failed =
+    was_cut_short c.args.form _ _ c.new-files.ensures.asked c.new-files.ensures.gave _ _ c.new-out.ensures.held c.new-out.ensures.puts (c.list_names-status.ensures.write_fault failed)
+
+pub returns-clause-note : goal.returns-clause-note
+returns-clause-note g c other = after_none _ _ _ c.new-notes.ensures.held (c.list_names-status.ensures.note other)

@@ -1,0 +1,24 @@
+//! Listings for editors: where each name of files stands, what it is, and which definition it means; where the code of each expression of a program
+//! stands, and which names are in scope there; the tokens of files; and their trees with the types of all expressions.
+//!
+//! Input: arguments, files and writers. Output: a line for each mark of `cool_names`, as `specs/Lines.antt` defines it, the table of code of `cool_emit`,
+//! the tokens as `specs/TokenLines.antt` defines their lines, the trees as `specs/TreeLines.antt` does, or a status (`specs/Ends.antt`). `perform` is
+//! everything that the program `cool_editor` does if its arguments are text, and its clause is the promise over the system's files and streams
+//! (`specs/Processes.antt`).
+#![tactic(auto)]
+
+mod answer;
+mod files;
+mod form;
+mod line;
+mod listing;
+mod node_text;
+mod note;
+mod process;
+mod tokens;
+mod trees;
+
+pub use form::Form;
+pub use listing::list_names;
+pub use note::BAD_COMMAND_LINE;
+pub use process::{Process, list_over_system, perform};
