@@ -35,6 +35,9 @@ static WRITING: [&str; 2] = ["out_string", "out_int"];
 /// The words in front of a variable of a `let`.
 static BEFORE_VARIABLES: [&str; 2] = ["let", ","];
 
+/// The lexemes of expressions that may do something, with those that close them.
+static ACTING: [&str; 6] = ["(", ")", "{", "}", "<-", "new"];
+
 /// The constants of Bool.
 static TRUTHS: [&str; 2] = ["true", "false"];
 
@@ -371,7 +374,7 @@ impl<'a> Candidates<'a> {
         Ok(())
     }
 
-    /// Other arguments of the call at a position: one more that fits, at each place, or none.
+    /// Other arguments of the call at a position: one more that fits, at each place; or fewer, if those that go do nothing.
     fn add_arguments(&mut self, index: usize) -> Result<(), AllocError> {
         let open = index.saturating_add(1);
         let Some(close) = self.closing(open) else {
@@ -387,7 +390,27 @@ impl<'a> Candidates<'a> {
             }
             self.add_around(there, 0)?;
         }
-        self.put(said, start, self.lexeme(close).start, b"")
+        let end = self.lexeme(close).start;
+        for back in 1..close.saturating_sub(open) {
+            let comma = close.saturating_sub(back);
+            if self.word(comma) == b",".as_slice() && !self.may_act(comma, close) {
+                self.put(said, self.lexeme(comma).start, end, b"")?;
+            }
+        }
+        if self.may_act(open, close) {
+            return Ok(());
+        }
+        self.put(said, start, end, b"")
+    }
+
+    /// Whether the lexemes between two positions may do something: call, create or assign.
+    fn may_act(&self, from: usize, to: usize) -> bool {
+        for there in from.saturating_add(1)..to {
+            if is_one_of(&ACTING, self.word(there)) {
+                return true;
+            }
+        }
+        false
     }
 
     /// A predicate that is a number, compared with 0; an assignment, as a comparison.

@@ -97,6 +97,14 @@ impl<'a> Source<'a> {
         None
     }
 
+    /// Whether two bytes stand in different features.
+    pub fn are_in_different_features(&self, a: usize, b: usize) -> bool {
+        match (self.feature_at(a), self.feature_at(b)) {
+            (Some(first), Some(second)) => first.start != second.start,
+            _ => false,
+        }
+    }
+
     /// Whether a byte stands in the body of a feature, on which no other feature depends.
     pub fn is_in_body(&self, at: usize) -> bool {
         let Some(feature) = self.feature_at(at) else {

@@ -44,6 +44,9 @@ const MOST_FOUND: usize = 8;
 /// The number of excerpts that are tried once an edit is found on which other features may depend.
 const MOST_MORE: usize = 40;
 
+/// The words on an edit of another feature than that of the fault.
+const ELSEWHERE: &[u8] = b"; this changes another feature";
+
 /// An edit that may mend a fault, and the words on it.
 #[derive(Drop)]
 pub(crate) struct Found {
@@ -114,6 +117,11 @@ impl<'s> Spot<'s> {
         matches!(self.fault, Fault::Lex(_) | Fault::Syntax(_))
     }
 
+    /// Whether a byte stands in another feature than the fault, which is not one of lexemes or syntax.
+    fn is_elsewhere(&self, byte: usize) -> bool {
+        !self.is_text() && self.here.are_in_different_features(byte, self.at())
+    }
+
     /// Whether no edit is told that leaves another fault.
     fn is_closed(&self) -> bool {
         self.is_text() && is_advised(self.here.bytes, &self.here.lexemes, self.index)
@@ -172,10 +180,10 @@ impl<'a> Search<'a> {
 
     /// Edits that may mend the fault of this number, the likeliest first. Returns `Err` only if memory runs out.
     pub(crate) fn find(&mut self, number: usize) -> Result<Vec<Found>, AllocError> {
-        let Some(fault) = self.faults.get(number) else {
+        let Some(told) = self.faults.get(number) else {
             return Ok(Vec::new(self.alloc));
         };
-        let mut fault = *fault;
+        let mut fault = *told;
         let file = fault.place().file;
         let Some(source) = self.sources.get(file as usize) else {
             return Ok(Vec::new(self.alloc));
@@ -194,7 +202,7 @@ impl<'a> Search<'a> {
                 self.round(Spot::new(fault, file, &here))?
             };
             match round {
-                Round::Ready(all) => return self.found(file, source.bytes, &all, first),
+                Round::Ready(all) => return self.found(Spot::new(*told, file, source), &all, first),
                 Round::Further(changed, next) => {
                     first = Some(first.unwrap_or(changed.reason));
                     fault = next;
@@ -207,21 +215,24 @@ impl<'a> Search<'a> {
         Ok(Vec::new(self.alloc))
     }
 
-    /// The edits that lead to these texts in the place of a file, with the first reason for them if there is one.
+    /// The edits that lead to these texts in the place of the file of a fault, with the first reason for them if there is one.
     fn found(
         &self,
-        file: u32,
-        old: &[u8],
+        spot: Spot<'_>,
         all: &[Changed],
         first: Option<Reason>,
     ) -> Result<Vec<Found>, AllocError> {
+        let old = spot.here.bytes;
         let mut found = Vec::new(self.alloc);
         for changed in all {
             let (start, end, text) = difference(self.alloc, old, &changed.text)?;
             let reason = first.unwrap_or(changed.reason);
-            let words = reason_words(self.alloc, part(old, start, end), &text, reason)?;
+            let mut words = reason_words(self.alloc, part(old, start, end), &text, reason)?;
+            if spot.is_elsewhere(start) || spot.is_elsewhere(end) {
+                words.extend_from_slice(ELSEWHERE)?;
+            }
             let edit = Edit {
-                file,
+                file: spot.file,
                 start,
                 end,
                 text,
