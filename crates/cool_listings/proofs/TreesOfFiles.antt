@@ -7,8 +7,11 @@ use Rattle.cool_syntax.specs.declared.token.Token.{Token}
 use Rattle.cool_syntax.specs.declared.place.Place.{Place}
 use Rattle.cool_syntax.specs.Grammar.{Parses, IsUnexpected}
 use Rattle.cool_syntax.specs.LexicalStructure.{Lexes, LexFault as IsLexFault, place_at}
+use Rattle.cool_syntax.specs.Tree.{Tree}
 use Rattle.cool_syntax.specs.Weights.{classes_weight}
 use Rattle.cool_lexer.specs.declared.error.LexFault.{LexFault}
+use Rattle.cool_extents.specs.declared.extent.Extent.{Extent}
+use Rattle.cool_extents.specs.Extents.{TellsExtents}
 use Rattle.cool_lexer.proofs.OneReading.{one_cutting}
 use Rattle.cool_parser.proofs.ParsingIsTheGrammar.{one_tree}
 use Rattle.cool_classes.specs.Chains.{Class, class_number, features_of, nothing}
@@ -117,12 +120,12 @@ file_end p all file number left text e h =
     subst (AreTreesOf p 0 5 all) (append-nil text) (h [] last)
 
 -- a file with a tree was added
-pub tree_added : (p : Option (List Class)) (file number next : ℕ) (bytes : List ℕ) (tokens : List Token) (classes : List ClassDef) (old new : List ℕ) → Lexes file bytes tokens → Parses tokens classes
-    → next ≡ number + length classes → new ≡ old ++ classes_text p number classes → IsAdded p file bytes number next old new
-tree_added p file number next bytes tokens classes old new lexes parses behind is = (
-  classes_text p number classes,
+pub tree_added : (p : Option (List Class)) (file number next : ℕ) (bytes : List ℕ) (tokens : List Token) (classes : List ClassDef) (told : Tree → List Extent) (old new : List ℕ) → Lexes file bytes tokens → Parses tokens classes
+    → TellsExtents tokens told → next ≡ number + length classes → new ≡ old ++ classes_text p told number classes → IsAdded p file bytes number next old new
+tree_added p file number next bytes tokens classes told old new lexes parses tells behind is = (
+  classes_text p told number classes,
   is,
-  λ files rest more. lines.tree file number bytes files tokens classes rest lexes parses (subst (λ (j : ℕ). AreTreesOf p (file + 1) j files rest) behind more),
+  λ files rest more. lines.tree file number bytes files tokens classes rest lexes parses told tells (subst (λ (j : ℕ). AreTreesOf p (file + 1) j files rest) behind more),
 )
 
 -- a file whose tokens are no tree

@@ -5,6 +5,7 @@ use Rattle.std.specs.Option.{option_map}
 use Rattle.cool_syntax.specs.declared.file_tree.Feature.{Feature}
 use Rattle.cool_classes.specs.Chains.{Class}
 use Rattle.cool_rules.specs.declared.typed_program.TypedProgram.{TypedProgram}
+use Rattle.cool_extents.specs.FoundExtents.{found_extents}
 use Rattle.cool_listings.specs.declared.trees.Column.{Column}
 use Rattle.cool_listings.specs.Columns.{column_seen, FitsClass, FitsFeature}
 use Rattle.cool_listings.specs.TreeLines.{class_text, column_of, feature_text}
@@ -24,6 +25,7 @@ pub feature_text-requires : goal.feature_text-requires
 feature_text-requires c =
     let x = c.index-features-index.result in
     record {
+      rising = c.requires.rising;
       fits =
           elim c.match-program.branch [
             | in-Some w ↦
@@ -50,9 +52,9 @@ loop-index-preserved c =
           ∙ ap (λ (o : Option (Bor TypedProgram)). column_of (P o) c.args.number x) (sym w.in-Some.is)
       | in-None w ↦ ap column_seen w.column-is ∙ ap (λ (o : Option (Bor TypedProgram)). column_of (P o) c.args.number x) (sym w.in-None.is)
     ] in
-    piece_more (λ (feature : Feature). feature_text (column_of (P c.args.program) c.args.number feature) feature) c.as_slice-features.result.now c.loop-index.index x c.loop-index.text.items c.in_ok-feature_text.field-0.items c.extend_from_slice.new.self.items
-    (class_text (P c.args.program) c.args.number c.args.class.now)
+    piece_more (λ (feature : Feature). feature_text (column_of (P c.args.program) c.args.number feature) (found_extents c.args.tokens.now) feature) c.as_slice-features.result.now c.loop-index.index x c.loop-index.text.items c.in_ok-feature_text.field-0.items c.extend_from_slice.new.self.items
+    (class_text (P c.args.program) (found_extents c.args.tokens.now) c.args.number c.args.class.now)
     c.loop-index-test.true c.index-features-index.is
-    (c.in_ok-feature_text.ensures ∙ ap (λ o. feature_text o x) told)
+    (c.in_ok-feature_text.ensures ∙ ap (λ o. feature_text o (found_extents c.args.tokens.now) x) told)
     (c.in_ok-extend_from_slice.ensures.items ∙ ap (λ (l : List ℕ). c.loop-index.text.items ++ l) c.deref.ensures.value)
     c.loop-index.invariant

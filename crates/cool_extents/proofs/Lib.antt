@@ -1,0 +1,8 @@
+mod ExtentsFound
+mod ExtentsMade
+mod ExtentsOfNodes
+mod FindingNodes
+pub mod LengthsFound
+mod ParenthesesAround
+mod SearchingByHalves
+mod TokensAtPlaces
