@@ -10,8 +10,8 @@ from phase_tokens import FileTokens, Token, ask, course_token, digits, error_tok
 # (Quoted), a node, or a list of nodes that stands between parentheses.
 Node = namedtuple("Node", "line label items type")
 Quoted = namedtuple("Quoted", "text")
-# A node as the program prints it: its place (file, line, byte), its type, its form, and what follows on its line.
-Printed = namedtuple("Printed", "at type form rest")
+# A node as the program prints it: its place and that of its first token (file, line, byte), its type, its form, and what follows on its line.
+Printed = namedtuple("Printed", "at first type form rest")
 
 BINARY = {b"+": b"_plus", b"-": b"_sub", b"*": b"_mul", b"/": b"_divide", b"<": b"_lt", b"<=": b"_leq", b"=": b"_eq"}
 UNARY = {b"isvoid": b"_isvoid", b"~": b"_neg", b"not": b"_comp"}
@@ -29,7 +29,6 @@ class Trees:
         self.tokens, self.names, self.lines, self.typed = FileTokens(paths), names, lines, typed
         self.faults, self.classes = [], [[] for _ in paths]
         self.index = [{token.byte: i for i, token in enumerate(tokens)} for tokens in self.tokens.tokens]
-        self.closing = [closing_parentheses(tokens) for tokens in self.tokens.tokens]
         self._read(ask("--trees", paths))
 
     def _read(self, lines):
@@ -39,8 +38,8 @@ class Trees:
             word, at, rest = line.split(b" ", 2)
             at = place(at)
             if word == b"node":
-                _, type_, form, *parts = rest.split(b" ", 3)
-                feature[-1].append(Printed(at, type_, form, parts[0] if parts else b""))
+                first, _, _, type_, form, *parts = rest.split(b" ", 5)
+                feature[-1].append(Printed(at, place(first), type_, form, parts[0] if parts else b""))
             elif word == b"fault":
                 self.faults.append((at, rest))
             elif word == b"formal":
@@ -73,31 +72,17 @@ class Trees:
 
     def _expression(self, nodes):
         """The tree of printed nodes, where the parts of each stand before it."""
-        self.nodes, self.made, self.starts = nodes, [], []
+        self.made = []
         for node in nodes:
-            start = self._first_token(node)
-            self.starts.append(start)
-            token = self.tokens.tokens[node.at[0]][start]
-            line = course_token(self.tokens.texts[node.at[0]], token).line if self.lines == "first" else node.at[1]
+            line = self._first_line(node.first) if self.lines == "first" else node.at[1]
             label, items = self._content(node, line)
             self.made.append(Node(line, label, items, node.type if self.typed else NO_TYPE))
         return self.made[-1]
 
-    def _first_token(self, node):
-        """The index of the first token of a node. The parentheses around its leftmost part stand before that part, and close before the node's own token."""
-        file = node.at[0]
-        tokens, own = self.tokens.tokens[file], self.index[file][node.at[2]]
-        if node.form in BINARY or node.form in (b"call", b"static"):
-            part = int(node.rest.split(b" ")[{b"call": 1, b"static": 2}.get(node.form, 0)])
-            if node.form == b"call" and self.nodes[part].at == node.at:
-                return own
-            start = self.starts[part]
-            while start > 0 and tokens[start - 1][::3] == (b"sign", b"(") and self.closing[file].get(start - 1, own) < own:
-                start -= 1
-            return start
-        if node.form == b"let" and tokens[own - 1][::3] == (b"keyword", b"let"):
-            return own - 1
-        return own
+    def _first_line(self, at):
+        """The line of the first token of a node, as the courses have it: that on which the token ends."""
+        file, _, byte = at
+        return course_token(self.tokens.texts[file], self.tokens.tokens[file][self.index[file][byte]]).line
 
     def _content(self, node, line):
         """The label of a node, and its items."""
@@ -151,17 +136,6 @@ class Trees:
 def syntax_error(name, line, token):
     value = b' = "%s"' % token.value if token.word in (b"STR_CONST", b"ERROR") else b" = " + token.value if token.value else b""
     return b'"%s", line %d: syntax error at or near %s%s' % (name, line, token.word, value)
-
-
-def closing_parentheses(tokens):
-    """For the index of each opening parenthesis, the index of the one that closes it."""
-    opened, found = [], {}
-    for i, token in enumerate(tokens):
-        if token[::3] == (b"sign", b"("):
-            opened.append(i)
-        elif token[::3] == (b"sign", b")") and opened:
-            found[opened.pop()] = i
-    return found
 
 
 def tree_lines(node, lines=True):
