@@ -1,2 +1,2 @@
-@rem On Windows, what cool-explain is elsewhere: runs the program on the words given (docs/explain.md).
+@rem The command `cool-explain` for Windows: runs the program with the given arguments (docs/explain.md).
 @"%~dp0release\cool_explain.exe" %*

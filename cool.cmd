@@ -1,2 +1,2 @@
-@rem On Windows, what cool is elsewhere: runs the program on the words given (docs/release.md).
+@rem The command `cool` for Windows: runs the program with the given arguments (docs/release.md).
 @"%~dp0release\cool.exe" %*

@@ -1,4 +1,4 @@
-"""Reads assembly as `cool asm` writes it and `cool exec` takes it, for the filters asm-for-spim and asm-for-linux. docs/assembly.md has its words."""
+"""Reads assembly as `cool asm` writes it and `cool exec` accepts it, for the filters asm-for-spim and asm-for-linux. docs/assembly.md defines the text."""
 import argparse
 import functools
 import re
@@ -23,7 +23,7 @@ def value(word):
 
 
 class Unlike(Exception):
-    """Why no text can be made."""
+    """A text that cannot be converted, with the reason."""
 
 
 class Line:
@@ -34,7 +34,7 @@ class Line:
         while at < len(text):
             found = WORD.match(text, at)
             if not found:
-                raise Unlike("an unknown word in %s" % ascii(text.decode("utf-8", "replace")))
+                raise Unlike("unknown token in %s: see docs/assembly.md for what a line may have" % ascii(text.decode("utf-8", "replace")))
             at = found.end()
             if found.lastgroup not in (None, "comment"):
                 self.words.append((found.lastgroup, found.group(found.lastgroup)))
@@ -63,11 +63,11 @@ class Line:
 def lines_of(text):
     """The lines of a text. Most of a compiled program stand there many times."""
     if text[:1] == b"\x7f":
-        raise Unlike("an image, and no text")
+        raise Unlike("this is an image: give the assembly text, as `cool asm` writes it")
     line_of = functools.lru_cache(maxsize=None)(Line)
     lines = [line_of(line) for line in text.split(b"\n")]
     if not any(line.size for line in lines):
-        raise Unlike("a text without instructions")
+        raise Unlike("the text has no instructions: give that of a whole program, as `cool asm` writes it")
     return lines
 
 
@@ -101,10 +101,10 @@ def targets(lines):
             if line.head in BRANCHES and line.words[-1][0] == "number":
                 goals[place] = at + value(line.words[-1][1])
             if line.head in JUMPS and line.words[-1][0] == "number":
-                raise Unlike("line %d: a jump to an address" % (place + 1))
+                raise Unlike("line %d jumps to an address: use a label" % (place + 1))
     for place, goal in goals.items():
         if goal not in starts:
-            raise Unlike("line %d: a branch to no statement" % (place + 1))
+            raise Unlike("line %d branches to a place without an instruction: use a label" % (place + 1))
     return {place: starts[goal] for place, goal in goals.items()}
 
 
@@ -123,7 +123,7 @@ def kib(most):
 
 
 def filtered(name, description, made, heap, stack):
-    """Takes the words of the filter of this name, and writes what `made` gives of a text and of the sizes of heap and stack. The status at its end."""
+    """Reads the arguments of the filter of this name, and writes the result of `made` for a text and the sizes of heap and stack. Returns the status."""
     parser = argparse.ArgumentParser(prog=name, description=description, formatter_class=argparse.RawDescriptionHelpFormatter)
     parser.add_argument("--heap", type=kib(262144), metavar="KIB", default=heap)
     parser.add_argument("--stack", type=kib(65536), metavar="KIB", default=stack)
@@ -142,5 +142,5 @@ def filtered(name, description, made, heap, stack):
     except Unlike as why:
         print("%s: %s" % (name, why), file=sys.stderr)
     except (IndexError, ValueError):
-        print("%s: this is no text that `cool exec` takes" % name, file=sys.stderr)
+        print("%s: the text is not correct: `cool exec` reports the line and the error" % name, file=sys.stderr)
     return 1

@@ -1,4 +1,4 @@
-"""Shared by the tools of this folder: their options, the program of the repository, and how they end."""
+"""Shared by the scripts of this folder: their options, the program of the repository, and how they end."""
 
 import os
 import re
@@ -11,15 +11,15 @@ CASES = os.path.join(HERE, "cases")
 
 
 class Refusal(Exception):
-    """What is wrong with what a call names."""
+    """A call that cannot be done, with the reason."""
 
 
 class BadWords(Exception):
-    """The words of a call are of no form that it takes."""
+    """The arguments of a call are not valid."""
 
 
 def take_options(words, options):
-    """Takes options off the front of words, and sets them: flags, texts, and else numbers, by what each is without its option."""
+    """Removes options from the front of the arguments, and sets them: flags, texts or numbers, by the type of the default."""
     while words and words[0].startswith("-"):
         name = words.pop(0)
         if isinstance(options.get(name), bool):
@@ -33,12 +33,12 @@ def take_options(words, options):
 
 
 def shown(name):
-    """A name as a terminal may be sent it: with `?` for what it would obey, or shows nothing of."""
+    """A name that is safe to print on a terminal: with `?` for control characters and invisible ones."""
     return "".join(letter if letter.isprintable() else "?" for letter in name)
 
 
 def own_program(name="cool"):
-    """The program of the repository, or another one of it, which is proved and built first where it must be."""
+    """The path of a program of the repository, which is proved and built first if necessary."""
     found = subprocess.run([os.path.join(HERE, "..", "release", "program"), name], stdout=subprocess.PIPE, check=False)
     if found.returncode:
         sys.exit(125)
@@ -46,7 +46,7 @@ def own_program(name="cool"):
 
 
 def end_with(name, usage, work):
-    """Ends with the status that the work gives, or, where it cannot be done, with 2 and a line that says why."""
+    """Ends with the status that `work` returns, or, if the work cannot be done, with 2 and a line that says why."""
     os.environ["LC_ALL"] = "C"
     for stream in (sys.stdout, sys.stderr):
         stream.reconfigure(encoding="utf-8", errors="surrogateescape")
@@ -62,6 +62,6 @@ def end_with(name, usage, work):
         print(name, refusal, sep=": ", file=sys.stderr)
     except OSError as error:
         print(name, *filter(None, [shown(os.fsdecode(error.filename or "")), error.strerror]), sep=": ", file=sys.stderr)
-        # What is left to be written there would fail again.
+        # A later write to standard output would fail again.
         os.dup2(os.open(os.devnull, os.O_WRONLY), sys.stdout.fileno())
     sys.exit(2)

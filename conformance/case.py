@@ -5,7 +5,7 @@ import re
 
 from call import CASES, Refusal
 
-# The files of a case that are no files of its program.
+# The files of a case that do not belong to its program.
 EXPECTED = ("about", "words", "status", "input", "stdout", "stderr")
 # So many bytes are looked at for the first line that differs.
 MOST_SHOWN = 65536
@@ -19,21 +19,21 @@ class Case:
         self.kind = name.partition("-")[0]
         self.folder = os.path.join(cases, name)
         if name in ("", ".", "..") or "/" in name or not os.path.isdir(self.folder):
-            raise Refusal(f"no case: {name}")
+            raise Refusal(f"there is no case {name} in {cases}")
         self.about = self._read("about", b"").decode("utf-8", "surrogateescape").removesuffix("\n")
         if not re.fullmatch(r"(manual|choice): .+", self.about):
-            raise Refusal(f"not one line `manual: ..` or `choice: ..` in cases/{name}/about")
+            raise Refusal(f"{name}/about must have one line, `manual: ..` or `choice: ..`")
         words = self._read("words")
         self.words = words.removesuffix(b"\n").split(b"\n") if words else []
         self.output = self._read("stdout", b"")
         self.notes = self._read("stderr", b"")
         status = self._read("status").removesuffix(b"\n")
         if not status.isdigit():
-            raise Refusal(f"not one number in cases/{name}/status")
+            raise Refusal(f"{name}/status must have one number")
         self.status = int(status)
 
     def _read(self, part, missing=None):
-        """The bytes of a file of the case, or these where the case does without it."""
+        """The bytes of a file of the case, or `missing` if the case does not have it."""
         path = os.path.join(self.folder, part)
         if missing is not None and not os.path.lexists(path):
             return missing
@@ -41,7 +41,7 @@ class Case:
             return file.read()
 
     def differences(self, came, mode):
-        """Of each part that differs: in short what is wrong, and the lines that show it. The mode says what counts, all where it is ''."""
+        """For each part that differs: in short what is wrong, and the lines that show it. The mode says which parts count; all if it is ''."""
         if mode:
             wanted, found = verdict(self.status), verdict(came.status)
             if found != wanted:
@@ -62,9 +62,9 @@ class Case:
 
 
 def verdict(status):
-    """What a status says of files. One of a command that was not found or was killed by a signal says nothing."""
+    """What a status says about a program. That of a command that was not found or was killed by a signal says nothing."""
     if status >= 126:
-        return f"none, status {status}"
+        return f"no verdict, status {status}"
     return "not 0" if status else "0"
 
 
@@ -74,7 +74,7 @@ def read(file, most):
 
 
 def show_difference(wanted, file):
-    """The first line in which the bytes that are wanted and those of the file differ."""
+    """The first line in which the expected bytes and those of the file differ."""
     size = os.fstat(file.fileno()).st_size
     wanted_lines, found_lines = lines(wanted[:MOST_SHOWN]), lines(read(file, MOST_SHOWN))
     at = 0

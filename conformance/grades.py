@@ -22,7 +22,7 @@ class Grades:
             try:
                 fcntl.flock(self.part, fcntl.LOCK_EX | fcntl.LOCK_NB)
             except BlockingIOError:
-                raise Refusal(f"another call writes {path}.part") from None
+                raise Refusal(f"another call is writing {path}.part: wait for its end, or give --table another name") from None
             self.part.truncate(0)
             self._keep(head, *self.lines.values())
 
@@ -33,7 +33,7 @@ class Grades:
         with open(old, encoding="utf-8", errors="surrogateescape") as file:
             first, *lines = file.read().split("\n")[:-1] or [""]
         if first and first != self.head:
-            raise Refusal(f"of other cases, so it cannot be taken up: {old}")
+            raise Refusal(f"{old} is about other cases, so --resume cannot continue it: give --table another name")
         self.lines = {line.partition("\t")[0]: line for line in lines}
 
     def _keep(self, *lines):

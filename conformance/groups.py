@@ -1,4 +1,4 @@
-"""Differences that are alike as one group each: by their sort and the rules that their smallest programs use; told, and written as cases."""
+"""Groups of similar differences, by their sort and the rules that their smallest programs use; prints them, and writes them as cases."""
 
 import collections
 import os
@@ -97,12 +97,12 @@ class Groups:
         if not os.path.exists(table):
             return
         if not resumes:
-            raise Refusal(f"{self.folder} has a table of an earlier call: --resume goes on with it")
+            raise Refusal(f"{self.folder} has the table of an earlier call: continue that with --resume, or name another folder")
         with open(table, encoding="utf-8") as file:
             head, *rows = file.read().splitlines()
         found = re.fullmatch(r"seed (\d+)\tnext (\d+)", head)
         if not found or int(found[1]) != self.seed:
-            raise Refusal(f"the table of {self.folder} is of another seed, or none: {head}")
+            raise Refusal(f"the table of {self.folder} has another seed, or is damaged, so --resume cannot continue it: {head}")
         self.next = int(found[2])
         for row in rows:
             self._take_row(row)

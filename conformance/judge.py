@@ -6,16 +6,16 @@ from limited import Runner
 
 
 class Judge:
-    """A command, and within which limits it passes a case: `mode` is that of `run`, `limits` are its options that take a number, `owner` that of a Runner."""
+    """A command, and the limits for a case: `mode` is that of `run`, `limits` are its options that have a number, `owner` that of a Runner."""
 
     def __init__(self, command, mode, limits, owner=None):
         self.mode, self.limits, self.late = mode, limits, 0
         self.runner = Runner(command, limits["--seconds"], limits["--memory"], owner)
 
     def results(self, cases):
-        """Of each case, in their order: the case, why it failed in short, and the lines that tell of it; nothing where it passed.
+        """For each case, in order: the case, in short why it failed, and the lines that show it; both empty if it passed.
 
-        Whoever closes this before its end stops what still runs.
+        A caller that closes this before its end stops the cases that still run.
         """
         with concurrent.futures.ThreadPoolExecutor(self.limits["--jobs"]) as pool:
             try:
@@ -27,11 +27,11 @@ class Judge:
     def _result(self, case):
         most_late, seconds = self.limits["--timeouts"], self.limits["--seconds"]
         if most_late and self.late >= most_late:
-            return self._unjudged(case, f"not run: {most_late} cases did not end")
+            return self._unjudged(case, f"not run, because {most_late} cases did not end")
         with self.runner.run(case) as came:
             if came.status is None:
                 self.late += 1
-                return self._unjudged(case, f"not ended after {seconds} seconds")
+                return self._unjudged(case, f"did not end within {seconds} seconds")
             differences = list(case.differences(came, self.mode))
         told = [line for _, lines in differences for line in lines]
         return case, ", ".join(why for why, _ in differences), told + [f"  {case.about}"] * bool(told)
@@ -41,6 +41,6 @@ class Judge:
 
 
 def row(case, why, lines):
-    """The line of a table that tells of a case: behind why it failed stand the lines that show where."""
+    """The line of a table for a case: after the reason of a failure come the lines that show it."""
     shown = [line.strip() for line in lines if line.startswith("  ") and line[2:] != case.about]
     return "\t".join([case.name, "failed" if why else "passed", why, *shown]) + "\n"

@@ -1,4 +1,4 @@
-"""Runs a command within limits, and leaves nothing of it behind."""
+"""Runs a command within limits, and leaves no process and no file of it."""
 
 import contextlib
 import os
@@ -11,14 +11,14 @@ from typing import BinaryIO, NamedTuple, Optional
 
 from case import EXPECTED
 
-# No file that a program writes, its output too, may be larger, in blocks of 512 bytes: 16 MiB, since the disk belongs to others, too.
+# The largest file that a program may write, including its output, in blocks of 512 bytes: 16 MiB, since others use the disk, too.
 MOST_FILE_BLOCKS = 32768
 # The shell of a command sets what it may use, and becomes the command.
 SHELL = ("/bin/sh", "-c", 'ulimit -c 0; ulimit -f "$1"; [ -z "$2" ] || ulimit -v "$2" || exit 126; shift 2; exec "$@"', "sh")
 
 
 class Came(NamedTuple):
-    """What came of a command. The status is that of a shell where a signal ended it, and None where it did not end in time."""
+    """The result of a command. The status is 128 and the signal if a signal ended it, and None if it did not end in time."""
 
     status: Optional[int]
     output: BinaryIO
@@ -34,12 +34,12 @@ class Runner:
         self.stopped, self._stopping = os.pipe()
 
     def stop(self):
-        """Has each command that runs end at once, and each later one."""
+        """Ends each command that runs, and each later one at its start."""
         os.close(self._stopping)
 
     @contextlib.contextmanager
     def run(self, case):
-        """What comes of the command on the words of a case, in a copy of its folder without what is expected."""
+        """The result of the command with the arguments of a case, in a copy of its folder without the expected results."""
         folder = tempfile.mkdtemp(prefix="conformance-")
         # These have no name, so that no program takes them away or puts others in their place.
         with tempfile.TemporaryFile() as output, tempfile.TemporaryFile() as notes:
@@ -97,7 +97,7 @@ def give(folder, owner):
 
 
 def copy_input(source, target):
-    """Copies what a case gives as input: bytes, none where it has no such file, or a folder, which cannot be read."""
+    """Copies the input of a case: a file, an empty one if the case has none, or a folder, which cannot be read."""
     if os.path.isdir(source):
         os.mkdir(target)
     elif os.path.exists(source):
@@ -107,7 +107,7 @@ def copy_input(source, target):
 
 
 def remove(folder):
-    """Removes a folder, also where a program took away the right to, or put more folders into one another than Python walks."""
+    """Removes a folder, even if a program removed the permission, or nested more folders than Python can walk."""
     try:
         shutil.rmtree(folder)
     except (OSError, RecursionError):

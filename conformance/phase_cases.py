@@ -53,7 +53,7 @@ class PhaseCase:
 
     def _why(self, came):
         found = verdict(came.status)
-        if found.startswith("none"):
+        if found.startswith("no verdict"):
             return f"status {came.status}"
         if self.wanted is None:
             return "accepts a program with an error" if found == "0" else None

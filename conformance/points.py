@@ -1,4 +1,4 @@
-"""Points of a compiler by rule and phase, and what a student is told of the rules that it fails."""
+"""Points of a compiler by rule and phase, and the text for a student about the rules that it fails."""
 
 import fnmatch
 import os
@@ -6,23 +6,23 @@ import os
 from graded import column, graded_cases
 from rules import Rule, rules
 
-# So many cases of a rule are shown with their programs, and so many lines of a program.
+# The number of cases of a rule that are shown with their programs, and of lines of a program.
 MOST_CASES, MOST_LINES = 3, 40
 NOT_SHOWN = "a case that is not shown"
-# What `assembled` ends with where it says nothing of a program.
+# The status of `assembled` that says nothing about a program.
 NO_VERDICT = "status 126 "
 WHY_NOT = "\n  (126: the code could not be loaded, trapped or did not end, or the compiler could not be called)"
-# What is so of the program of a case, by its column.
+# The program of a case, by its column.
 WHAT_IT_IS = {
     "accepts": "this program is legal",
-    "refuses": "this program has a fault",
+    "refuses": "this program has an error",
     "runs": "this program runs to its end",
-    "fails": "this program does not run to its end",
+    "fails": "this program ends by a run-time error",
 }
 
 
 class Points:
-    """Of what came of each case by its name, why it failed and the lines that tell of it, and of the points of each phase."""
+    """The points, from the result of each case by its name (why it failed, and the lines that show it) and the points of each phase."""
 
     def __init__(self, came, cases, phases, hidden):
         self.came, self.cases, self.hidden = came, cases, hidden
@@ -56,13 +56,13 @@ class Points:
         return any(map(self.is_hidden, rule.cases))
 
     def named(self, names):
-        """Which cases failed and why, on a line, those that are not shown as a number."""
+        """Which cases failed and why, on one line. Hidden cases are only counted."""
         shown = [f"{name} ({self.came[name][0]})" for name in names if not self.is_hidden(name)]
         count = len(names) - len(shown)
         return ", ".join(shown + [NOT_SHOWN if count == 1 else f"{count} cases that are not shown"] * bool(count))
 
     def told(self, names):
-        """The same in lines, with what the first cases show, where they differ, and their programs."""
+        """The same in lines, with the first cases: what they show, where the result differs, and their programs."""
         shown = [name for name in names if not self.is_hidden(name)]
         pieces = [self._shown(name) for name in shown[:MOST_CASES]]
         others = [name for name in names if name not in shown[:MOST_CASES]]
@@ -76,10 +76,10 @@ class Points:
         return "\n".join([f"{name}: {WHAT_IT_IS[column(case)]}: {why}{more}", case.about, *lines, *texts])
 
     def _program(self, case, file):
-        """The first lines of a file of a case, as far as it can be read, below its name. Bytes that are not seen are told as `\\x00`."""
+        """The first lines of a file of a case, if it can be read, below its name. Invisible bytes are written as `\\x00`."""
         path = os.path.join(case.folder, file)
         if not os.path.isfile(path):
-            return f"{file}: no file"
+            return f"{file}: there is no such file"
         with open(path, encoding="latin-1", newline="\n") as text:
             lines = text.read(1 << 16).split("\n")
         rest = [f"({len(lines) - MOST_LINES} lines more)"] if len(lines) > MOST_LINES else []
@@ -88,7 +88,7 @@ class Points:
 
 
 class PointsOfTests(Points):
-    """The same of tests that a student wrote, of rows that `mutation-score` printed: each wrong compiler is a rule, which is passed where a test finds it."""
+    """The points for tests that a student wrote, from rows of `mutation-score`: each wrong compiler is a rule, which is passed if a test finds it."""
 
     def __init__(self, rows, phase_of, phases, hidden):
         self.hidden, self.phases = hidden, {phase: most for phase, most in phases.items() if most}

@@ -1,4 +1,4 @@
-"""Tests of a set, and which mutants of mutants/ they find: each mutant is loaded into a process of its own, which goes through all tests."""
+"""Finds which mutants of mutants/ a set of tests detects: each mutant is loaded into a process of its own, which runs all tests."""
 
 import multiprocessing
 import os
@@ -13,19 +13,19 @@ from edits import EDITS
 from mutating import load
 from sample import sample
 
-# What a mutant may take for a test: steps, and bytes of memory for all.
+# The limits of a mutant: steps for a test, and bytes of memory for all tests.
 MOST_STEPS, MOST_BYTES = 50000, 2 << 30
 EXPECTED = ("about", "words", "status", "input", "stdout", "stderr")
 
 
 class Test:
-    """A program of some files with its input, and what the reference says of it."""
+    """A program of some files with its input, and the answer of the reference."""
 
     def __init__(self, name, texts, given, answer):
         self.name, self.texts, self.given, self.answer = name, texts, given, answer
 
     def finds(self, status, output):
-        """Whether what a mutant says is wrong: it ends with 1 where it refuses the program."""
+        """Whether the answer of a mutant is wrong. The status is 1 if it refuses the program."""
         answer = self.answer
         if answer.kinds or status == 1:
             return bool(answer.kinds) != (status == 1)
@@ -52,7 +52,7 @@ def files_of(path):
 
 
 def asked(name, texts, given, reference):
-    """The test of some files, or None where the reference gives no answer."""
+    """The test of some files, or None if the reference gives no answer."""
     texts = list(texts)
     with tempfile.TemporaryDirectory(prefix="score-") as folder:
         for file, data in texts:
@@ -67,14 +67,14 @@ def tests_of(paths, reference):
     tests = []
     for path in paths:
         if not os.path.exists(path):
-            raise Refusal(f"no test: {path}")
+            raise Refusal(f"there is no file or folder {path}: name a test")
         name = os.path.basename(os.path.abspath(path))
         texts, given = files_of(path)
         test = texts and asked(name, texts, given, reference)
         if test:
             tests.append(test)
         else:
-            print(f"conformance/mutation-score: left out: {path}", file=sys.stderr)
+            print(f"conformance/mutation-score: {path} is left out: a file is missing, or it does not end within the limits", file=sys.stderr)
     return tests
 
 
@@ -97,7 +97,7 @@ def finders(name):
 
 
 def result(small, test):
-    """The status and the output of a mutant. One that breaks gives no answer that is right."""
+    """The status and the output of a mutant. If it crashes, its answer is wrong."""
     try:
         output, _, status = small.perform("run", test.texts, test.given)
     except Exception:
@@ -106,7 +106,7 @@ def result(small, test):
 
 
 def begin():
-    """What each process does first. A signal is for the one that began them."""
+    """The first step of each process: only the parent handles an interrupt."""
     signal.signal(signal.SIGINT, signal.SIG_IGN)
     signal.signal(signal.SIGTERM, signal.SIG_DFL)
 

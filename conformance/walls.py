@@ -1,4 +1,4 @@
-"""The walls between a compiler that is not trusted and the cases: the sandbox, another user, or none."""
+"""The isolation of a compiler that is not trusted: the sandbox, another user, or none."""
 
 import os
 import pwd
@@ -28,12 +28,12 @@ class Wall:
         if user:
             self._check_user()
         elif not is_trusted:
-            self._check("no sandbox", "/usr/bin/true")
+            self._check("the sandbox does not work", "/usr/bin/true")
         if not is_trusted:
             self._check_sight()
 
     def _call(self, wrong, *command):
-        """What comes of a command behind this wall: a compiler that cannot be called is not one that refuses programs."""
+        """The result of a command in this isolation. If it cannot be called, that is an error, so that no compiler seems to refuse programs."""
         with tempfile.TemporaryDirectory() as empty:
             tried = subprocess.run([self.script, *self.options, *command], cwd=empty, stdout=subprocess.PIPE, stderr=subprocess.PIPE, check=False)
         if tried.returncode not in (0, 3, 4):
@@ -45,7 +45,7 @@ class Wall:
 
     def _check_sight(self):
         """No compiler may call our program, wherever that was installed."""
-        found = os.fsdecode(self._call("no look for our programs", "/bin/sh", "-c", OURS).stdout).removesuffix("\n")
+        found = os.fsdecode(self._call("the search for installed programs failed", "/bin/sh", "-c", OURS).stdout).removesuffix("\n")
         if found:
             raise Refusal(f"a compiler could call the program of this repository: uninstall {found}, or move it out of /usr and /opt")
 
@@ -53,12 +53,12 @@ class Wall:
         try:
             found = pwd.getpwnam(self.user)
         except KeyError:
-            raise Refusal(f"no user {self.user}: useradd {self.user} makes one") from None
-        came = self._check(f"no call as {self.user}", "/bin/sh", "-c", REACHED, "sh", TOP, tempfile.gettempdir())
+            raise Refusal(f"there is no user {self.user}: make one with useradd {self.user}") from None
+        came = self._check(f"cannot run programs as {self.user}", "/bin/sh", "-c", REACHED, "sh", TOP, tempfile.gettempdir())
         if came == 3:
-            raise Refusal(f"{self.user} can read the cases: chmod go-rwx {TOP}")
+            raise Refusal(f"{self.user} can read the cases: forbid it with chmod go-rwx {TOP}")
         if came == 4:
-            raise Refusal(f"{self.user} cannot reach {tempfile.gettempdir()}: name another folder by TMPDIR")
+            raise Refusal(f"{self.user} cannot enter {tempfile.gettempdir()}: set TMPDIR to another folder")
         self.owner = found.pw_uid, found.pw_gid
 
     def command(self, folder, program):
@@ -86,8 +86,8 @@ class Wall:
     def why_not(self, folder, phase=""):
         """Why a folder has no compiler, or no program for a phase, that may be called."""
         if self._is_seen(folder):
-            return "each compiler sees /usr, so none in it is called"
-        return f"no {phase or 'compiler or coolc'} that can be run"
+            return "a folder in /usr is not graded, since every compiler can read it"
+        return f"no executable file {phase or 'compiler or coolc'}"
 
     def _is_seen(self, folder):
         return not self.is_trusted and os.path.realpath(folder).startswith("/usr/")
@@ -96,12 +96,12 @@ class Wall:
         if not self.user:
             return os.access(path, os.X_OK) and not os.path.isdir(path)
         beside = os.path.dirname(os.path.dirname(path))
-        came = self._check(f"no call as {self.user}", "/bin/sh", "-c", CALLED, "sh", beside, path)
+        came = self._check(f"cannot run programs as {self.user}", "/bin/sh", "-c", CALLED, "sh", beside, path)
         if came == 3:
-            raise Refusal(f"{self.user} can write where the table is to be: chmod go-w {beside}")
+            raise Refusal(f"{self.user} can write to the folder of the table: forbid it with chmod go-w {beside}")
         return came == 0
 
     def end(self):
-        """Ends what a compiler left running. The sandbox ends it by itself."""
+        """Ends processes that a compiler left running. The sandbox ends them by itself."""
         if self.user:
-            self._check("not ended", "/bin/sh", "-c", "kill -KILL -1; exit 0")
+            self._check("the processes of the compiler could not be ended", "/bin/sh", "-c", "kill -KILL -1; exit 0")

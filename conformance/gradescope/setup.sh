@@ -1,7 +1,6 @@
 #!/bin/sh
-# Makes a machine of Gradescope ready for `run_autograder`, as root, once: Python, a user `compiler` without rights, and the repository, which stands in
-# the folder `source` beside that script, out of this user's reach. It ends with the status of what failed, and 0 else. It needs apt-get only where
-# there is no Python 3.
+# Prepares a machine of Gradescope for `run_autograder`, once, as root: installs Python, makes a user `compiler` without privileges, and closes the repository,
+# the folder `source` beside that script, to this user. The status is 0, or that of the command that failed. It needs apt-get only if there is no Python 3.
 set -e
 cd "${1:-/autograder}"
 if ! type python3 >/dev/null 2>&1; then
