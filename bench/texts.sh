@@ -1,6 +1,6 @@
 # Generates texts of any size for bench/run and bench/instructions: shell functions that write to standard output; source this file.
 
-# So many KiB of Cool: classes of five methods, and Main.
+# A program of $1 KiB: classes of five methods, and Main.
 cool_text() {
     awk -v most="$(($1 * 1024 - 200))" 'BEGIN {
         for (c = 0; size < most; c++) {
@@ -15,12 +15,12 @@ cool_text() {
     }'
 }
 
-# A text of so many thousand lines, the last of which is at fault, so that it is read and no more.
+# An assembly text of $1 thousand lines with an error in the last one, so that it is read and not run.
 text_of() {
     awk -v most="$1" 'BEGIN { for (i = 0; i < most * 250; i++) printf "l%d: addiu $t0, $t1, %d\n lw $t2, 8($sp)\n bne $t0, $t2, l%d # back\n\n", i, i % 999, i; print "oops" }'
 }
 
-# What a session of so many KiB is given: a file, a check, and its end.
+# The input of a session: a file $2 of $1 KiB, a check, and the end.
 session_of() {
     cool_text "$1" >"$2"
     printf 'file a.cl %d\n' "$(wc -c <"$2")" | cat - "$2"

@@ -1,4 +1,4 @@
-"""Runs cases on this machine and on another one, and compares what they write and how they end: for compare/spim-compare and compare/qemu-compare."""
+"""Runs cases on this machine and on another one, and compares output and status, for compare/spim-compare and compare/qemu-compare."""
 import argparse
 import collections
 import concurrent.futures
@@ -17,13 +17,13 @@ STATUSES = (0, 3, 4, 5)
 
 
 class Other:
-    """Another machine: its name, the commands that it takes with their packages, and the file of compare/ with the cases that differ, and why. It has
-    `text(text, heap, stack)`, which makes its text of what `compiles` gives or raises `Unlike`, and `run(path, stdin, most)`, which gives the status, the
-    output and the notes of that text within so many seconds and blocks of 512 bytes."""
+    """Another machine: its name, the commands that it needs with their packages, and the file of compare/ with the cases that differ, and why. It has
+    `text(text, heap, stack)`, which converts the output of `compiles` to its text or raises `Unlike`, and `run(path, stdin, most)`, which returns the status,
+    the output and the messages of that text; `most` are the limits in seconds and in blocks of 512 bytes."""
 
-    # A run may take so many seconds, and write so many blocks: behind an exception or the end of the input it may go on for ever.
+    # The limits of a run, in seconds and blocks: after an exception or the end of the input it may continue for ever.
     most, most_of_listed = (300, 65536), (5, 256)
-    # What compiles a Cool program for it.
+    # The command of `cool` that compiles a program for it.
     compiles = "asm"
 
     def __init__(self, name, commands, listed, unlike):
@@ -32,7 +32,7 @@ class Other:
         self.listed = dict(line.split(" ", 1) for line in read(ROOT, "compare", listed).decode().splitlines())
 
     def leaves_out(self, case):
-        """What cases such as this one are, where none of them is run, or nothing."""
+        """The kind of cases to which this one belongs, if none of them is run; else nothing."""
         if case.words[0] == "exec" and read(case.folder, case.files[0])[:1] == b"\x7f":
             return "images"
         return ""
@@ -63,7 +63,7 @@ def bounded(command, stdin, most):
 
 
 def difference(other, case, wanted, came):
-    """What differs, or nothing. `exec` ends with 3 for every code but 0, 4 and 5."""
+    """The difference, or nothing. `exec` ends with 3 for every code except 0, 4 and 5."""
     status, output, notes = came
     if case.words[0] == "exec" and status > 0 and status not in STATUSES:
         status = 3
@@ -79,11 +79,11 @@ def difference(other, case, wanted, came):
 
 
 def compared(other, program, case, wanted, folder, most):
-    """What differs on the other machine, or nothing; that no text can be made is a difference, too."""
+    """The difference on the other machine, or nothing. It is a difference, too, if the text cannot be converted."""
     try:
         text = other.text(case.text(program, other.compiles), case.limits["heap"], case.limits["stack"])
     except other.unlike as why:
-        return "no text for %s: %s" % (other.name, why)
+        return "the text cannot be converted for %s: %s" % (other.name, why)
     path = os.path.join(folder, case.name.replace("/", "_") + ".s")
     with open(path, "wb") as file:
         file.write(text)
@@ -91,7 +91,7 @@ def compared(other, program, case, wanted, folder, most):
 
 
 def judge(other, program, case, folder):
-    """Whether a case passes, or None where it is left out, and what to say of it."""
+    """Whether a case passes, or None if it is left out, and the reason."""
     if other.leaves_out(case):
         return None, other.leaves_out(case)
     wanted = case.expected or case.run(program)
@@ -101,11 +101,11 @@ def judge(other, program, case, folder):
     why = compared(other, program, case, wanted, folder, other.most_of_listed if listed else other.most)
     if not listed:
         return not why, why
-    return bool(why), "alike, but compare/%s lists it: %s" % (other.list, listed)
+    return bool(why), "no difference, but compare/%s lists it, so remove its line there: %s" % (other.list, listed)
 
 
 def own_program(*name):
-    """The path of the program of this repository, or of that of a name, which is built first where needed."""
+    """The path of the program of this repository, or of the one of a name, which is built first if necessary."""
     done = subprocess.run([os.path.join(ROOT, "release", "program"), *name], stdout=subprocess.PIPE, text=True)
     if done.returncode:
         sys.exit(done.returncode)
@@ -125,16 +125,16 @@ def parser_of(description):
 
 
 def all_compared(command, other, given):
-    """Compares the cases that the words name, tells each that fails, and counts. The status at the end of the command of this name."""
+    """Compares the cases that the arguments name, prints each that fails, and counts. Returns the status of the command of this name."""
     if other.missing():
-        print("%s: not run: there is no %s (apt-get install %s)" % (command, other.name, " ".join(sorted(other.missing()))))
+        print("%s: no case was run, because %s is not installed: apt-get install %s" % (command, other.name, " ".join(sorted(other.missing()))))
         return 0
     program = given.program or own_program()
     counts, left_out = collections.Counter(), collections.Counter()
     with tempfile.TemporaryDirectory() as work, concurrent.futures.ThreadPoolExecutor(max(1, given.jobs)) as pool:
         cases, folder = list(chosen(given, work)), given.keep or work
         if not cases:
-            sys.exit("%s: there is no case `run` or `exec` there" % command)
+            sys.exit("%s: there are no cases of `run` or `exec` to compare: name others" % command)
         os.makedirs(folder, exist_ok=True)
         for case, (passes, why) in zip(cases, pool.map(lambda case: judge(other, program, case, folder), cases)):
             if passes is None:
@@ -146,7 +146,7 @@ def all_compared(command, other, given):
     if not (given.names or given.programs or given.texts):
         for name in sorted(set(other.listed) - {case.name for case in cases}):
             counts[False] += 1
-            print("FAIL %s: compare/%s lists it, and there is no such case" % (name, other.list))
+            print("FAIL %s: there is no such case, so remove its line from compare/%s" % (name, other.list))
     for why, count in sorted(left_out.items()):
         print("left out: %d %s" % (count, why))
     print("%d passed, %d failed" % (counts[True], counts[False]))

@@ -1,5 +1,5 @@
-"""Makes of an image a text of its own words for GNU as and ld, which runs on Linux for the MIPS: for `compare/qemu-compare --images`. docs/mips-linux.md
-says how an image without delay slots runs on a processor that has them.
+"""Converts an image to a text of its words for GNU as and ld, which runs on Linux for MIPS, for `compare/qemu-compare --images`. docs/mips-linux.md says
+how an image without delay slots runs on a processor that has them.
 """
 import struct
 
@@ -27,7 +27,7 @@ def through(register):
 
 
 def block(word, address):
-    """The words that do what a word at an address does: itself, and where it jumps or branches, a delay slot and the block of its goal."""
+    """The words that have the effect of a word at an address: the word itself, and if it jumps or branches, a delay slot and the block of its target."""
     op, function, behind = word >> 26, word & 63, address + 4
     if op in (J, JAL):
         return load(RA, behind) * (op == JAL) + jump((word & 0x03FFFFFF) << 2)
@@ -41,7 +41,7 @@ def block(word, address):
 
 
 def image_text(image):
-    """The text behind that of bin/calls-of-linux.s: a `syscall` becomes a call of what stands there, and all other words are numbers."""
+    """The text after that of bin/calls-of-linux.s: a `syscall` becomes a call of the routine there, and all other words are numbers."""
     words, data, entry = struct.unpack_from("<3I", image, 8)
     out = ["start_of_program: j 0x%x" % (WORDS * entry + BLOCKS), '.section .image_text, "ax"', ".set noreorder"]
     for place, (word,) in enumerate(struct.iter_unpack("<I", image[20 : 20 + 4 * words])):

@@ -1,4 +1,4 @@
-"""The cases that spim-compare and qemu-compare run: those of folders, the calls of examples/README.md, and those that compare/random-cases makes."""
+"""The cases that spim-compare and qemu-compare run: those of folders, the calls of examples/README.md, and those that compare/random-cases generates."""
 import os
 import re
 import subprocess
@@ -9,7 +9,7 @@ LIMITS = {"heap": 32768, "stack": 8192, "steps": 1000000000}
 
 
 def read(*path):
-    """The bytes of a file, none where there is none."""
+    """The bytes of a file, or no bytes if there is no such file."""
     path = os.path.join(*path)
     if not os.path.isfile(path):
         return b""
@@ -18,7 +18,7 @@ def read(*path):
 
 
 class Case:
-    """A call in a folder, its input, and what is expected: a status and an output, or None where a run tells them."""
+    """A call in a folder, its input, and the expected status and output, or None if a run must compute them."""
 
     def __init__(self, name, folder, words, stdin, expected=None):
         self.name, self.folder, self.words, self.stdin, self.expected = name, folder, words, stdin, expected
@@ -39,7 +39,7 @@ class Case:
         return done.returncode, done.stdout
 
     def text(self, program, word):
-        """The text of assembly that is run, or its image, as this word of the program gives it."""
+        """The assembly text that is run, or its image: the output of this command of the program."""
         if self.words[0] == "exec":
             return read(self.folder, self.files[0])
         done = subprocess.run([program, word, "--"] + self.files, cwd=self.folder, stdout=subprocess.PIPE)
@@ -66,14 +66,14 @@ def examples():
 
 
 def made(kind, count, seed, work):
-    """So many cases made by chance."""
+    """Randomly generated cases."""
     folder = os.path.join(work, kind)
     subprocess.run([os.path.join(ROOT, "compare", "random-cases"), "--seed", str(seed), kind, str(count), folder], check=True)
     return cases_of(folder, sorted(os.listdir(folder)))
 
 
 def chosen(given, work):
-    """The cases that the words name."""
+    """The cases that the arguments name."""
     for name in given.names:
         if name in os.listdir(CASES):
             yield from cases_of(CASES, [name])

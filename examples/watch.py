@@ -1,5 +1,5 @@
 #!/usr/bin/env python3
-"""Shows the faults of Cool files whenever one of them is saved: examples/watch.py FILES.."""
+"""Shows the errors of Cool files whenever one of them is saved: examples/watch.py FILES.."""
 import os, subprocess, sys, time
 
 cool = os.path.join(os.path.dirname(os.path.abspath(__file__)), "..", "cool")

@@ -9,7 +9,7 @@ from mutations import lexemes
 
 MOST_MENDS = 8
 EDIT = re.compile(rb"edit 0:(\d+):(\d+) (.*)")
-# How a program may end.
+# The possible results for a program.
 BACK, SAME, OTHER, LEFT, NONE = "comes back", "the same code", "another program", "a fault is left", "no mend"
 
 
@@ -20,7 +20,7 @@ def processor_time():
 
 
 def edited(text, told):
-    """The text with the edit among these lines, or None where there is none."""
+    """The text with the edit of these lines applied, or None if there is no edit."""
     for found in filter(None, map(EDIT.fullmatch, told)):
         new = re.sub(rb"\\([\\n])", lambda it: b"\n" if it[1] == b"n" else b"\\", found[3])
         return text[: int(found[1])] + new + text[int(found[2]) :]
@@ -45,7 +45,7 @@ class Tools:
         return self.run([self.check, "asm"], text).stdout
 
     def told(self, text):
-        """The lines that tell of the first fault of a program."""
+        """The explanation of the first error of a program, as lines."""
         run = self.run([self.explain, "--lines"], text)
         if run.returncode not in (0, 1):
             sys.exit("mistakes/mends: %s ended with %d over this, and wrote %r:\n%s"
@@ -55,7 +55,7 @@ class Tools:
         return lines[: faults[1] if faults[1:] else None]
 
     def end(self, text, meant, told):
-        """How a program ends of which these lines tell: the mend of the first fault is applied, then that of the first fault that is left, and so on."""
+        """The result for a program with this explanation: applies the fix of the first error, then that of the first error of the result, and so on."""
         for mends in range(MOST_MENDS):
             after = edited(text, told)
             if after is None:
@@ -67,7 +67,7 @@ class Tools:
         return LEFT
 
     def measured(self, program):
-        """How a program ends, the seconds that a processor took to explain it, and the lines that tell of its first fault."""
+        """The result for a program, the processor time of its explanation in seconds, and the explanation of its first error."""
         start = processor_time()
         told = self.told(program.text)
         seconds = processor_time() - start

@@ -1,6 +1,6 @@
-"""Mistakes of one token, for mistakes/mutations.py: what comes in the place of a token and of the one behind it, or None where there is no such mistake."""
+"""Mistakes of one token, for mistakes/mutations.py: the text that replaces a token and the one after it, or None if there is no such mistake."""
 
-# What other languages have in the place of a token.
+# The tokens of other languages for a token of Cool.
 OF_OTHERS = {
     b"<-": (b"=", b":="),
     b"=": (b"==",),

@@ -1,13 +1,13 @@
 """The order in which the pages load their scripts: finds scripts that use a name of a later one. Read by `tidy`, by forms alone.
 
-All scripts of a page are plain ones, whose names are those of the whole page. A name that a script also binds within, as a parameter does, is not looked for.
+The scripts of a page are not modules, so they share all names. A name that a script also binds locally, for example as a parameter, is not checked.
 """
 import re
 
 from sources import ROOT, read
 
 MADE = re.compile(r"(?:\w+-)?module\.js|examples\.js|help\.js|rules\.js")
-# What is no code: comments, strings and regular expressions; of a template what stands in braces is.
+# Comments, strings and regular expressions, which are not code. A template is code in its braces.
 QUOTED = re.compile(r'(?m)^ *//.*$|"(?:[^"\\\n]|\\.)*"|/(?![ */])(?:[^/\\\n\[]|\\.|\[[^\]\n]*\])+/')
 TEMPLATE = re.compile(r"`[^`]*`")
 BINDS = re.compile(
@@ -18,7 +18,7 @@ USED = re.compile(r"(?<![\w.$])([A-Za-z_]\w*)\b(?!:)")
 
 
 def given(code):
-    """The names that a script gives the page."""
+    """The names that a script defines."""
     names = set(re.findall(r"(?m)^(?:async )?(?:function|class) (\w+)", code))
     for line in re.findall(r"(?m)^(?:const|let) (.*)$", code):
         names.update(re.findall(r"[A-Za-z_]\w*", line.partition(" = ")[0]))

@@ -4,9 +4,9 @@ import re
 import subprocess
 
 ROOT = pathlib.Path(__file__).resolve().parent.parent
-# Files of single functions, and those that only list others, do not say what they are.
+# Files of single functions, and files that only list others, need no description.
 UNSAID = ("Lib.antt", "Answers.antt", "Invariants.antt", "Proof.antt")
-# What the headline of `run` says: a record, and the field by which a call of `run` promises it.
+# The main theorem about `run`: a record, and the field by which a call of `run` promises it.
 HEADLINE = ("crates/cool_driver/specs/Headline.antt", "Headline"), ("crates/cool_driver/specs/commands/Run.antt", "RunEnds", "headline")
 # How a comment begins, by the end of a file's name.
 MARKS = {".rt": "//! ?", ".antt": "-- ?", ".js": "// ?", ".cjs": "// ?", ".c": r"(?://|/\*) ?", ".css": r"/\* ?", ".el": ";+ ?", ".lua": "-- ?", ".vim": '" ?'}
@@ -14,7 +14,7 @@ PART = re.compile(r"(?:◌|\{|\}|\[|\]|\(|\)|,|;|λ|\.(?=\s)|\s)+")
 
 
 def listed(*paths):
-    """The names of the files that git has, or would take, below these paths."""
+    """The names of the files below these paths that git has, or would add."""
     words = ["git", "-C", str(ROOT), "ls-files", "-z", "--cached", "--others", "--exclude-standard", "--", *paths]
     out = subprocess.run(words, stdout=subprocess.PIPE, check=True).stdout.decode("utf-8", "surrogateescape")
     return [name for name in sorted(set(out.split("\0"))) if name and (ROOT / name).is_file()]
@@ -45,7 +45,7 @@ def comment(name, text):
 
 
 def sentence(name, text):
-    """The first sentence of the first comment, with no end of a line in it; nothing where there is none."""
+    """The first sentence of the first comment, on one line; '' if there is no comment."""
     paragraph = []
     for line in comment(name, text):
         if not line and paragraph:
@@ -143,7 +143,7 @@ class Definitions:
         found, due = set(), []
         for file, name, *field in roots:
             if (file, name) not in self.items or not set(field) <= set(self.parts[file, name]):
-                raise LookupError("%s has no %s: say in tools/sources.py what the headline of `run` is" % (file, ".".join([name, *field])))
+                raise LookupError("%s has no %s: correct HEADLINE in tools/sources.py, the main theorem about `run`" % (file, ".".join([name, *field])))
             found.add((file, name))
             due += self.named(file, self.field(file, name, *field) if field else self.items[file, name])
         while due:

@@ -1,21 +1,21 @@
 """Used by `tidy`: the rules of "Plain words" in docs/style.md that a script can check, in comments of sources and in documents."""
 import re
 
-WIDTH = 160  # letters of a line of prose
-MOST_WORDS = 40  # of a sentence in the first comment of a file
-# Places whose comments and lines are still to be rewritten. Take a row out once it is.
+WIDTH = 160  # characters of a line of prose
+MOST_WORDS = 40  # words of a sentence in the first comment of a file
+# Files whose comments and lines are not yet rewritten. Remove a row when they are.
 LATER = (
     "course/", "docs/map.md",
     "crates/mips_isa/specs/Machine.antt", "crates/mips_isa/proofs/RunsInParts.antt", "crates/mips_isa/proofs/DecodedIsItsWord.antt",
     "crates/cool_syntax/proofs/TreesOfLists.antt",
 )
-# A noun is missing where a comment or cell begins with one of these. A question, and an adverb with its sentence behind a comma or colon, may.
+# A noun is missing if a comment or cell begins with one of these words. Questions are allowed, and adverbs that a comma or colon separates from a sentence.
 STAND_IN = re.compile(r"(?:what|of|that of)\b(?!.*\?)|(?:for|by)\b(?! default)(?!.*[,:])", re.IGNORECASE)
 COMMENT = re.compile(r"\s*(?:///?|//!|--)(?: |$)(.*)")
 
 
 def comments(text):
-    """The comments of a source that fill lines of their own: of each block the number of its first line, and its lines."""
+    """The comments of a source on lines of their own: for each block the number of its first line, and its lines."""
     block, first = [], 0
     for number, line in enumerate(text.split("\n") + [""], 1):
         found = COMMENT.match(line)
@@ -38,23 +38,23 @@ def cells(text):
 
 
 def long_sentence(lines):
-    """The number of words of the longest sentence of a comment, whose formats and lists, which are indented or stand in a line of their own, do not count."""
+    """The number of words of the longest sentence of a comment. Indented lines and lists do not count."""
     paragraphs = "\n".join("" if line.startswith("  ") else line for line in lines).split("\n\n")
     sentences = (it for paragraph in paragraphs for it in re.split(r"(?<=[.:;?])\s|\n(?=\S+ +- )", paragraph))
     return max(len(it.split()) for it in sentences)
 
 
 def unplain(texts, documents):
-    """What is to be said otherwise: each time the place, what is wrong, and what to do. The texts are those of crates, the documents those by hand."""
+    """Breaches of the rules: the place, what is wrong, and what to do. The texts are those of crates; the documents are those that are not generated."""
     for name, text in texts.items():
         for number, block in comments(text) if not name.startswith(LATER) else ():
             place, words = "%s:%d" % (name, number), " ".join(block)
             if STAND_IN.match(words):
-                yield place, "a comment begins with %s" % words.split()[0], "begin with the noun that is meant (docs/style.md, Plain words, 4 and 5)"
+                yield place, "a comment begins with %s" % words.split()[0], "begin with the missing noun (docs/style.md, Plain words, 4 and 5)"
             if "want of memory" in words:
-                yield place, "says want of memory", "say out of memory, or if memory runs out"
+                yield place, "has the words want of memory", "write out of memory, or if memory runs out"
             if max(map(len, block)) > WIDTH:
-                yield place, "a comment has a line of over %d letters" % WIDTH, "break it"
+                yield place, "a comment has a line of over %d characters" % WIDTH, "break the line"
     for name, text in documents.items():
         if not name.startswith(LATER):
             yield from unplain_document(name, text)
@@ -63,12 +63,12 @@ def unplain(texts, documents):
 def unplain_document(name, text):
     for number, cell in cells(text):
         if STAND_IN.match(cell):
-            yield "%s:%d" % (name, number), "a cell begins with %s: %s" % (cell.split()[0], cell), "begin with the noun that is meant (docs/style.md)"
+            yield "%s:%d" % (name, number), "a cell begins with %s: %s" % (cell.split()[0], cell), "begin with the missing noun (docs/style.md)"
     for number, line in enumerate(text.split("\n"), 1):
         if re.search(r"(?<!\")\bwant of memory\b", line):
-            yield "%s:%d" % (name, number), "says want of memory", "say out of memory, or if memory runs out"
+            yield "%s:%d" % (name, number), "has the words want of memory", "write out of memory, or if memory runs out"
         if len(line) > WIDTH and not line.startswith(("|", "    ", "![", "<")):
-            yield "%s:%d" % (name, number), "has %d letters" % len(line), "break the line before %d" % WIDTH
+            yield "%s:%d" % (name, number), "has %d characters" % len(line), "break the line before column %d" % WIDTH
 
 
 def long_heads(texts):
@@ -76,4 +76,4 @@ def long_heads(texts):
     for name, text in texts.items():
         number, lines = next(comments(text), (0, []))
         if number == 1 and not name.startswith(LATER) and long_sentence(lines) > MOST_WORDS:
-            yield name, "its first comment has a sentence of %d words" % long_sentence(lines), "make two sentences of it"
+            yield name, "its first comment has a sentence of %d words" % long_sentence(lines), "split it into two sentences"

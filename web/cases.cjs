@@ -1,9 +1,9 @@
 #!/usr/bin/env node
-// Runs cases of conformance/ over the page's module, each in an instance of its own, and compares output, notes and status byte by byte, as
-// `conformance/run` does of a command: node web/cases.cjs [NAME..]
+// Runs cases of conformance/ with the page's module, each in an instance of its own, and compares output, messages and status byte by byte, like
+// `conformance/run`: node web/cases.cjs [NAME..]
 //
-// They run in a thread with a stack that lets them recurse as deep as on Linux, which a browser that lets WebAssembly wait does as well
-// (`lowering/deepen.py`). It writes nothing but its report. The status is 0 where all passed, or else 1.
+// They run in a thread with a large stack, so they can recurse as deep as on Linux; so does a browser that lets WebAssembly wait (`lowering/deepen.py`). It
+// changes nothing. The status is 0 if all passed, else 1.
 "use strict";
 const fs = require("fs");
 const path = require("path");
@@ -15,7 +15,7 @@ const root = path.join(__dirname, "../conformance/cases");
 const kind = (file) => fs.statSync(file, { throwIfNoEntry: false });
 const bytesOf = (file) => (kind(file)?.isFile() ? fs.readFileSync(file) : Buffer.alloc(0));
 
-// What the program does with a case: { status, stdout, stderr }.
+// The result of a case: { status, stdout, stderr }.
 async function ran(run, module, folder) {
     const written = { 1: [], 2: [] };
     let left = bytesOf(`${folder}/input`);
@@ -36,7 +36,7 @@ async function ran(run, module, folder) {
     return { status: Buffer.from(`${status}\n`), stdout: Buffer.concat(written[1]), stderr: Buffer.concat(written[2]) };
 }
 
-// In a thread: answers each name of a case with what was wrong with it, nothing where it passed.
+// In a thread: answers each name of a case with what was wrong, or nothing if it passed.
 async function serve() {
     const { run, warm, why } = require("./program/program.js");
     await warm(workerData);
@@ -64,7 +64,7 @@ class Thread {
 
     wrong(name) {
         if (!this.worker) this.begin();
-        const timer = setTimeout(() => this.end(`not ended after ${MOST_SECONDS} seconds`), MOST_SECONDS * 1000);
+        const timer = setTimeout(() => this.end(`did not end within ${MOST_SECONDS} seconds`), MOST_SECONDS * 1000);
         return new Promise((answer) => {
             this.answer = (wrong) => {
                 clearTimeout(timer);

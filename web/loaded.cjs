@@ -1,4 +1,4 @@
-// The module of module.js for node, loaded as the page does it.
+// Loads the module of module.js in node, in the same way as the page.
 "use strict";
 const fs = require("fs");
 const path = require("path");

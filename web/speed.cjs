@@ -1,8 +1,8 @@
 #!/usr/bin/env node
-// Measures the page's module under node beside the program itself, in turns: node web/speed.cjs
+// Measures the page's module under node and the program itself, in turns: node web/speed.cjs
 //
-// It prints how long the module takes to load, and how fast either executes the two loops of bench/, of 100 and of 10 million instructions and
-// calls, each the best of five. It writes nothing else. The status is 0, or 1 where a run did not end as it should.
+// It prints the time to load the module, and the speed of both with the two loops of bench/ (100 million instructions, 10 million calls), each the best of
+// five. It changes nothing. The status is 0, or 1 if a run did not end with 0.
 "use strict";
 const fs = require("fs");
 const path = require("path");
@@ -27,7 +27,7 @@ async function inModule(module, file) {
         input: () => new Uint8Array(0),
         write() {},
     });
-    if (status !== 0) throw new Error(`status ${status}: exec ${file}`);
+    if (status !== 0) throw new Error(`exec ${file} ended with status ${status} instead of 0`);
 }
 
 async function main() {
@@ -48,6 +48,6 @@ async function main() {
 }
 
 main().catch((error) => {
-    console.error(`speed.cjs: ${error.message}`);
+    console.error(`web/speed.cjs: ${error.message}`);
     process.exitCode = 1;
 });

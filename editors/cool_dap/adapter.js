@@ -173,7 +173,7 @@ class Adapter {
     }
 
     async evaluate({ expression, frameId = 1, context }) {
-        if (!this.debuggee) throw new Refused("nothing runs");
+        if (!this.debuggee) throw new Refused("no program runs");
         const reads = this.debuggee.input.waits || (this.settings.noDebug && this.runs);
         if (reads && context !== "hover" && context !== "watch") return this.typed(expression);
         if (context === "repl" && /^\s*</.test(expression)) return this.typed(expression.replace(/^\s*< ?/, ""));

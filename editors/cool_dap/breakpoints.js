@@ -82,7 +82,7 @@ class Breakpoints {
         const { line } = asked, name = program.nameOf(file);
         const found = name === undefined ? undefined : logic.breakOfLine(name, line, view);
         if (found) return this.made("breakpoint", asked, { line: found.line, source: { name, path: file } }, found, logic);
-        const message = name === undefined ? "this file is no part of the program" : "no line from here on has an expression";
+        const message = name === undefined ? "this file is not part of the program" : "there is no expression in this line or below it";
         return this.refused(asked, { line, message });
     }
 

@@ -90,7 +90,7 @@ const kindOf = (note) => (note.code ?? "")[0] ?? "";
 
 // A position, which has numbers.
 function position(it) {
-    if (!Number.isFinite(it.line) || !Number.isFinite(it.character)) throw new TypeError("a position has numbers");
+    if (!Number.isFinite(it.line) || !Number.isFinite(it.character)) throw new TypeError("a position needs a line and a character");
     return it;
 }
 

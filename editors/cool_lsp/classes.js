@@ -73,17 +73,17 @@ class Classes {
         const [file, , name] = this.word(params), { newName } = params;
         if (!name || BASIC.has(name)) throw new Refused("only classes of the program can be renamed");
         if (!IS_TYPE.test(newName) || BASIC.has(newName) || isKeyword(newName)) {
-            throw new Refused("the name of a class is a capital letter, and then letters, digits and `_`; basic classes and keywords are none");
+            throw new Refused("the name of a class is a capital letter, followed by letters, digits and `_`: choose one that is no keyword or basic class");
         }
         const files = this.sharing(file, name);
         for (const it of files) {
             const data = this.files.data(it);
             if (data === null || hasFault(data)) throw new Refused(`${it} is missing, or has a fault of lexemes, so that not all of it is seen`);
             if (this.programs.names(it).defined.has(newName) || this.programs.names(it).named.has(newName)) {
-                throw new Refused(`${newName} is named in ${it} already`);
+                throw new Refused(`${newName} is named in ${it} already: choose another name`);
             }
         }
-        if (!files.some((it) => this.programs.names(it).defined.has(name))) throw new Refused("no file of the program defines it");
+        if (!files.some((it) => this.programs.names(it).defined.has(name))) throw new Refused("no file of the program defines this class");
         const edits = files.map((it) => [this.files.uri(it), this.edits(it, name, newName)]);
         return { changes: Object.fromEntries(edits.filter(([, it]) => it.length > 0)) };
     }

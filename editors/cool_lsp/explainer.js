@@ -73,7 +73,7 @@ class Explainer {
         try {
             return await findBeside("cool_explain", this.cool, this.seconds);
         } catch (error) {
-            log(`faults are not explained: ${error.message}`);
+            log(`errors are not explained: ${error.message}`);
             return undefined;
         }
     }
@@ -87,7 +87,7 @@ class Explainer {
         try {
             return new Explanation([...files.keys()], textOf(output));
         } catch (error) {
-            log(`cool_explain wrote lines of no form that is known: ${error.message}`);
+            log(`cool_explain wrote lines of an unknown form: ${error.message}`);
             return undefined;
         }
     }

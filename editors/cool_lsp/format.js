@@ -1,4 +1,4 @@
-// The command that lays files out, `cool-format`.
+// The command that formats files, `cool-format`.
 "use strict";
 const fs = require("fs");
 const util = require("util");
@@ -56,14 +56,14 @@ function write(data) {
     for (let at = 0; at < bytes.length; ) at += waiting(() => fs.writeSync(OUTPUT, bytes, at));
 }
 
-// A promise of a file laid out.
+// A promise of the formatted file.
 async function laidOut(named, data) {
     const marks = new Marks(process.env.COOL, SECONDS), name = named ?? "standard input";
     const marksOf = async (it) => (await marks.of(new Map([[name, it]]))) ?? marks.of(new Map([[name, it], ["", MAIN]]));
     return edited(data, await new Formatter(undefined, SECONDS).formatted(name, data, marksOf, name));
 }
 
-// Does what is asked for with a file; a promise of whether it was as it is to be.
+// Formats or checks one file. A promise of whether it needed no change, or was changed.
 async function formatOne(name, option) {
     const data = read(name), laid = await laidOut(name, data);
     if (option === "--check" && laid !== data) return write(Buffer.from(`${name}\n`).toString("latin1")), false;
@@ -72,7 +72,7 @@ async function formatOne(name, option) {
     return true;
 }
 
-// The option and the names of the words, or undefined where there are other ones.
+// The option and the names of the arguments, or undefined if they are not valid.
 function optionsOf(words) {
     const option = ["--write", "--check"].includes(words[0]) ? words[0] : undefined, rest = option ? words.slice(1) : words;
     if (rest[0] !== "--" && rest.some((it) => it.startsWith("-"))) return undefined;
@@ -82,7 +82,7 @@ function optionsOf(words) {
 
 const noteOf = (error) => util.getSystemErrorMap().get(error.errno)?.[1] ?? error.message;
 
-// Does what the words say; a promise of the status.
+// Executes the command line. A promise of the status.
 async function main(words, usage) {
     if (words.length === 1 && words[0] === "--help") return process.stdout.write(usage), 0;
     const found = optionsOf(words);

@@ -1,5 +1,5 @@
-// A file laid out anew (docs/format.md), once the programs said that nothing but its layout changes: they tell the same faults at the same tokens, and the
-// same names with the same meanings.
+// Formats a file (docs/format.md), after the programs confirmed that only its layout changes: they report the same errors at the same tokens, and the same
+// names with the same meanings.
 "use strict";
 const path = require("path");
 const { textOf } = require("../node/bytes.js");

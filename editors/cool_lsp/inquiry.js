@@ -1,4 +1,4 @@
-// One call of a program over files as they stand in the editor: they are put into a private folder, and named there by their numbers.
+// One call of a program with the files of the editor, including unsaved changes: they are written to a private folder, and named there by their numbers.
 "use strict";
 const fs = require("fs");
 const os = require("os");

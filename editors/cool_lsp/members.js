@@ -1,4 +1,4 @@
-// The classes of a program with their methods, as its marks tell them, and the methods of the basic classes.
+// The classes of a program with their methods, by its marks, and the methods of the basic classes.
 "use strict";
 const { placeKey } = require("./marks.js");
 

@@ -39,7 +39,7 @@ class Text {
 
     // The place of a position, or the nearest one.
     place({ line, character }) {
-        if (!Number.isFinite(line) || !Number.isFinite(character)) throw new TypeError("a position has numbers");
+        if (!Number.isFinite(line) || !Number.isFinite(character)) throw new TypeError("a position needs a line and a character");
         if (!(line >= 0 && line < this.starts.length)) return line > 0 ? this.data.length : 0;
         const row = textOf(this.data.slice(this.starts[line], this.end(line + 1))).replace(/[\r\n]+$/, "");
         const before = row.slice(0, Math.max(character, 0));

@@ -19,7 +19,7 @@ class Renames {
         if (!mark || mark.role === "class" || mark.role === "type") return undefined;
         if (!mark.target?.path) throw new Refused("only what the program defines can be renamed");
         if (!NAME.test(newName) || RESERVED.has(newName)) {
-            throw new Refused("a name is a small letter, and then letters, digits and `_`; keywords and `self` are none");
+            throw new Refused("a name is a small letter, followed by letters, digits and `_`: choose one that is neither a keyword nor `self`");
         }
         if (this.programs.of(mark.target.path).length > 1) throw new Refused(`${mark.target.path} is a part of several programs`);
         const targets = familyOf(marks, mark), due = marks.filter((it) => it.target && targets.has(placeKey(it.target)));

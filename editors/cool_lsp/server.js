@@ -147,7 +147,7 @@ class Server {
     }
 
     set(uri, version, text) {
-        if (typeof text !== "string") throw new TypeError("a document has a text");
+        if (typeof text !== "string") throw new TypeError("a document needs a text");
         this.documents.set(toPath(uri), new Document(uri, version, text));
         this.change();
     }

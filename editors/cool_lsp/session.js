@@ -1,4 +1,4 @@
-// The process that tells faults: one `session` of the program (docs/session.md), started when it is asked, and again where it ended.
+// The process that finds errors: one `session` of the program (docs/session.md), started at the first request, and again after it ended.
 "use strict";
 const { textOf } = require("../node/bytes.js");
 const { log } = require("../node/log.js");
@@ -68,7 +68,7 @@ class Session {
             const count = Number(HEAD.exec(await this.lines.next())[1]), rows = [];
             for (let i = 0; i < count; i += 1) rows.push(ROW.exec(await this.lines.next()).slice(1));
             const { keys } = this.held;
-            if (rows.some(([name]) => !keys.has(name))) throw new TypeError("a file that is not held");
+            if (rows.some(([name]) => !keys.has(name))) throw new TypeError("an error in an unknown file");
             return rows.map(([name, line, kind, words]) => [keys.get(name), Number(line), kind, textOf(words)]);
         } catch (error) {
             if (!(error instanceof TypeError)) throw error; // else it ended, or what it said is no reply

@@ -7,7 +7,7 @@ const { serve } = require("./server.js");
 const USUAL_SECONDS = 10, LEAST_SECONDS = 0.1, MOST_SECONDS = 3600;
 const OPTIONS = ["--cool", "--seconds", "--files"];
 
-// The values of the options, or undefined where there are other words.
+// The values of the options, or undefined if an argument is not valid.
 function optionsOf(words) {
     const found = { "--seconds": USUAL_SECONDS };
     for (let i = 0; i < words.length; i += 2) {
@@ -22,7 +22,7 @@ function tellFiles(file) {
     for (const program of programsOf(file)) console.log(program.map((it) => quoted(path.relative("", it))).join(" "));
 }
 
-// Does what the words say; the status where it ends at once.
+// Executes the command line. Returns the status, or undefined while the server runs.
 function main(words, usage, pieces) {
     if (words.length === 1 && words[0] === "--help") return process.stdout.write(usage), 0;
     const found = optionsOf(words);

@@ -1,12 +1,12 @@
-// Starts cool-lsp for files of Cool, and shows what it tells and answers; runs them in a terminal, and has VS Code debug them by cool-dap. It uses VS Code's
-// own interface and node, and no package beside it.
+// Starts cool-lsp for Cool files, and shows its diagnostics and answers; runs the files in a terminal, and debugs them by cool-dap. It uses only VS Code's own
+// interface and node.
 const vscode = require('vscode');
 const { spawn } = require('child_process');
 const fs = require('fs');
 const path = require('path');
 const { StringDecoder } = require('string_decoder');
 
-// In a package the server stands in it; in a repository, or where it is installed, beside it.
+// The server is inside a package; in a repository or an installation it is beside this folder.
 const EDITORS = [path.join(__dirname, 'editors'), path.join(fs.realpathSync(__dirname), '..')].find((it) => fs.existsSync(path.join(it, 'cool-lsp')));
 const SERVER = path.join(EDITORS, 'cool-lsp');
 const COOL = { language: 'cool' };
@@ -262,7 +262,7 @@ const tasks = {
 // Does something with the file that is shown, once it is stored.
 const begin = (what) => async () => {
   const shown = vscode.window.activeTextEditor && vscode.window.activeTextEditor.document;
-  if (!shown || shown.languageId !== 'cool') return vscode.window.showInformationMessage('Cool: open a file of Cool, with the ending .cl, to run it.');
+  if (!shown || shown.languageId !== 'cool') return vscode.window.showInformationMessage('Cool: open a Cool file (.cl) to run it.');
   if ((shown.isUntitled || shown.isDirty) && !(await shown.save())) return undefined;
   const { document } = vscode.window.activeTextEditor;
   return vscode.tasks.executeTask(task({ task: what, file: document.uri.fsPath }));

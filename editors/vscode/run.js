@@ -1,9 +1,9 @@
-// Runs or checks files by the module of `cool`, as the program does where there is one: run.js run|check FILES. The status is that of the module.
+// Runs or checks files with the module of `cool`, if the program is not installed: run.js run|check FILES. The status is that of the module.
 'use strict';
 const path = require('path');
 const fs = require('fs');
 
-// In a package the scripts stand in it; in a repository, or where it is installed, beside it.
+// The scripts are inside a package; in a repository or an installation they are beside this folder.
 const EDITORS = [path.join(__dirname, 'editors'), path.join(__dirname, '..')].find((it) => fs.existsSync(path.join(it, 'cool-lsp')));
 const { spawnModule } = require(path.join(EDITORS, 'node', 'module.js'));
 

@@ -1,4 +1,4 @@
-// Runs of the program: output as it comes, and input as it is asked for.
+// Runs the program: shows output as it comes, and asks for input.
 "use strict";
 
 // Lines are bounded, too: to lay out many short ones takes a browser so long that it hears no key meanwhile.

@@ -1,4 +1,4 @@
-// The options of a run: a list, of which their fields are made, and the words of a command line.
+// The options of a run: a list, from which the fields and the arguments of a command line are made.
 "use strict";
 
 // In the order of the page. The command line has `--ID`: with a number from `least` to `most`, at `first` in the beginning, or alone, where there are no

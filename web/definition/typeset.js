@@ -1,4 +1,4 @@
-// Rules as elements: what stands above the line, what follows, and how the definition says it. All of it enters the page as text.
+// Shows rules as elements of the page: premises, conclusion, and the text of the definition. All of it enters the page as text.
 "use strict";
 
 const PIECES = { v: "i", p: "code", s: "sub", n: "span", "": "span" };

@@ -5,7 +5,7 @@ const MOST_FILE_BYTES = 1 << 20;
 
 // A file as text. One that is not UTF-8 is read as Latin-1, in which each byte is a letter.
 async function fileFrom(file) {
-    if (file.size > MOST_FILE_BYTES) throw new Error(`${file.name} is larger than all files of a program may be.`);
+    if (file.size > MOST_FILE_BYTES) throw new Error(`${file.name} is larger than all files of a program together may be.`);
     const bytes = await file.arrayBuffer();
     try {
         return { name: file.name, text: new TextDecoder("utf-8", { fatal: true }).decode(bytes) };

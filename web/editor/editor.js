@@ -1,5 +1,5 @@
-// The editor: a text area whose own letters cannot be seen, and behind it the lines in view, painted. Beside it stand their numbers, with the
-// marks of faults and breaks.
+// The editor: a text area with invisible characters, in front of the visible lines, which are painted. Beside it are the numbers of the lines, with marks of
+// errors and breakpoints.
 "use strict";
 
 const text = at("text");

@@ -1,5 +1,5 @@
-// Explanations of the faults, by the program `cool_explain` in a worker of its own: it is asked once the faults came and nobody types, and what it says of a
-// text that has changed since is dropped.
+// Asks for explanations of the errors, by the program `cool_explain` in a worker of its own, after the errors arrived and the user stopped typing. An answer
+// for an older text is dropped.
 "use strict";
 
 const EXPLAIN_DELAY = 200, MOST_EXPLAIN_TIME = 5000;

@@ -1,4 +1,4 @@
-// The view "Help": sections of the documents, as help.js holds them, and above them the rows of the faults that the program has.
+// The view "Help": sections of the documents, from help.js, and above them the rows of the errors that the program has.
 "use strict";
 
 const HELP = typeof COOL_HELP === "undefined" ? [] : COOL_HELP;

@@ -1,5 +1,4 @@
-// The colours of the assembly, by the lines of the source that it is of, where a browser colours ranges of a text: a line leads to its code, and code to its
-// line.
+// Colours the assembly by the lines of its source, if the browser can colour ranges of a text. A line leads to its code, and code to its line.
 "use strict";
 
 const canColour = "highlights" in CSS;

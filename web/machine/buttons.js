@@ -1,4 +1,4 @@
-// The buttons and fields of the machine: moves by instructions, by lines of the source, to breaks, to any state, and on past what is typed.
+// The buttons and fields of the machine: steps by instructions and by lines, runs to breakpoints and to any state, and input that the user types.
 "use strict";
 
 // From the first line on; what was typed is asked for again.

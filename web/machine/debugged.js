@@ -14,7 +14,7 @@ debug = async (lines, wanted, { seen = () => false, budget = Infinity } = {}) =>
     if (came.killed) throw new MoveFailed("stopped");
     if (came.broken !== undefined) throw new MoveFailed(came.broken);
     const notes = came.notes.split("\n").slice(0, -1);
-    if (notes.length < wanted) throw new MoveFailed(came.status === 1 ? "The program has faults." : endWords(came) ?? "the run ended before");
+    if (notes.length < wanted) throw new MoveFailed(came.status === 1 ? "The program has faults." : endWords(came) ?? "the run ended before this state");
     notes.some(seen);
     return { notes, output: came.output };
 };

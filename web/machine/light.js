@@ -1,4 +1,4 @@
-// The line at which one points: it is marked in the text, and its code in the machine and in the assembly.
+// Marks the line at which the user points, in the text, and its code in the machine and in the assembly.
 "use strict";
 
 // Marks a line and its code, or none.

@@ -86,7 +86,7 @@ function showRegisters(registers, before) {
 }
 
 function showMemory(memory, before) {
-    if (memory.length === 0) return void (at("memory").textContent = "No such address: 0x and digits, a label, or a register as $fp+8.");
+    if (memory.length === 0) return void (at("memory").textContent = "There is no such address: write 0x and digits, a label, or a register as in $fp+8.");
     at("memory").replaceChildren(...memory.flatMap(({ address, word }) => {
         const changed = before?.words.get(address) !== undefined && before.words.get(address) !== word;
         const shown = word === null || word === undefined ? "cannot be read" : `${hex(word).slice(2)}  ${lettersOf(word)}  ${word | 0}`;

@@ -1,5 +1,5 @@
-// The faults of a large program by a `session` (docs/session.md), which types again only what an edit touched. It stands in a worker of its own, where
-// WebAssembly may wait for input; elsewhere, and wherever it has no answer, `check` is asked (faults.js).
+// Finds the errors of a large program by a `session` (docs/session.md), which checks again only the edited features. It runs in a worker of its own, if
+// WebAssembly may wait for input. Otherwise, and if it has no answer, faults.js calls `check`.
 "use strict";
 
 // A program of fewer letters is checked as fast anew.

@@ -1,5 +1,5 @@
-"""The block as the manual has it: e₁ to eₙ one after the other. The definition says it by rows for no item and for an item before others; that these rows say
-the same is looked at here."""
+"""The rule of a block, as in the manual: e₁ to eₙ in order. The definition has rows for no item and for an item before others; this module checks that they
+say the same."""
 from inference import Rule
 from terms import app, head_of, var
 

@@ -39,7 +39,7 @@ def expressions(typing, running):
         })  # fmt: skip
     left = {it for it, _ in typed + run} - set(teaching.FORMS) - set(teaching.WITH)
     if left:
-        sys.exit("web/rules: no words for %s: give them in web/typesetting/teaching.py" % ", ".join(sorted(map(str, left))))
+        sys.exit("web/rules: there is no text for %s: write it in web/typesetting/teaching.py" % ", ".join(sorted(map(str, left))))
     return found
 
 
@@ -109,7 +109,7 @@ def syntax_section(signs):
     forms = sections.productions(readings, name_of, pieces)
     told = compared.forms_differ(readings, pieces)
     if told:
-        raise LookupError("as Readings.antt has no form: %s: mend FORMS in web/typesetting/notation.py" % "; ".join(told))
+        raise LookupError("no row of Readings.antt has this form: %s: correct FORMS in web/typesetting/notation.py" % "; ".join(told))
     shapes = sections.loaded("cool_syntax/Shapes")
     table = {"kind": "table", "heading": "Levels of operators, the loosest first", "head": ["", "", "groups"], "rows": sections.levels(Values(shapes)),
         **sections.placed(shapes["level"])}
@@ -178,11 +178,11 @@ def page():
     made.append(words(typing, running))
     told = compared.kinds_differ(made, typing)
     if told:
-        raise LookupError("%s: mend BREAKS in web/typesetting/teaching.py" % "; ".join(told))
+        raise LookupError("%s: correct BREAKS in web/typesetting/teaching.py" % "; ".join(told))
     told = compared.unused(typing.rules, running.rules)
     if told:
-        raise LookupError("no rule has %s: take it out of web/typesetting/notation.py" % ", ".join(told))
+        raise LookupError("no rule has %s: remove it from web/typesetting/notation.py" % ", ".join(told))
     told = compared.not_reached(sections.SHOWN_FROM)
     if told:
-        raise LookupError("the headline of `run` does not rest on %s: typeset the definitions on which it rests" % ", ".join(told))
+        raise LookupError("the main theorem about `run` does not depend on %s: typeset definitions on which it depends" % ", ".join(told))
     return made

@@ -1,6 +1,7 @@
-"""Rules of what a computation of `cool_meaning` comes to: each way through it is a rule, whose premises are what it asks for on the way.
+"""Makes rules from a computation of `cool_meaning`: each path through it is a rule, whose premises are the computations on the path.
 
-A state is passed on from step to step, as S, S1 and so on. The meters are left out, since they change no value; and so is a way that ends in `stuck`."""
+A state is passed on from step to step, as S, S1 and so on. The meters (cost counters) are left out, since they change no value, and so are paths that end
+in `stuck`."""
 from inference import Rule, bound_in
 from terms import app, fresh_names, head_of, is_constructor, is_variable, matched, names_in, put, renamed, var
 

@@ -1,4 +1,4 @@
-"""The rules of the page, carried out: a program is run by the very rules of evaluation that are shown, and nothing else is known of what its forms do."""
+"""Runs programs by the rules of evaluation that the page shows, without other knowledge of the forms of expressions."""
 import evaluate
 import sections
 from computations import Computations

@@ -305,7 +305,7 @@ class Writer:
         for part in re.split(r"(`[^`]*`|\{\d+[_;ni]?\})", template):
             hole = re.fullmatch(r"\{(\d+)([_;ni]?)\}", part)
             if hole and int(hole[1]) >= len(given):
-                raise Unknown("%r wants more than %d arguments" % (template, len(given)))
+                raise Unknown("%r needs more than %d arguments" % (template, len(given)))
             if hole:
                 found += self.hole(given[int(hole[1])], hole[2])
             elif part.startswith("`") and len(part) > 1:

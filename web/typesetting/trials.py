@@ -1,4 +1,4 @@
-"""Cases of conformance/ that the rules of the page are tried over: which there are, and what comes of each by the rules."""
+"""Selects cases of conformance/ to test the rules of the page, and computes the result of each by the rules."""
 import pathlib
 import re
 

@@ -1,5 +1,4 @@
-"""The type rules of the page, carried out: which type an expression has by the very rules that are shown. Conformance, joins and the methods that names
-mean are computed by the functions of `Rules.antt`."""
+"""Computes types by the type rules that the page shows. The functions of `Rules.antt` compute conformance, joins, and the methods that names refer to."""
 import evaluate
 import sections
 from executed import Numbers

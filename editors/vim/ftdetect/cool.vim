@@ -1,2 +1,2 @@
-" Files that end in .cl are of Cool.
+" Files that end in .cl are Cool files.
 autocmd BufNewFile,BufRead *.cl set filetype=cool

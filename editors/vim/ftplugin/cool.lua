@@ -1,4 +1,4 @@
--- Neovim: starts the language server, one for each folder or each cool.files, and has nvim-dap debug.
+-- Neovim: starts a language server for each folder or each cool.files, and configures nvim-dap.
 local here = vim.loop.fs_realpath(debug.getinfo(1, 'S').source:sub(2))
 local list = vim.fn.findfile('cool.files', vim.fn.escape(vim.fn.expand('%:p:h'), ' ,;') .. ';')
 local root = vim.fn.fnamemodify(list ~= '' and list or vim.fn.expand('%:p'), ':p:h')

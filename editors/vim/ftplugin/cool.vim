@@ -1,4 +1,4 @@
-" Vim: comments, file names and the compiler of a buffer of Cool.
+" Vim: comments, file names and the compiler of a buffer with Cool.
 if exists('b:did_ftplugin')
   finish
 endif

@@ -1,4 +1,4 @@
-" ALE for Vim: faults while a file is typed, by cool-lsp.
+" ALE for Vim: shows errors while a file is typed, by cool-lsp.
 let s:server = fnamemodify(resolve(expand('<sfile>:p')), ':h:h:h:h') . '/cool-lsp'
 
 function! s:root(buffer) abort
