@@ -65,6 +65,7 @@ function showExplained() {
     if (explanation) at("faults").querySelectorAll(".fix").forEach((it) => (it.disabled = false));
     showMarks();
     paint();
+    happened("explained");
 }
 
 // What a row shows of what is known, as text, for a row is compared by its text.

@@ -7,6 +7,7 @@ const STRING_FORM = String.raw`"(?:[^"\\\n\0]|\\[^\0])*`;
 const HIDING = new RegExp(String.raw`<-|--[^\n]*|${STRING_FORM}"?|\(\*`, "g");
 const CLOSED_STRING = new RegExp(`^${STRING_FORM}"$`);
 const COMMENT_BRACKET = /\(\*|\*\)/g;
+const LEXEME = new RegExp(String.raw`${STRING_FORM}"|\w+|[^]`, "y");
 // What begins no token, or closes a comment that is not open.
 const NO_TOKEN = /\*\)|(?<![A-Za-z0-9_])_|[^A-Za-z0-9_{}();:,.@~*/+\-<= \n\f\r\t\v]/;
 
@@ -52,6 +53,9 @@ function bare(data) {
     return at === undefined ? [pieces.join(""), false] : [pieces.join("") + data.slice(at), true];
 }
 
+// The end of the word, string or sign of one letter that begins at a place.
+const lexemeEnd = (data, at) => at + matchAt(LEXEME, data, at)[0].length;
+
 // Whether a file has a lexeme that is none, sizes aside, which may hide names.
 function hasFault(data) {
     const [code, closed] = bare(data);
@@ -59,4 +63,4 @@ function hasFault(data) {
     return !closed || NO_TOKEN.test(code) || !strings.every(([start, end]) => CLOSED_STRING.test(data.slice(start, end)));
 }
 
-if (typeof module === "object") module.exports = { bare, hasFault, hidden, matchAt };
+if (typeof module === "object") module.exports = { bare, hasFault, hidden, lexemeEnd, matchAt };

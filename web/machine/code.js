@@ -1,5 +1,5 @@
 // The code of the program: its assembly by `asm`, and the table of code by `cool_editor --code`, each in a worker of its own. They are made when they are asked
-// for, and forgotten when a file changes.
+// for, and forgotten when a file changes. Other scripts ask `cool_editor` here, too.
 "use strict";
 
 const compiler = new Runner();
@@ -20,18 +20,17 @@ function assembly() {
 let editorModule, coded;
 const coder = new Runner(() => editorModule);
 
-// The table of code: a promise of { rows }, or of { fault }, why there are none.
-function codeTable() {
-    const made = async () => {
-        if (typeof COOL_EDITOR_MODULE === "undefined") return { fault: "editor-module.js is missing beside this page: copy all scripts of web/" };
-        editorModule ??= await load(COOL_EDITOR_MODULE);
-        const numbered = new Map(files.map((it, i) => [`${i}.cl`, encode(it.text)])), parts = [];
-        const came = await coder.run(["--code", ...numbered.keys()], numbered, { pieces: (all) => parts.push(...all.map((it) => it.bytes)) });
-        if (came.status === 0) return { rows: await new Blob(parts).text() };
-        return { fault: came.status === 1 ? "The program has faults." : endWords(came) ?? "stopped" };
-    };
-    coded ??= made();
-    return coded;
+// What `cool_editor` tells of the files with these words: a promise of { rows }, or of { fault }, why there are none.
+async function toldBy(runner, ...words) {
+    if (typeof COOL_EDITOR_MODULE === "undefined") return { fault: "editor-module.js is missing beside this page: copy all scripts of web/" };
+    const numbered = new Map(files.map((it, i) => [`${i}.cl`, encode(it.text)])), parts = [];
+    editorModule ??= await load(COOL_EDITOR_MODULE);
+    const came = await runner.run([...words, ...numbered.keys()], numbered, { pieces: (all) => parts.push(...all.map((it) => it.bytes)) });
+    if (came.status === 0) return { rows: await new Blob(parts).text() };
+    return { fault: came.status === 1 ? "The program has faults." : endWords(came) ?? "stopped" };
 }
+
+// The table of code, in the same way.
+const codeTable = () => (coded ??= toldBy(coder, "--code"));
 
 whenever("changed", () => ([assembled, coded] = []));

@@ -1,4 +1,5 @@
 """The page of the rules, the lessons, the view "Why", and the rule under way."""
+import json
 import pathlib
 import re
 import urllib.parse
@@ -11,6 +12,50 @@ LAST = "COOL program successfully executed\n"
 KINDS = re.findall(r"(?m)^\| `([A-Z]\d+): ", (ROOT / "docs" / "faults.md").read_text("utf-8"))
 CARDS = sorted(set(re.findall(r"web/rules\.html#([\w-]+)", (ROOT / "docs" / "reading.md").read_text("utf-8"))))
 WHY = "[...at('why-room').querySelectorAll(':scope > details > summary')].map((it) => it.textContent)"
+BELOW = "[...at('why-room').querySelectorAll(':scope > details > ul > li')].map((it) => (it.querySelector('summary') ?? it).textContent.trim())"
+PROGRAM = """class A { f(x : Object, y : A) : SELF_TYPE { self }; };
+class B inherits A { };
+class C inherits A { };
+class Main inherits IO {
+  a : A;
+  main() : Object {
+    let b : A <- new B, s : String <- "é" in {
+      a.f(1 + (2), (* two *) new C); -- a comment
+      new C@A.f(true, b).f(s, me());
+      (if isvoid a then self else new IO fi).out_string("x");
+      case a of x : B => x; y : C => y; esac;
+      1 = 2;
+      a = self;
+      a <- b;
+    }
+  };
+  me() : A { a };
+};
+"""
+# By what is at the cursor: the rule with the expression and its type, and below it the parts and what else the rule asks for, by the manual's section 12.
+DERIVED = {
+    "f(1": ("[Dispatch] a.f(1 + (2), new C) : A", "[Id] a : A", "[Arith] 1 + (2) : Int", "[New] new C : C",
+            "M(A, f) = (Object, A) : SELF_TYPE, of class A, line 1", "Int ≤ Object", "C ≤ A", "SELF_TYPE[A/SELF_TYPE] = A"),
+    "+": ("[Arith] 1 + (2) : Int", "[Int] 1 : Int", "[Int] 2 : Int"),
+    "A.f(true": ("[StaticDispatch] new C@A.f(true, b) : C", "[New] new C : C", "[Bool] true : Bool", "[Id] b : A", "C ≤ A",
+                 "M(A, f) = (Object, A) : SELF_TYPE, of class A, line 1", "Bool ≤ Object", "A ≤ A", "SELF_TYPE[C/SELF_TYPE] = C"),
+    "me())": ("[Dispatch] me() : A", "[Self] self : SELF_TYPE", "M(Main, me) = () : A, of class Main, line 17"),
+    "if": ("[If] if isvoid a then self else new IO fi : IO", "[IsVoid] isvoid a : Bool", "[Self] self : SELF_TYPE", "[New] new IO : IO",
+           "SELF_TYPE ⊔ IO = IO  SELF_TYPE ≤ Main ≤ IO"),
+    "case": ("[Case] case a of x : B => x; y : C => y; esac : A", "[Id] a : A", "[Id] x : B", "[Id] y : C", "B ⊔ C = A  B ≤ A, C ≤ A"),
+    "= 2": ("[Equal] 1 = 2 : Bool", "[Int] 1 : Int", "[Int] 2 : Int"),
+    "= self": ("[Equal-Objects] a = self : Bool", "[Id] a : A", "[Self] self : SELF_TYPE"),
+    "<- b": ("[Assign] a <- b : A", "[Id] b : A", "O(a) = A, declared in line 5", "A ≤ A"),
+    '"é"': ('[String] "é" : String',),
+}
+# By an expression with an error: the rule that it breaks, and the premise that does not hold.
+BROKEN = {
+    "if 1 then 2 else 3 fi": "[If] O, M, C ⊢ e₁ : BoolE9", "while 1 loop 2 pool": "[While] O, M, C ⊢ e₁ : BoolE9",
+    "self@IO.out_int(out_int(1))": "[StaticDispatch] T₁, …, Tₙ ≤C formals(m)E5 E6",
+    "out_int(self@IO.out_int(1))": "[Dispatch] T₁, …, Tₙ ≤C formals(m)E5 E6",
+    "let x : Int <- true in x": "[Let-Init] T₂ ≤C T₁E17", "case 1 of x : Z => 1; esac": "[Types of branches] type(D) = D′E11 E12",
+    "new Z": "[New] type(D) = TE11", "zz <- 1": "[Assign] O(x) = T₁E1", "zz": "[Id] O(x) = TE1",
+}
 
 
 def show(page, name, fragment=""):
@@ -118,15 +163,41 @@ def lessons(page):
     page.run("localStorage.clear();")
 
 
-@test("tells why an expression has its type, and of an error which premise fails")
+def put_cursor(page, before):
+    """Puts the cursor before a text that the program has once, as a click does."""
+    page.run(f"text.focus(); const at = text.value.indexOf({json.dumps(before)}); text.setSelectionRange(at, at); text.click();")
+
+
+@test("tells why an expression has its type, without the assembly")
 def why(page):
-    page.start(("p.cl", "class Main { main() : Object { let n : Int in n + 1 }; };"))
-    page.run("text.focus(); text.setSelectionRange(48, 48);")
+    page.start(("p.cl", PROGRAM))
     page.click("tab-why")
-    same(page.wait(f"{WHY}.length > 0 && {WHY}"), ["[Arith] n + 1 : Int"])
-    page.start(("p.cl", "class Main { main() : Object { while 1 loop 2 pool }; };"))
+    for before, (head, *below) in DERIVED.items():
+        put_cursor(page, before)
+        page.wait(f"{WHY}[0] === {json.dumps(head)}")
+        same((before, page.run(f"return {BELOW};")), (before, below))
+    same(page.run("return [assembled, coded].every((it) => it === undefined);"), True)
+    put_cursor(page, "out_string")
+    same(page.wait(f"{BELOW}[2]"), "M(IO, out_string)  of a basic class")
+    page.run("[...at('why-room').querySelectorAll('p .go')].at(-1).click();")
+    same(page.run(f"return {WHY}[0].startsWith('[Block] {{ a.f(1 + (2), new C); new C@A.f');"), True)
+
+
+@test("tells of an error which premise of which rule fails")
+def why_not(page):
+    page.start(("p.cl", "class Main { };"))
     page.click("tab-why")
-    same(page.wait("at('why-room').querySelector('.broken')?.textContent"), "O, M, C ⊢ e₁ : BoolE9")
+    page.wait("at('why-room').textContent === 'The program has faults.'")
+    figures = "[...at('why-room').querySelectorAll('figure')]"
+    marked = figures + ".map((it) => ['summary', '.broken'].map((part) => it.querySelector(part).textContent).join(' '))"
+    for text, wanted in BROKEN.items():
+        page.start(("p.cl", "class Main inherits IO { main() : Object { %s }; };" % text))
+        page.click("tab-why")
+        page.wait(f"{marked}.join('; ') === {json.dumps(wanted)}")
+    page.start(("p.cl", "class Main { n : Int <- true; main() : Object { 0 }; };"))
+    page.click("tab-why")
+    page.wait(f"{marked}.join('; ') === '[Feature] T ≤C T₁E17'")
+    same(page.run("return [...at('why-room').querySelectorAll('.side')].map((it) => it.textContent);"), ["Here: Bool ≤ Int does not hold."])
 
 
 @test("shows the rule under way with the values of its parts, and steps premise by premise")
@@ -135,6 +206,7 @@ def under_way(page):
     page.start(("p.cl", text))
     page.click("tab-machine")
     page.moved()
+    page.wait("at('rule-here').querySelector('h2') !== null")
     here = "[...at('rule-here').querySelectorAll('p .premise.done')].map((it) => it.textContent)"
     seen, rules = [], set()
     for _ in range(60):
