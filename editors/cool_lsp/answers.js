@@ -15,8 +15,8 @@ const pathIn = (params) => toPath(params.textDocument.uri);
 
 // Of the files as they were looked at last, and of what was told of them.
 class Answers {
-    constructor(files, programs, checker, told) {
-        Object.assign(this, { files, programs, checker, told });
+    constructor(files, programs, checker, told, reasons) {
+        Object.assign(this, { files, programs, checker, told, reasons });
     }
 
     // What was told of a file.
@@ -30,11 +30,11 @@ class Answers {
         return this.checker.waits(file) && this.notes(file).some((it) => it.severity === ERROR && meets(it.range, range));
     }
 
-    // Of a fault: what is known of it, and what mends it.
-    hover(params) {
+    // Of a fault: what is known of it, what mends it, and the rule that it breaks.
+    async hover(params) {
         const range = { start: position(params.position), end: params.position };
-        const found = this.checker.explained(pathIn(params)).find(([, it]) => meets(it.range, range));
-        return found && { contents: { kind: "markdown", value: told(found[0]) }, range: found[1].range };
+        const [fault, note] = this.checker.explained(pathIn(params)).find(([, it]) => meets(it.range, range)) ?? [];
+        return fault && { contents: { kind: "markdown", value: [told(fault), ...(await this.reasons.broken(fault))].join("\n\n") }, range: note.range };
     }
 
     // A promise of the edits that mend the faults of a range, and those that the editor names.

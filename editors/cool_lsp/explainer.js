@@ -5,7 +5,7 @@ const { textOf } = require("../node/bytes.js");
 const { findBeside } = require("../node/program.js");
 const { Explanation } = require("./explanation.js");
 const { Inquiry } = require("./inquiry.js");
-const { haveSame } = require("./marks.js");
+const { haveSame } = require("./teller.js");
 
 // Milliseconds without an edit, after which it is asked; seconds that an answer may take.
 const REST = 200, MOST_SECONDS = 5;

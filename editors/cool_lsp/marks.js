@@ -1,10 +1,8 @@
 // The positions of names in a program, the role of each and the definition that it refers to: the lines of `cool_editor` (docs/editor.md).
 "use strict";
-const { Missing, findBeside } = require("../node/program.js");
-const { Inquiry } = require("./inquiry.js");
+const { marksOf } = require("../../web/logic/marks.js");
 const { Moved } = require("./moves.js");
-
-const LINE = /(\d+):\d+:(\d+) (\w+) (\S+) (\S+) (?:(\d+):\d+:(\d+)|[-?])\n/g;
+const { Teller } = require("./teller.js");
 
 // A name: its place { path, at }; that of the definition is another one, or undefined where no file has it. The type is "?" where nothing is known.
 class Mark {
@@ -20,48 +18,16 @@ class Mark {
 const isSame = (one, other) => one?.path === other?.path && one?.at === other?.at;
 const placeKey = (place) => place && `${place.at}:${place.path}`;
 
-// Whether two maps have the same files.
-const haveSame = (one, other) => one.size === other.size && [...one].every(([path, data]) => other.get(path) === data && other.has(path));
-
-// The marks of programs. What was asked last for the same files is known.
-class Marks {
+// The marks of programs. Files that are no class table have none.
+class Marks extends Teller {
     // `cool` is the program that is named, or undefined.
     constructor(cool, seconds) {
-        Object.assign(this, { cool, seconds, known: new Map(), marks: undefined });
-    }
-
-    // A promise of the marks of files, a map of bytes by path, in the order of the files and the text; of undefined where they are no class table, or
-    // where there is no program.
-    async of(files) {
-        if (!haveSame(this.known, files)) {
-            this.marks = await this.ask(files);
-            this.known = new Map(files);
-        }
-        return this.marks;
-    }
-
-    // A promise of the path of the program, or of undefined: without it the server tells less, and that is no fault.
-    async find() {
-        try {
-            this.program ??= await findBeside("cool_editor", this.cool, this.seconds);
-        } catch (error) {
-            if (!(error instanceof Missing)) throw error;
-        }
-        return this.program;
-    }
-
-    async ask(files) {
-        if (!(await this.find())) return undefined;
-        const { status, output } = (await new Inquiry("cool_editor", this.program, [], this.seconds).answer(files)) ?? {};
-        return status === 0 ? read([...files.keys()], output) : undefined;
+        super(cool, seconds, [], (files, output) => marksOf(output, [...files.keys()]).map(markOf));
     }
 }
 
-function read(paths, lines) {
-    return Array.from(lines.matchAll(LINE), ([, file, at, role, name, type, other, there]) => {
-        const target = other === undefined ? undefined : { path: paths[other], at: Number(there) };
-        return new Mark({ path: paths[file], at: Number(at) }, role, name, type, target);
-    });
+function markOf({ file, byte, role, name, type, target }) {
+    return new Mark({ path: file, at: byte }, role, name, type, target && { path: target.file, at: target.byte });
 }
 
 // Marks of files at the places that their names have in later texts, both maps of bytes by path. What is there no more is left out.
@@ -78,4 +44,4 @@ function moved(marks, old, later) {
     });
 }
 
-module.exports = { Mark, Marks, haveSame, isSame, moved, placeKey };
+module.exports = { Mark, Marks, isSame, moved, placeKey };

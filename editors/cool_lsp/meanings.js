@@ -4,9 +4,10 @@
 const { keyOf } = require("../node/programs.js");
 const { pathIn } = require("./answers.js");
 const { MAIN } = require("./diagnostics.js");
-const { haveSame, isSame, moved } = require("./marks.js");
+const { isSame, moved } = require("./marks.js");
 const { formalsOf, markTold } = require("./members.js");
 const { Text } = require("./ranges.js");
+const { haveSame } = require("./teller.js");
 
 // Kinds of places that are highlighted.
 const READ = 2, WRITTEN = 3;

@@ -15,6 +15,7 @@ const { Formatter } = require("./formatting.js");
 const { removeRooms } = require("./inquiry.js");
 const { Marks } = require("./marks.js");
 const { Meanings } = require("./meanings.js");
+const { Reasons, joined } = require("./reasons.js");
 const { Renames } = require("./renames.js");
 const { Session } = require("./session.js");
 const { Snippets } = require("./snippets.js");
@@ -52,8 +53,10 @@ class Server {
     }
 
     questionsOf(named, seconds) {
-        const { files, programs } = this, answers = (this.answers = new Answers(files, programs, this.checker, this.told));
-        const classes = new Classes(files, programs), meanings = (this.meanings = new Meanings(files, programs, new Marks(namedCool(named), seconds)));
+        const { files, programs } = this, cool = namedCool(named), marks = new Marks(cool, seconds);
+        const reasons = new Reasons(files, programs, marks, cool, seconds);
+        const answers = (this.answers = new Answers(files, programs, this.checker, this.told, reasons));
+        const classes = new Classes(files, programs), meanings = (this.meanings = new Meanings(files, programs, marks));
         const renames = new Renames(files, programs, meanings), calls = new Calls(files, meanings), completions = new Completions(files, meanings);
         const snippets = (this.snippets = new Snippets(files));
         // What answers a request: the first that has an answer.
@@ -66,7 +69,7 @@ class Server {
         };
         const completion = first([completions, "completion"], [classes, "completion"]);
         return {
-            "textDocument/hover": first([answers, "hover"], [meanings, "hover"]),
+            "textDocument/hover": async (it) => (await answers.hover(it)) ?? joined(await meanings.hover(it), await reasons.hover(it)),
             "textDocument/documentSymbol": (it) => answers.symbols(it),
             "textDocument/definition": first([meanings, "definition"], [classes, "definition"]),
             "textDocument/references": first([meanings, "references"], [classes, "references"]),

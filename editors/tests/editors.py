@@ -16,6 +16,7 @@ from .names import editor
 GREETED = r'greeted 0 "who? Anx\b \b\r\nhi An\r\nCOOL program successfully executed\r\n"'
 SHOWN = TOLD + ": found Bool, and due is Int"
 FACTS = "- found Bool, and due is Int  To mend it: the value is of the declared class or of one below it.  Tried, as an edit (code action): `1` for `true`."
+PREMISE = "T ≤ T₁"
 MENDED = 'mended:   s : String <- "ä𝒙"; t : Int <- 1;'
 SECONDS = 120
 VIM = ["--cmd", "set runtimepath^=%s" % str(HERE / "vim").replace(" ", "\\ "), "--cmd", "filetype plugin on", "--cmd", "syntax on"]
@@ -42,7 +43,7 @@ def said_in(room, words, call, **environment):
 def neovim(room, words):
     call = ["nvim", "--clean", "--headless", *VIM, "FILE", "-c", "luafile %s" % (HERE / "tests" / "neovim.lua")]
     said, version = said_in(room, words, call)
-    expect("Neovim", said, ["2:26-27 " + SHOWN, "1 told", *FACTS.split("  "), "definition: 1:7", MENDED, "0 told", "laid out: true",
+    expect("Neovim", said, ["2:26-27 " + SHOWN, "1 told", *FACTS.split("  "), PREMISE, "definition: 1:7", MENDED, "0 told", "laid out: true",
                             "make: 2 E17: " + TOLD, "coolKeyword coolString"])
     said, _ = said_in(room, words, call, COOL="/nowhere/cool", COOL_ONCE="1")
     expect("no program", said[0], "1:0-0 not checked: /nowhere/cool does not start: no such file or directory")
@@ -161,7 +162,7 @@ def vscode_extension(room, words):
     call = ["node", HERE / "tests" / "vscode.cjs", package(room), words.cool, room / "m.cl"]
     environment = {**os.environ, "COOL_EXPLAIN": explained_by(room), "COOL_EDITOR": editor()}
     said = subprocess.run(call, timeout=SECONDS, stdout=subprocess.PIPE, check=True, env=environment).stdout.decode().splitlines()
-    expect("VS Code", said, ["1:23-1:24 E17 %s 0" % SHOWN, FACTS, "mend `1` for `true` quickfix true 1 1:34-1:38 1", "definition 0:6-0:10",
+    expect("VS Code", said, ["1:23-1:24 E17 %s 0" % SHOWN, FACTS, PREMISE, "mend `1` for `true` quickfix true 1 1:34-1:38 1", "definition 0:6-0:10",
                              "references 0:6-0:10 4:17-4:21", "Main 4 0:0-3:1 s 7 t 7 main 5", "Late 4 4:0-4:24 m 7",
                              "completion Main", "highlights 4:6-4:10 2", "rename 4:6-4:10 Later", "refused: the name of a class",
                              "debug node editors/cool-dap true", "launch cool launch ${file} true",
@@ -180,7 +181,7 @@ def vscode_by_modules(room, words):
     environment = {"PATH": str(room / "bin"), "HOME": str(room), "TMPDIR": str(room)}
     call = [room / "bin" / "node", HERE / "tests" / "vscode.cjs", package(room), "", room / "m.cl"]
     said = subprocess.run(call, timeout=SECONDS, stdout=subprocess.PIPE, check=True, env=environment).stdout.decode().splitlines()
-    expect("VS Code", [said[0], said[3], *said[13:15], said[-1]],
+    expect("VS Code", [said[0], said[4], *said[14:16], said[-1]],
            ["1:23-1:24 E17 %s: found Bool, where Int is due 0" % TOLD, "definition 0:6-0:10", "run run run $cool 1 E17", GREETED, "0 told; 0 problems"])
 
 

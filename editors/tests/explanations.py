@@ -76,7 +76,7 @@ def faults_are_explained(room, words):
     client = Client(at_.parent, words.cool, explain=stand_in(room, LINES, "sleep 1"))
     first = client.open(at_, FAULTY)
     expect("at once", [(n["code"], n["range"]["start"]["character"], "relatedInformation" in n) for n in first], [("E17", 2, False)])
-    said = hover(client, at_, at(FAULTY, TYPED)).split("\n\n")
+    said = hover(client, at_, at(FAULTY, TYPED)).split("\n\nThe rule ")[0].split("\n\n")
     expect("hover", said, ["**E17: %s**" % FAULT, "- found Bool, and due is Int\n- `t` is declared Int", "To mend it: %s." % CURE,
                            "Tried, as an edit (code action): `1` in the place of `true`: a line\nand a \\."])
     note = client.told[at_.as_uri()][1][0]

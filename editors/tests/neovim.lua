@@ -22,7 +22,8 @@ end
 vim.fn.cursor(2, 27)
 local hover = vim.lsp.buf_request_sync(0, 'textDocument/hover', vim.lsp.util.make_position_params(), 30000)
 for _, answer in pairs(hover) do
-  for _, line in ipairs(vim.list_slice(vim.split(answer.result.contents.value, '\n\n'), 2)) do table.insert(said, line) end
+  for _, line in ipairs(vim.list_slice(vim.split(answer.result.contents.value, '\n\n'), 2, 4)) do table.insert(said, line) end
+  table.insert(said, answer.result.contents.value:match('%- `([^\n]*)` does not hold'))
 end
 vim.fn.cursor(5, 19)
 vim.cmd('normal! \029') -- CTRL-]

@@ -76,7 +76,9 @@ const span = (r) => `${r[0]}:${r[1]}-${r[2]}:${r[3]}`;
   found = await next(() => {}); // explained
   found.forEach((f) => console.log(span(f[0]), f.code, f[1], f[2]));
   const hover = await hovered;
-  console.log(...hover[0][0].split('\n').slice(2));
+  const [facts, rule = ''] = hover[0][0].split('\n\nThe rule ');
+  console.log(...facts.split('\n').slice(2));
+  console.log((/^- `(.*)` does not hold$/m.exec(rule) ?? [])[1]);
   const mends = await providers.actions(document, { start: { line: 1, character: 23 }, end: { line: 1, character: 23 } }, { diagnostics: found });
   mends.forEach((m) => console.log('mend', m[0], m[1], m.isPreferred, m.diagnostics.length, ...m.edit.edits.map((e) => `${span(e[1])} ${e[2]}`)));
   for (const kind of ['definition', 'references']) console.log(kind, ...(await providers[kind](document, { line: 0, character: 7 })).map((l) => span(l[1])));
