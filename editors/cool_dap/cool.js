@@ -74,13 +74,17 @@ class Cool {
         else this.last?.stdin.write(text);
     }
 
-    // The assembly, and the table of code.
+    // The assembly, the table of code, and the trees.
     asm() {
         return this.read(["asm", "--", ...this.program.names]);
     }
 
     code() {
         return this.read(["--code", ...this.program.names], "cool_editor");
+    }
+
+    trees() {
+        return this.read(["--trees", ...this.program.names], "cool_editor");
     }
 
     async read(words, name) {

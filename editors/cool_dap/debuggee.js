@@ -21,19 +21,28 @@ class Debuggee {
         this.reads = new this.logic.Reads();
     }
 
-    // Reads the assembly and the table of code; answers the notes of `cool` where there is none.
+    // Reads the assembly, the table of code and the trees; answers the notes of `cool` where there are none.
     async prepare() {
-        const told = this.cool.code();
-        told.catch(() => {});
+        const told = this.cool.code(), trees = this.cool.trees();
+        for (const it of [told, trees]) it.catch(() => {});
         const { status, output, notes } = await this.cool.asm();
         if (status !== 0) return notes;
         const code = await told, { files } = this.program;
         if (code.status !== 0) throw new LaunchFailed(`cool_editor --code ended with status ${code.status}: ${code.notes}`);
         this.listing = this.logic.listingOf(output);
         this.table = this.logic.tableOf(code.output, files, this.listing);
+        this.trees = this.treesOf((await trees).output, files);
         this.outline = this.logic.outlineOf(files);
         this.textOf = this.logic.textsOf(files);
         this.numbers = new Map();
+    }
+
+    treesOf(rows, files) {
+        try {
+            return new this.logic.Trees(rows, files);
+        } catch (error) {
+            throw new LaunchFailed(`${this.cool.programs.cool_editor} is of another version than cool-dap: ${error.message}`);
+        }
     }
 
     async debug(lines, wanted, more) {
@@ -53,8 +62,8 @@ class Debuggee {
     }
 
     get view() {
-        const { state, listing, table, outline, textOf, numbers } = this;
-        return { state, listing, table, outline, textOf, numbers };
+        const { state, listing, table, trees, outline, textOf, numbers } = this;
+        return { state, listing, table, trees, outline, textOf, numbers };
     }
 
     // Where the program stands, with so many frames. Words of memory that are lacking are read.

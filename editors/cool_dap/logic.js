@@ -7,11 +7,12 @@ const vm = require("vm");
 
 const SCRIPTS = [
     "bytes.js", "lexemes.js", "names.js", "outline.js", "listing.js", "table.js", "moves.js", "objects.js", "stops.js", "backwards.js", "reads.js",
-    "evaluator.js", "under-way.js",
+    "evaluator.js", "trees.js", "under-way.js",
 ];
 const NAMES = `(given) => ((debug = given), {
-    DATA_START, ERRORS, FORMS_TAKEN, MoveFailed, NO_BREAKS, Reads, State, attributesOf, backOver, backTo, breakOfLine, contentsOf, described, expressionOf,
-    goOn, hex, into, listingOf, out, outlineOf, over, partsOf, partsUnderWay, placeAt, readersOf, stackOf, tableOf, textsOf, toFirstLine, truthOf })`;
+    DATA_START, ERRORS, FORMS_TAKEN, MoveFailed, NO_BREAKS, Reads, State, Trees, attributesOf, backOver, backTo, breakOfLine, contentsOf, described,
+    expressionOf, goOn, hex, into, listingOf, out, outlineOf, over, partsOf, partsUnderWay, placeAt, readersOf, stackOf, tableOf, textsOf, toFirstLine, truthOf
+    })`;
 const FOLDER = path.join(__dirname, "..", "..", "web", "logic");
 
 function logicWith(debug) {

@@ -31,7 +31,7 @@ class Program {
         this.names = this.paths.map((it) => path.relative(above, it));
         this.folder = fs.mkdtempSync(path.join(os.tmpdir(), "cool-dap-"));
         try {
-            this.files = this.paths.map((it, i) => ({ name: this.names[i], text: this.kept(it, this.names[i]) }));
+            this.files = this.paths.map((it, i) => this.kept(it, this.names[i]));
         } catch (error) {
             this.remove();
             throw new LaunchFailed(`${error.path ?? this.paths[0]}: ${error.code === "ENOENT" ? "no such file" : error.message}`);
@@ -43,11 +43,12 @@ class Program {
         return path.join(this.folder, "sources");
     }
 
+    // A file with its text, and its bytes as a string in which each is a letter.
     kept(from, name) {
         const bytes = fs.readFileSync(from), to = path.join(this.sources, name);
         fs.mkdirSync(path.dirname(to), { recursive: true });
         fs.writeFileSync(to, bytes);
-        return bytes.toString();
+        return { name, text: bytes.toString(), data: bytes.toString("latin1") };
     }
 
     // A file with the lines of a script.

@@ -98,7 +98,7 @@ def average(room, words):
     expect("to the error", client.at("continue"), ("Numbers.average", 14, "exception"))
     expect("why", client.ask("exceptionInfo", threadId=1)["description"], "division by zero")
     expect("attributes", client.variables(scope="Attributes of self"), {"sum": "12", "count": "0"})
-    expect("operands", client.variables(scope="Rule"), {"1: name sum": "done", "2: name count": "done"})
+    expect("operands", client.variables(scope="Rule"), {"1: sum": "done", "2: count": "done"})
     expect("of the caller", client.variables(frame=2)["numbers"], "Numbers#1")
     expect("back", [client.at("stepBack")[:2] for _ in range(3)], [("Numbers.average", 14), ("Main.main", 22), ("Main.main", 21)])
     expect("to the error again", client.at("continue"), ("Numbers.average", 14, "exception"))

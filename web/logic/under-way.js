@@ -1,6 +1,8 @@
 // The rule that is under way at a stop: how far the parts of an expression are, the values of those that are done, and the step by premises.
 "use strict";
 
+// Letters of a part that are shown.
+const MOST_OF_PART = 40;
 const BINARY = new Set(["+", "-", "*", "/", "<", "<=", "="]);
 
 // How far the parts of an expression are at an address: each is "done", "now" or "due".
@@ -48,12 +50,13 @@ function wordsOfParts(span, frame, { state }) {
     });
 }
 
-// The parts of the expression that is under way in a frame, in the order of the code: { name, progress, word }, the word where the machine still has it.
+// The parts of the expression that is under way in a frame, in the order of the code: { name, progress, word }, as the text has them, and with the word where
+// the machine still has it.
 function partsUnderWay(frame, view) {
     const { span } = underWay([frame], view.table) ?? {};
     if (span === undefined) return [];
-    const states = progress(span, frame.pc), words = wordsOfParts(span, frame, view);
-    return span.parts.map((it, i) => ({ name: `${i + 1}: ${[it.form, view.textOf(it)].join(" ").trim()}`, progress: states[i], word: words[i] }));
+    const states = progress(span, frame.pc), words = wordsOfParts(span, frame, view), { trees } = view;
+    return span.parts.map((it, i) => ({ name: `${i + 1}: ${trees.textOf(trees.nodeAt(it), MOST_OF_PART)}`, progress: states[i], word: words[i] }));
 }
 
 // To where the next part begins, or the part that is under way ends, or the expression; not into methods that are called.
