@@ -45,10 +45,10 @@ def command_of(names, words, options):
     if words:
         path = shutil.which(words[0])
         if not path:
-            raise Refusal(f"no program: {words[0]}")
+            raise Refusal(f"there is no program {words[0]}")
         return [os.path.abspath(path), *words[1:]], None, no_wall
     if not names:
-        raise Refusal("no program behind --")
+        raise Refusal("name a program after --")
     wall = Wall(options["--as"], options["--trusted"], options["--processes"] * (options["--jobs"] if options["--as"] else 1))
     command = wall.command(os.path.abspath(names[0]), own_program())
     if not command:
@@ -117,7 +117,7 @@ class Stress:
         """The numbers of programs from this one on, some at once: all, or those of a kind."""
         kind = self.options["--kind"]
         if kind not in ("", "legal", *KINDS):
-            raise Refusal(f"no kind of change: {kind}")
+            raise Refusal(f"there is no kind of change {kind}")
         start, step = {"": (0, 1), "legal": (0, 2)}.get(kind) or (2 * KINDS.index(kind) + 1, 2 * len(KINDS))
         first = max(0, -(-(first - start) // step))
         done = 0
