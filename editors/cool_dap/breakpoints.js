@@ -41,7 +41,7 @@ class Breakpoint {
         const { counts, message } = this.reads, holds = await this.holds(steps, look);
         if (!holds) return false;
         if (holds.wrong) {
-            await look.tell(`cool-dap: the condition "${this.asked.condition}" cannot be told here: ${holds.wrong}\n`, true);
+            await look.tell(`cool-dap: the condition "${this.asked.condition}" cannot be evaluated here: ${holds.wrong}\n`, true);
             return true;
         }
         if (counts && !counts(this.countedTo(steps))) return false;

@@ -110,7 +110,7 @@ class Frames {
         const register = name.startsWith("$") && this.registers().find((it) => it.name === name);
         if (register) return (await this.described(() => [register]))[0];
         const expression = logic.expressionOf(text);
-        if (!expression) throw new NotTold(`"${name}" is not told: write ${logic.FORMS_TAKEN}`);
+        if (!expression) throw new NotTold(`"${name}" cannot be evaluated: write ${logic.FORMS_TAKEN}`);
         const found = await this.value(expression, id);
         if (found.wrong) throw new NotTold(found.wrong);
         return this.variable({ ...found, name: text, type: found.declared });

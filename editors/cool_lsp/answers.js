@@ -63,7 +63,7 @@ class Answers {
     }
 
     // The classes and features of a file that parses; of another file those of the classes before its fault. Nothing where it isn't known whether the file
-    // parses: where it was not checked, or another file has a fault of lexemes, which hides those of syntax.
+    // parses: if it was not checked, or if another file has a lexical error, which hides syntax errors.
     symbols(params) {
         const file = pathIn(params), notes = this.notes(file);
         const others = new Set(this.programs.of(file).flat().filter((it) => it !== file));

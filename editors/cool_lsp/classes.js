@@ -78,7 +78,7 @@ class Classes {
         const files = this.sharing(file, name);
         for (const it of files) {
             const data = this.files.data(it);
-            if (data === null || hasFault(data)) throw new Refused(`${it} is missing, or has a fault of lexemes, so that not all of it is seen`);
+            if (data === null || hasFault(data)) throw new Refused(`${it} is missing, or has a lexical error, so not all names in it can be found`);
             if (this.programs.names(it).defined.has(newName) || this.programs.names(it).named.has(newName)) {
                 throw new Refused(`${newName} is named in ${it} already: choose another name`);
             }

@@ -203,7 +203,7 @@ function addHidden(program, found) {
     const hidden = [...found].find(([it, notes]) => notes.length > 0 && !program.there.has(it));
     if (!hidden) return;
     const [file, [first]] = hidden;
-    const words = `checked with ${path.basename(file)}, which has faults: line ${first.range.start.line + 1}, ${first.code}: ${first.message}`;
+    const words = `checked with ${path.basename(file)}, which has errors: line ${first.range.start.line + 1}, ${first.code}: ${first.message}`;
     const place = { location: { uri: toUri(file), range: first.range }, message: first.message };
     for (const it of program.there.keys()) found.get(it).push(note(INFORMATION, words, undefined, { relatedInformation: [place] }));
 }

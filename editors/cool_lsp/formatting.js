@@ -23,15 +23,15 @@ class Formatter {
     async formatted(file, data, marksOf, name) {
         const faults = await this.faults(name, data);
         const first = faults.find(([, words]) => "LS".includes(words[0]));
-        if (first) throw new Refused(`${name}:${first[0]}: ${textOf(first[1])}: not laid out`);
+        if (first) throw new Refused(`${name}:${first[0]}: ${textOf(first[1])}: not formatted`);
         const [texts, gaps] = laidOut(data), edits = editsOf(texts, gaps);
         if (edits.length === 0) return edits;
         const changed = edited(data, edits), after = new Texts(changed);
         const refuse = (why) => {
-            throw new Refused(`${name}: not laid out: ${why}`);
+            throw new Refused(`${name}: not formatted: ${why}`);
         };
         if (!isAlike(after.tokens, texts.tokens) || !isAlike(after.said(), texts.said())) refuse("a token or a comment would change");
-        if (!isAlike(movedFaults(faults, texts, after), await this.faults(name, changed))) refuse("its faults would change");
+        if (!isAlike(movedFaults(faults, texts, after), await this.faults(name, changed))) refuse("its errors would change");
         const marks = await marksOf(data);
         if (marks && !isAlike(movedMarks(marks, file, texts, after), await marksOf(changed))) refuse("a name would mean something else");
         return edits;
@@ -51,11 +51,11 @@ class Formatter {
         try {
             this.program ??= await find("cool", this.named, this.seconds);
         } catch (error) {
-            throw error instanceof Missing ? new Refused(`${name}: not laid out: ${error.message}`) : error;
+            throw error instanceof Missing ? new Refused(`${name}: not formatted: ${error.message}`) : error;
         }
         const inquiry = new Inquiry("cool", this.program, ["check"], this.seconds, true);
         const { status, output } = (await inquiry.answer(new Map([[name, data]]))) ?? { output: "the program did not answer" };
-        if (status !== 0 && status !== 1) throw new Refused(`${name}: not laid out: ${textOf(output).trim().replaceAll("0.cl", name)}`);
+        if (status !== 0 && status !== 1) throw new Refused(`${name}: not formatted: ${textOf(output).trim().replaceAll("0.cl", name)}`);
         return Array.from(output.matchAll(FAULT), ([, line, words]) => [Number(line), words]);
     }
 }

@@ -71,7 +71,7 @@ def outline_of_a_file_with_a_fault(room, words):
     expect("before the fault", [symbol["name"] for symbol in found], ["A"])
     client.open(room / "b.cl", "class D { x : Int <- ?; };\n")
     found = client.request("textDocument/documentSymbol", {"textDocument": {"uri": (room / "a.cl").as_uri()}})["result"]
-    expect("where a fault of lexemes in another file hides the fault", found, [])
+    expect("where a lexical error in another file hides the error", found, [])
     client.end()
 
 
@@ -132,7 +132,7 @@ def a_class_is_renamed(room, words):
     for character, new, why in refused:
         expect(new, rename(character, new)["error"]["message"].startswith(why), True)
     (at / "two.cl").write_text(main + '"')
-    expect("a lexical fault", "fault of lexemes" in rename(19, "Pile")["error"]["message"], True)
+    expect("a lexical fault", "lexical error" in rename(19, "Pile")["error"]["message"], True)
     client.end()
 
 

@@ -123,7 +123,7 @@ def wrong_conditions(room, words):
         client.said = ""
         seen = stops(client, file, {"condition": condition})
         told = client.said.splitlines()
-        expect(condition, (len(seen), len(told), told[0]), (6, 6, 'cool-dap: the condition "%s" cannot be told here: %s' % (condition, why)))
+        expect(condition, (len(seen), len(told), told[0]), (6, 6, 'cool-dap: the condition "%s" cannot be evaluated here: %s' % (condition, why)))
     done(client, room)
 
 

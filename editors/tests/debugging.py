@@ -253,7 +253,7 @@ def variables(room, words):
                 's = "\u00e9\\n"': "true", "b.next = self": "false", "n <= 14 = true": None, "twice(n)": None, "if true then 1 else 2 fi": None, "": None}
     answers = [client.answer("evaluate", expression=it, frameId=2, context="watch") for it in computed]
     expect("computed", [it["body"]["result"] if it["success"] else None for it in answers], list(computed.values()))
-    expect("why", answers[-3]["message"][:53], '"twice(n)" is not told: write names, constants and op')
+    expect("why", answers[-3]["message"][:54], '"twice(n)" cannot be evaluated: write names, constants')
     self = client.ask("evaluate", expression="self", frameId=2, context="watch")
     parts = client.ask("variables", variablesReference=self["variablesReference"])["variables"]
     expect("an object's parts", [(it["name"], it["value"]) for it in parts], [("x", "3"), ("next", "void")])
@@ -377,7 +377,7 @@ def called_by_hand(room, words):
         raise NotTried("node is not installed")
     old = "Object.defineProperty(process, 'versions', { value: { node: '16.1.0' } })"
     (room / "old.js").write_text(old)
-    for call, status, said in ((["--help"], 2, "takes no words"), ([], 125, "this is node 16.1.0")):
+    for call, status, said in ((["--help"], 2, "takes no arguments"), ([], 125, "this is node 16.1.0")):
         node = ["node", *(["-r", room / "old.js"] if status == 125 else []), HERE / "cool-dap", *call]
         ended = subprocess.run(node, stdin=subprocess.DEVNULL, stderr=subprocess.PIPE)
         expect(said, (ended.returncode, said in ended.stderr.decode(), ended.stderr.count(b"\n")), (status, True, 1))

@@ -136,16 +136,16 @@ def rules_of_layout(room, words):
 def what_is_not_laid_out(room, words):
     at = fill(room / "bad", syntax="class A {\n a : Int\n};", binary=b"\x7fELF\0\0", wide="class A { };".encode("utf-16"), good="class A{};")
     for name, note in (("syntax", "3: S1: unexpected token"), ("binary", "1: L1: unknown character"), ("wide", "1: L1: unknown character")):
-        said = "cool-format: %s.cl:%s: not laid out\n" % (name, note)
+        said = "cool-format: %s.cl:%s: not formatted\n" % (name, note)
         expect(name, call(words.cool, "--write", name + ".cl", cwd=at), (1, "", said))
     (at / "large.cl").write_bytes(b" " * 1048577)
-    expect("too large", call(words.cool, "large.cl", cwd=at), (1, "", "cool-format: large.cl: not laid out: cool: files too large\n"))
-    expect("no program", call("/none", "good.cl", cwd=at)[::2], (1, "cool-format: good.cl: not laid out: the program did not answer\n"))
+    expect("too large", call(words.cool, "large.cl", cwd=at), (1, "", "cool-format: large.cl: not formatted: cool: files too large\n"))
+    expect("no program", call("/none", "good.cl", cwd=at)[::2], (1, "cool-format: good.cl: not formatted: the program did not answer\n"))
     expect("a program that says what is not so", call("/bin/true", at / "syntax.cl")[0], 0)
     client = Client(room / "bad", words.cool)
     client.open(at / "syntax.cl", "class A {\n a : Int\n};")
     answer = client.request("textDocument/formatting", {"textDocument": {"uri": (at / "syntax.cl").as_uri()}, "options": {}})
-    expect("refused in an editor", answer["error"]["message"], "syntax.cl:3: S1: unexpected token: not laid out")
+    expect("refused in an editor", answer["error"]["message"], "syntax.cl:3: S1: unexpected token: not formatted")
     client.end()
 
 
@@ -159,8 +159,8 @@ def what_the_programs_find_changed(room, words):
         return str(room / name)
 
     cool = stand_in("cool", "true", "echo '0.cl:1: E1: unknown name' >&2; exit 1")
-    expect("a fault", call(cool, "rough.cl", cwd=at), (1, "", "cool-format: rough.cl: not laid out: its faults would change\n"))
-    said = "cool-format: rough.cl: not laid out: a name would mean something else\n"
+    expect("a fault", call(cool, "rough.cl", cwd=at), (1, "", "cool-format: rough.cl: not formatted: its errors would change\n"))
+    said = "cool-format: rough.cl: not formatted: a name would mean something else\n"
     for number, mark in enumerate(("0:1:6 class A B 0:1:6", "0:1:7 class A A 0:1:7", "0:1:6 class A A -")):
         namer = stand_in("namer", "echo 0:1:6 class A A 0:1:6", "echo " + mark)
         expect("mark %d" % number, call(words.cool, "rough.cl", namer=namer, cwd=at), (1, "", said))

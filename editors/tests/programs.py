@@ -20,7 +20,7 @@ def each_main_is_a_program(room, words):
     expect("hello", client.open(at / "hello.cl", HELLO), [])
     client.open(at / "list.cl", USE)
     client.until("list, and node, which is closed", lambda: (client.faults(at / "list.cl"), client.faults(at / "node.cl")) == ([ARGUMENT], [WRONG]))
-    expect("list", client.notes(at / "list.cl"), ["checked with node.cl, which has faults: line 1, E17: initial value does not conform"])
+    expect("list", client.notes(at / "list.cl"), ["checked with node.cl, which has errors: line 1, E17: initial value does not conform"])
     client.open(at / "node.cl", "class Node { };\n")
     client.until("node, as it is open", lambda: (client.faults(at / "node.cl"), client.notes(at / "list.cl")) == ([], []))
     client.close(at / "node.cl")
@@ -56,7 +56,7 @@ def a_list_decides(room, words):
     client = Client(at, words.cool)
     client.open(at / "main.cl", HELLO)
     expect("main", client.notes(at / "main.cl"), ["gone.cl is missing: the program is checked without it",
-                                                  "checked with part.cl, which has faults: line 1, E17: initial value does not conform"])
+                                                  "checked with part.cl, which has errors: line 1, E17: initial value does not conform"])
     client.open(at / "sub" / "x.cl", "class Main { p : Node <- 1; main() : Object { 0 }; };\n")
     expect("x, by a list above", client.faults(at / "sub" / "x.cl"), [WRONG])
     client.open(at / "f.cl", "")
@@ -127,7 +127,7 @@ def odd_files_beside(room, words):
     client = Client(at, words.cool, explain=stand_in(room, faults))
     client.open(at / "main.cl", HELLO)
     expect("main", client.notes(at / "main.cl"), [*("%s.cl is missing: the program is checked without it" % name for name in ("dangling", "folder", "pipe")),
-                                                  "checked with crlf.cl, which has faults: line 2, E17: initial value does not conform"])
+                                                  "checked with crlf.cl, which has errors: line 2, E17: initial value does not conform"])
     client.until("crlf", lambda: client.faults(at / "crlf.cl") == [(2, "E17", "initial value does not conform")])
     client.until("latin", lambda: client.faults(at / "latin.cl") == [WRONG])
 
