@@ -1,4 +1,4 @@
--- The attributes of a chain, class by class, and that they are there.
+-- The attributes of a chain are those of the classes above its first class and then those of the first class, and all of them exist in the table.
 use Rattle.std.proofs.Common.{◌≡◌, ℕ, suc, ◌-◌, ◌+◌, ◌<◌, List, [], ◌∷◌, ◌++◌, length, drop, get_or, slice_get, Some, ap, sym, ◌∙◌, refl, subst, arith}
 use Rattle.std.specs.List.{AllByRecursion}
 use Rattle.std.proofs.lemmas.List.{append_assoc, length_push}

@@ -1,4 +1,4 @@
--- The depths of the basic classes.
+-- The depth of Object is 0, and the depth of each other basic class is 1.
 use Rattle.std.proofs.Common.{◌≡◌, ◌≢◌, ℕ, zero, suc, ◌<◌, List, refl, arith}
 use Rattle.cool_classes.specs.declared.class_id.ClassId.{ClassId}
 use Rattle.cool_classes.specs.Chains.{class_number}

@@ -1,4 +1,4 @@
--- The names of the basic classes, one after another.
+-- Lemmas for the loop of `basic_names`: the name that each step adds is that of the next basic class.
 use Rattle.std.proofs.Common.{◌≡◌, ℕ, zero, suc, ◌+◌, ◌<◌, List, [], ◌∷◌, ◌++◌, length, map, take, get_or, Some, sym, ap, ◌∙◌, refl, arith}
 use Rattle.std.proofs.lemmas.List.{take_more}
 use Rattle.cool_classes.specs.Chains.{class_number, name_of}

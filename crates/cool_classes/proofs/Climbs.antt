@@ -1,4 +1,4 @@
--- Chains of parents, and the invariants of a climb along one.
+-- Lemmas on chains of parents, and the invariants of the loops of `chain`, `is_below` and `join`, which climb along a chain.
 use Rattle.std.proofs.Common.{◌≡◌, ◌≢◌, ℕ, zero, suc, ◌+◌, ◌<◌, ◌≤◌, ◌⊎◌, List, [], ◌∷◌, ◌++◌, length, get_or, Option, Some, None, ap, sym, ◌∙◌, refl, subst, arith, inl, inr, append_assoc}
 use Rattle.std.specs.Prelude.{Contains, IfSome}
 use Rattle.cool_classes.specs.declared.class_id.ClassId.{ClassId}

@@ -1,4 +1,4 @@
--- Classes whose names no earlier class has have names of their own.
+-- If no class has the name of an earlier class, different classes have different names.
 use Rattle.std.proofs.Common.{◌≡◌, ◌≢◌, inl, inr, ℕ, zero, suc, ◌+◌, ◌<◌, List, [], length, take, get_or, Some, None, sym, ap, ◌∙◌, refl, arith}
 use Rattle.std.specs.Prelude.{codes}
 use Rattle.std.proofs.lemmas.List.{length-take-le, get_or-take}

@@ -1,4 +1,4 @@
--- The faults of a phase, refused exactly: those of the classes, or else those of the features of the classes that definitions make.
+-- `table` returns exactly the faults of the classes, or those of the features if the classes have none.
 use Rattle.std.proofs.Common.{◌≡◌, ℕ, List, [], ◌∷◌, ◌++◌, length, map, inl, inr, ap, sym, ◌∙◌, Some, refl, subst, arith, Option}
 use Rattle.std.specs.List.Sorted.{IsPermutation}
 use Rattle.std.specs.Global.{Vec}

@@ -1,4 +1,4 @@
--- The kinds and the places of the faults of features.
+-- The faults that the features of a class have are of the kinds F1 to F9, and their places are in the source files.
 use Rattle.std.proofs.Common.{ℕ, ◌+◌, ◌<◌, List, [], ◌∷◌, ◌++◌, Option, Some, is_some, Bool, true, false, not, ◌||◌, arith}
 use Rattle.std.specs.Prelude.{bytes_eq, codes}
 use Rattle.std.specs.List.{AllByRecursion}

@@ -1,4 +1,4 @@
--- Lists of faults to which others are added.
+-- Lemmas on `AddsFaults` of `Settled.antt`: it holds if no fault, one fault or several faults of classes are added to a list.
 use Rattle.std.proofs.Common.{◌≡◌, ℕ, ◌<◌, List, [], ◌∷◌, ◌++◌, Option, Some, None, refl}
 use Rattle.std.specs.Prelude.{IfSome}
 use Rattle.cool_syntax.specs.declared.place.Place.{Place}

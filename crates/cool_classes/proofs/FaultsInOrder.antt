@@ -1,4 +1,4 @@
--- Faults that were sorted by file, byte, kind and line stand in order.
+-- Faults that are sorted by file, byte, kind and line are in the order of `AreInOrder` of `FaultOrder.antt`.
 use Rattle.std.proofs.Common.{◌≡◌, inl, inr, ℕ, suc, ◌+◌, ◌<◌, List, [], ◌∷◌, get_or, false, sym, refl, subst, arith, true≢false}
 use Rattle.std.specs.Ordering.{nat_cmp, ordering_then, is_lt, MatchOrdering}
 use Rattle.std.specs.Cmp.{ranks}

@@ -1,4 +1,4 @@
--- Faults that are noted one after the other, as one list.
+-- Four lists of faults that are appended one after the other are appended as one list.
 use Rattle.std.proofs.Common.{◌≡◌, List, ◌++◌, ap, ◌∙◌, append_assoc}
 
 -- four parts

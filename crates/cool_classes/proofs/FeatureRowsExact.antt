@@ -1,4 +1,4 @@
--- The faults of features, found by tests, are exactly those of the rows.
+-- The faults that `class_faults` lists for the features of a class are exactly those of the rows of `FeatureRows.antt`.
 use Rattle.std.proofs.Common.{◌≡◌, ◌≢◌, ◌⊎◌, inl, inr, ℕ, zero, suc, ◌+◌, ◌<◌, ◌≤◌, List, [], ◌∷◌, ◌++◌, length, map, take, Option, Some, None, is_some, Contains, Bool, true, false, not, ◌&&◌, ◌||◌, sym, ap, ◌∙◌, refl, subst, arith, append_assoc, true≢false, append-nil}
 use Rattle.std.specs.Prelude.{slice_get, bytes_eq, nat_lt, codes}
 use Rattle.std.specs.List.{AllByRecursion}

@@ -1,4 +1,5 @@
--- The faults of the features of the classes so far, and the properties of a table that has none.
+-- The invariant of the loop of `feature_faults`: it has added the faults of the first classes. If they have none, their types exist and they keep the
+-- limits.
 use Rattle.std.proofs.Common.{◌≡◌, ℕ, zero, suc, ◌+◌, ◌-◌, ◌<◌, ◌≤◌, List, [], ◌∷◌, ◌++◌, length, get_or, Some, Bool, true, false, ◌||◌, sym, ◌∙◌, refl, subst, arith, true≢false}
 use Rattle.std.specs.Prelude.{nat_lt}
 use Rattle.std.specs.List.{AllByRecursion}

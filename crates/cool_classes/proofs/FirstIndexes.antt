@@ -1,4 +1,4 @@
--- The first indexes of names, and the items at positions of lists.
+-- Lemmas on the first index of a name in a list of names, and on the items at positions of lists.
 use Rattle.std.proofs.Common.{◌≡◌, ℕ, zero, suc, ◌+◌, ◌<◌, ◌≤◌, List, [], ◌∷◌, ◌++◌, length, map, take, Option, Some, None, Bool, true, false, sym, ap, ◌∙◌, refl, arith, true≢false}
 use Rattle.std.specs.Prelude.{slice_get, bytes_eq, if◌then◌else◌}
 use Rattle.std.proofs.lemmas.Option.{none-some, same_Some}

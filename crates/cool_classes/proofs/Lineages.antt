@@ -1,4 +1,5 @@
--- Classes above one are classes of the table; the counts of a chain's classes add up to its numbers of attributes and of names of methods.
+-- The classes above a class are classes of the table. The counts of the classes on a chain add up to the numbers of its attributes and of the names of its
+-- methods.
 use Rattle.std.proofs.Common.{◌≡◌, ℕ, ◌<◌, List, [], ◌∷◌, length, Option, Some, None, sym, refl, subst, arith}
 use Rattle.std.specs.Prelude.{IfSome}
 use Rattle.std.proofs.lemmas.List.{length-append}

@@ -1,4 +1,4 @@
--- The method main of a class named Main.
+-- Lemma for `lacks_main`: the first method main of a class named Main decides whether the class lacks it.
 use Rattle.std.proofs.Common.{◌≡◌, ℕ, List, Option, Bool, true, ◌&&◌, ap, sym, ◌∙◌}
 use Rattle.std.specs.Prelude.{codes, bytes_eq}
 use Rattle.cool_classes.specs.declared.class_id.ClassId.{ClassId}

@@ -1,4 +1,4 @@
--- Names of definitions, one after another.
+-- Lemmas for the loop of `find_names`: each step adds the name of the next definition, with the number of its class.
 use Rattle.std.proofs.Common.{◌≡◌, ◌≢◌, ℕ, ◌+◌, ◌<◌, List, [], ◌∷◌, ◌++◌, length, map, take, get_or, Option, Some, None, is_some, Bool, false, sym, ap, ◌∙◌, refl, subst, arith, below_more, true≢false}
 use Rattle.std.specs.Prelude.{option_map}
 use Rattle.std.specs.Global.{Vec}

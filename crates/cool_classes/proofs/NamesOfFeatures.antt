@@ -1,4 +1,4 @@
--- If the features of a class have no fault, its formals and its attributes have different names.
+-- If no class has a fault, the methods of a class, the formals of each method and the attributes on a chain have different names.
 use Rattle.std.proofs.Common.{◌≡◌, ◌≢◌, ℕ, suc, ◌+◌, ◌<◌, List, [], ◌∷◌, ◌++◌, map, length, Option, Some, None, Bool, true, false, not, ◌||◌, cond, ap, sym, ◌∙◌, refl, subst, arith}
 use Rattle.std.specs.Prelude.{bytes_eq, slice_get, is_some}
 use Rattle.std.specs.List.{AllByRecursion}

@@ -1,4 +1,4 @@
--- The names that a class adds to those of the classes above it, and their number.
+-- Lemmas for `counts_of` and `is_new`, which count the names of methods that a class adds to those of the classes above it.
 use Rattle.std.proofs.Common.{◌≡◌, ℕ, ◌+◌, ◌<◌, ◌≤◌, List, [], ◌∷◌, ◌++◌, length, get_or, Bool, true, false, not, ◌&&◌, cond, is_none, ap, sym, ◌∙◌, refl, arith}
 use Rattle.std.proofs.lemmas.List.{length-append, get_or_append_left, get_or_push}
 use Rattle.cool_syntax.specs.declared.file_tree.Feature.{Feature}

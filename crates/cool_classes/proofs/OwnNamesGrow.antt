@@ -1,4 +1,4 @@
--- Look-ups among the names of features and of classes when one more is noted.
+-- Lemmas on the maps of names of features: a look-up finds the first feature of a name, also after one more feature or class was added.
 use Rattle.std.proofs.Common.{◌≡◌, ℕ, ◌+◌, ◌<◌, ◌≤◌, List, [], ◌∷◌, ◌++◌, map, length, get_or, drop, Option, Some, None, is_some, ◌||◌, Bool, true, false, cond, ap, sym, ◌∙◌, refl, subst, arith}
 use Rattle.std.specs.Prelude.{bytes_eq, nat_lt, option_map}
 use Rattle.std.specs.Global.{Vec}

@@ -1,4 +1,4 @@
--- Two lists of numbers, none of them twice, that have the same numbers are one list in another order.
+-- Two lists that have the same numbers, each number once, are permutations of each other.
 use Rattle.std.proofs.Common.{◌≡◌, ◌≢◌, ◌⊎◌, inl, inr, ℕ, List, [], ◌∷◌, ◌++◌, Contains, sym, ap, ◌∙◌, refl, subst}
 use Rattle.std.specs.List.Sorted.{IsPermutation}
 use Rattle.std.proofs.lemmas.List.Sorted.{IsPermutation-refl, IsPermutation-sym, IsPermutation-trans, IsPermutation-cons, IsPermutation-middle}

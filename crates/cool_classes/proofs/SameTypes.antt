@@ -1,4 +1,4 @@
--- Formals that declare other types, and tests of two parts.
+-- Lemmas on lists of declared types of different lengths, and on the disjunction of two tests.
 use Rattle.std.proofs.Common.{◌≡◌, ◌≢◌, ℕ, suc, List, [], ◌∷◌, length, Bool, true, false, not, ◌&&◌, ◌||◌, ap, sym, ◌∙◌, refl}
 use Rattle.std.specs.Prelude.{bytes_eq, ◌==◌}
 use Rattle.std.proofs.Math.Dec.{eqb-suc-zero}

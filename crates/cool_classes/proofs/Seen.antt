@@ -1,4 +1,4 @@
--- Entries and the classes that they are seen as, and tests of numbers and names.
+-- Lemmas on the classes that the entries of a table represent, and on tests whether two numbers or two names are equal.
 use Rattle.std.proofs.Common.{◌≡◌, ◌≢◌, ℕ, ◌<◌, List, length, get_or, sym, ap, ◌∙◌, subst, Bool, true, false, not, eqb, true≢false}
 use Rattle.std.proofs.lemmas.Bool.{eqb-true, eq-eqb, not-false}
 use Rattle.std.proofs.lemmas.List.{length-map, get_or-map}

@@ -1,4 +1,5 @@
--- Swapping a body or a feature: the classes that the entries are then seen as, and the properties that they keep.
+-- Lemmas for `swap_body` and `swap_feature`: the entries afterwards represent the classes with one body or feature exchanged, and keep the invariant of the
+-- table.
 use Rattle.std.proofs.Common.{◌≡◌, ℕ, zero, suc, ◌+◌, ◌<◌, List, [], ◌∷◌, map, length, get_or, set, Option, Some, None, refl, sym, ap, ◌∙◌, subst}
 use Rattle.std.specs.Prelude.{slice_get}
 use Rattle.std.specs.Global.{Vec}

@@ -1,4 +1,4 @@
-//! The expressions of features: the bodies of methods and the initial values of attributes.
+//! Functions that replace the expression of a feature, or a whole feature, in the entries of a class table.
 
 ghost use Rattle.std.specs.Prelude.{◌≡◌, ◌<◌, Some, length, IsSome};
 ghost use Rattle.std.specs.List.{slice_get};

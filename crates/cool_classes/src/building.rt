@@ -1,4 +1,4 @@
-//! The table that the trees of source files make.
+//! The function `table`: it builds the class table from the trees of source files, or returns the faults of their classes and features.
 
 ghost use Rattle.std.specs.Prelude.{◌≡◌, ℕ, ◌<◌, [], map, IfOk, IfErr, OnOk, Some};
 ghost use Rattle.cool_syntax.specs.declared.file_tree.ClassDef as tree;

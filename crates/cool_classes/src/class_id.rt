@@ -1,4 +1,4 @@
-//! Classes by number, and types.
+//! The numbers of classes, and types: a class, or `SELF_TYPE`.
 
 /// The number of a class in its table, from 0.
 ///

@@ -1,4 +1,4 @@
-//! The classes of a program, by number.
+//! The type `ClassTable`: the classes of a program by number, with look-ups of classes, methods and attributes.
 
 ghost use Rattle.std.specs.Prelude.{◌≡◌, ◌+◌, ◌<◌, ◌↔◌, IsTrue, IfSome, IfNone, IfOk, Some, List, [], length, get_or, IsSome};
 ghost use Rattle.cool_classes.specs.declared.class_id.ClassId as number;

@@ -1,4 +1,4 @@
-//! Climbing from a class to its ancestors.
+//! Functions that climb from a class to its ancestors: the chain of a class, whether a class is below another, and the least class above two.
 
 ghost use Rattle.std.specs.Prelude.{◌≡◌, ◌<◌, ◌↔◌, IsTrue, IfOk, Some, List, length};
 ghost use Rattle.cool_classes.specs.declared.class_id.ClassId as number;

@@ -1,4 +1,4 @@
-//! One class of a table.
+//! The entry of one class in a class table: its name, parent, depth and features.
 
 use crate::class_id::ClassId;
 use cool_syntax::{Feature, Listed, Name};

@@ -1,4 +1,4 @@
-//! Lists of faults, and the refusal that they make.
+//! Lists of faults: adding a fault, sorting the faults, and returning them as an error.
 
 ghost use Rattle.std.specs.Prelude.{◌≡◌, ◌⊎◌, ℕ, [], OnOk, IfErr};
 ghost use Rattle.std.specs.List.{AllByRecursion};

@@ -1,4 +1,4 @@
-//! The numbers of attributes and methods of classes, with those that they inherit.
+//! The numbers of attributes and methods of classes, with those that they inherit, and whether they exceed the limits.
 
 ghost use Rattle.std.specs.Prelude.{◌≡◌, ◌<◌, ◌^◌, ◌∷◌, length, if◌then◌else◌, nat_lt, IfOk};
 ghost use Rattle.std.specs.List.{AllByRecursion};

@@ -1,4 +1,4 @@
-//! Names in a row, each with the index at which it stands first.
+//! A map from each name of a list to the first index of the name.
 
 ghost use Rattle.std.specs.Prelude.{◌≡◌, ℕ, List, [], ◌∷◌, ◌++◌, length, Option, Some, OnOk};
 ghost use Rattle.cool_classes.specs.FirstNames.{first_index, is_index, shown_names, FindsFirst};

@@ -1,4 +1,4 @@
-//! The names of classes, and in each class those of its features.
+//! The names of the classes of a table, and for each class the names of its features, as maps.
 
 ghost use Rattle.std.specs.Prelude.{◌≡◌, ◌<◌, ◌^◌, ◌++◌, ◌∷◌, [], Some, List, length, slice_get, IfOk, OnOk, IfSome};
 ghost use Rattle.std.specs.List.{AllByRecursion};

@@ -1,4 +1,4 @@
-//! The definitions that a climb passed.
+//! The path of a climb: the definitions that it has passed, with the last one on top.
 
 ghost use Rattle.std.specs.Prelude.{◌≡◌, [], ◌∷◌, MatchOption, OnOk};
 

@@ -1,4 +1,4 @@
--- The classes that define a name, as classes are added to them, and as they are searched.
+-- Lemmas on the classes that define a method of a name: `add` adds one more class to them, and `is_redefined` searches them.
 use Rattle.std.proofs.Common.{cond, ◌≡◌, ℕ, zero, suc, ◌+◌, ◌<◌, ◌≤◌, List, [], ◌∷◌, ◌++◌, length, get_or, Option, Some, None, Bool as Truth, true, false, true≢false, refl, ap, sym, ◌∙◌, arith}
 use Rattle.std.specs.Prelude.{Result, OnOk, Ok, Err, ◌&&◌, ◌||◌, not, bytes_eq, is_some, option_map, if◌then◌else◌}
 use Rattle.std.specs.Borrow.{Bor}

@@ -1,5 +1,4 @@
--- The expression of a feature of a typed program, folded as the code does it, is that of the folded feature, and so are the types of its
--- nodes.
+-- Lemmas for `fold_body`: the nodes that `fold` appends for the expression of a feature are those of the folded feature, and so are their types.
 use Rattle.std.proofs.Common.{◌≡◌, ◌++◌, ℕ, ◌<◌, ◌≤◌, List, [], length, Option, Some, Ok, ap, sym, ◌∙◌, subst, arith}
 use Rattle.std.specs.Prelude.{slice_get, unwrap_or}
 use Rattle.std.specs.List.{AllByRecursion}

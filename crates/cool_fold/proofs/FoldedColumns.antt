@@ -1,4 +1,4 @@
--- The types of the nodes of the folded table: by the table as by the folded one, and gathered feature by feature and class by class.
+-- The nodes of folded expressions have the same types by the folded table as by the original one. Lemmas for the loops that collect these types.
 use Rattle.std.proofs.Common.{◌≡◌, ℕ, ◌+◌, ◌≤◌, ◌<◌, List, [], ◌∷◌, ◌++◌, map, length, drop, Option, Some, None, refl, ap, sym, ◌∙◌, append_assoc, arith}
 use Rattle.std.specs.Prelude.{slice_get, option_map}
 use Rattle.std.proofs.Math.ListN.{drop_of_length-le}

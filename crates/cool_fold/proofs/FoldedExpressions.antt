@@ -1,4 +1,4 @@
--- The folded expression keeps the meaning, and no meter grows, where calls do.
+-- A folded expression has the same result as the expression, and no meter is greater, if this holds of calls.
 use Rattle.std.proofs.Common.{◌≡◌, ◌*◌, ◌≢◌, ℕ, suc, ◌<◌, List, [], ◌∷◌, map, length, Option, Some, Bool, true, false, ap, sym, ◌∙◌, refl, subst, neg_ℤ, not}
 use Rattle.std.specs.Prelude.{if◌then◌else◌, bytes_eq, slice_get}
 use Rattle.std.proofs.lemmas.Slice.Eq.{bytes_eq-Decides}

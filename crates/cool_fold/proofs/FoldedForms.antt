@@ -1,4 +1,4 @@
--- The results for an operator or an assignment whose parts were folded, and placed one after the other.
+-- Lemmas for `place_unary` and `place_binary`: the node that they append after the nodes of the folded operands makes the folded expression.
 use Rattle.std.proofs.Common.{◌≡◌, ℕ, ℤ, ◌+◌, List, [], ◌∷◌, ◌++◌, length, Option, Some, None, Bool as Truth, true, false, Ok, refl, sym, ap, ◌∙◌, subst, append_assoc}
 use Rattle.std.specs.Prelude.{Result, IfOk, OnOk, neg_ℤ, ◌+ℤ◌, ◌-ℤ◌, ◌*ℤ◌, int_div, not, if◌then◌else◌}
 use Rattle.std.specs.Option.{option_map}

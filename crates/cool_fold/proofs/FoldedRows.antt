@@ -1,4 +1,4 @@
--- If a node was placed after its parts, or a constant in place of them, the result is the folded tree.
+-- If a node is placed after the nodes of its folded parts, or a constant in their place, the result is the folded tree.
 use Rattle.std.proofs.Common.{◌≡◌, ℕ, ℤ, ◌+◌, List, [], ◌∷◌, ◌++◌, length, take, Option, Some, None, Bool as Truth, true, Ok, Err, refl, sym, ap, ◌∙◌, append_assoc, length-append, arith}
 use Rattle.std.proofs.Math.Seq.{take-append_seam}
 use Rattle.std.specs.Prelude.{Result, IfOk, OnOk}

@@ -1,4 +1,4 @@
--- Calls of a folded program keep the meaning, and so do its runs: the same end, output and input left, and no meter greater.
+-- Calls in a folded program have the same results as in the program, and so have its runs, with no meter greater.
 use Rattle.std.proofs.Common.{◌≡◌, ◌++◌, ℕ, zero, suc, ◌<◌, List, [], ◌∷◌, map, length, Option, Some, None, ap, sym, ◌∙◌, refl, subst, arith}
 use Rattle.std.specs.Prelude.{option_map, Contains, slice_get}
 use Rattle.std.specs.List.{AllByRecursion}

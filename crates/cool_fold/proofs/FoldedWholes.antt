@@ -1,4 +1,4 @@
--- The results for loops, blocks, dispatches, `let`, `case` and conditionals that stay, whose parts were folded and placed one after the other.
+-- Lemmas for the functions of `place_form.rt`: the node that each appends after the nodes of the folded parts makes the folded expression.
 use Rattle.std.proofs.Common.{◌≡◌, ℕ, ◌+◌, List, [], ◌∷◌, ◌++◌, length, Option, Some, None, Bool as Truth, true, false, Ok, refl, sym, ap, ◌∙◌, append_assoc, length-append}
 use Rattle.std.specs.Prelude.{Result, IfOk, OnOk, if◌then◌else◌, unwrap_or}
 use Rattle.std.specs.Global.{Vec}

@@ -1,4 +1,4 @@
--- Computations with the results of others, and no meter greater, if the store fits its world.
+-- Lemmas on two computations with the same results and with no meter greater in the second, from every store that fits its world.
 use Rattle.std.proofs.Common.{◌≡◌, ℕ, zero, suc, ◌<◌, ◌≤◌, Bool as Truth, true, false, List, refl, sym, ◌∙◌, subst, arith}
 use Rattle.std.specs.Prelude.{if◌then◌else◌}
 use Rattle.cool_classes.specs.Chains.{Class}

@@ -1,4 +1,4 @@
--- Parts that are folded in order: some are folded, and the others are left.
+-- The invariants of the loops of `fold_all` and `fold_branches`: the parts before the current one are folded, and the others are left.
 use Rattle.std.proofs.Common.{◌≡◌, List, [], ◌∷◌, ◌++◌, length, Ok, refl, ◌∙◌}
 use Rattle.cool_syntax.specs.declared.node.NodeBranch.{NodeBranch}
 use Rattle.cool_syntax.specs.declared.node.NodeId.{NodeId}

@@ -1,4 +1,4 @@
--- The parts of operators have smaller numbers and stand where the operator does, and with the operator they make up its nodes.
+-- Lemmas for `fold_unary` and `fold_binary`: the operands of an operator have smaller numbers, and have the same names in scope as the operator.
 use Rattle.std.proofs.Common.{◌≡◌, ℕ, ◌+◌, ◌<◌, List, refl, sym, subst}
 use Rattle.cool_syntax.specs.declared.node.Node.{Node}
 use Rattle.cool_syntax.specs.declared.node.Node.TheVariants.{Assign, IsVoid, Arith, Neg, Compare, Not}

@@ -1,4 +1,4 @@
--- The nodes and the numbers of parts in order: those of the first, and then those of the others.
+-- The nodes of several parts are those of the first part and then those of the others, and so are the numbers of their roots.
 use Rattle.std.proofs.Common.{◌≡◌, ℕ, ◌+◌, List, [], ◌∷◌, ◌++◌, length, ◌∙◌, append_assoc}
 use Rattle.cool_syntax.specs.declared.node.Node.{Node}
 use Rattle.cool_syntax.specs.declared.node.NodeId.{NodeId}

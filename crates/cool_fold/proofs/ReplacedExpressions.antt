@@ -1,4 +1,4 @@
--- The expressions of the folded table, in the places of those of the table, make it the folded table.
+-- A table in which the expressions of the folded table replace all expressions is the folded table.
 use Rattle.std.proofs.Common.{◌≡◌, ℕ, zero, suc, ◌+◌, ◌<◌, List, [], ◌∷◌, ◌++◌, map, length, Option, Some, None, ap, sym, ◌∙◌, refl, subst, append_assoc, arith}
 use Rattle.std.specs.Prelude.{slice_get, option_map, IsSome}
 use Rattle.std.specs.List.{AllByRecursion}

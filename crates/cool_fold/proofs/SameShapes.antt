@@ -1,4 +1,4 @@
--- Tables are of one shape where look-ups find the same in both (`FindSame`): there chains, scopes, meant types, joins and methods are the same.
+-- If look-ups find the same in two tables (`FindSame`), chains, scopes, types of names, joins and methods are the same in both.
 use Rattle.std.proofs.Common.{◌≡◌, ℕ, zero, suc, List, [], ◌∷◌, map, length, Option, Some, None, Bool as Truth, refl, ap, ◌∙◌, arith}
 use Rattle.std.specs.Prelude.{bytes_eq, unwrap_or, option_map, is_some, if◌then◌else◌, ◌&&◌, ◌||◌}
 use Rattle.std.specs.List.{list_any}

@@ -1,4 +1,4 @@
--- A typed expression is folded to the same by the types that its parts have before.
+-- If an expression is typed, `shrunk` of `Shrinking.antt`, which the code computes, is the folded expression of `Folding.antt`.
 use Rattle.std.proofs.Common.{◌≡◌, ℤ, ◌<◌, List, [], ◌∷◌, length, Option, Some, None, Bool as Truth, true, false, refl, sym, ◌∙◌, subst}
 use Rattle.std.specs.Prelude.{int_lt, int_le, not, if◌then◌else◌, unwrap_or}
 use Rattle.std.specs.Option.{option_map}

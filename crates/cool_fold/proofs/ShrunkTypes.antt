@@ -1,4 +1,4 @@
--- A shrunk expression has the static type that the expression has, also where it is not typed.
+-- The expression that `shrunk` of `Shrinking.antt` returns has the same static type as the original, even if that is not typed.
 use Rattle.std.proofs.Common.{◌≡◌, ℕ, ℤ, ◌<◌, List, length, Option, Some, None, Bool as Truth, true, false, refl, ap, ◌∙◌}
 use Rattle.std.specs.Prelude.{not, if◌then◌else◌, unwrap_or}
 use Rattle.std.specs.Option.{option_map}

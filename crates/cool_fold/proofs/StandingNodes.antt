@@ -1,5 +1,4 @@
--- A node that stands in the body with some names in scope: its type is that of the column, and facts about the node are facts about the expression at its
--- number.
+-- A node of a body has the type of its entry in the column, and facts about the node hold of the expression at its number.
 use Rattle.std.proofs.Common.{◌≡◌, List, Some, ap, sym, ◌∙◌, subst}
 use Rattle.std.specs.Prelude.{Result, slice_get}
 use Rattle.std.proofs.lemmas.Option.{same_Some}

@@ -1,4 +1,5 @@
--- In tables of one shape an expression has one static type, and where nothing is left to fold by the one, nothing is left by the other.
+-- An expression has the same static type in two tables of the same shape (`FindSame`). If nothing is left to fold in it by one table, nothing is left by the
+-- other.
 use Rattle.std.proofs.Common.{◌≡◌, ℕ, List, Option, Some, None, Bool as Truth, refl, sym, ap, ◌∙◌, subst}
 use Rattle.std.specs.Prelude.{unwrap_or}
 use Rattle.cool_syntax.specs.Tree.{Tree, Trees, MaybeTree, Cases, Last, More, Without, With, NoCase, CaseOf}

@@ -1,4 +1,4 @@
--- The types of nodes placed after others: each node has one, and those of parts stand in order.
+-- Each appended node has one type in the column, and the types of several parts are in the order of the parts.
 use Rattle.std.proofs.Common.{◌≡◌, List, ◌++◌, length, Ok, Option, ap, sym, ◌∙◌, append_assoc, length-append, arith}
 use Rattle.cool_syntax.specs.declared.node.Node.{Node}
 use Rattle.cool_syntax.specs.declared.node.NodeId.{NodeId}

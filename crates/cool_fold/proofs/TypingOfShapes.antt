@@ -1,4 +1,4 @@
--- In tables of one shape the same expressions are typed, with the same types.
+-- In two tables of the same shape (`FindSame` of `AlikeTables.antt`), the same expressions are typed, with the same types.
 use Rattle.std.proofs.Common.{◌≡◌, ℕ, List, [], ◌∷◌, ◌++◌, Some, sym, ◌∙◌, subst}
 use Rattle.std.specs.List.{AllByRecursion}
 use Rattle.cool_syntax.specs.Tree.{Tree, Trees, MaybeTree, Cases, Last, More, Without, With, NoCase, CaseOf}

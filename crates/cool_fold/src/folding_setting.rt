@@ -1,4 +1,4 @@
-//! The constant context of folding the expression of a feature, and the methods that are redefined there.
+//! The constant context of folding the expression of a feature, and whether a class below a class redefines a method.
 
 ghost use Rattle.std.specs.Prelude.{◌≡◌, ◌<◌, length};
 ghost use Rattle.cool_classes.specs.ClimbedChains.{above};

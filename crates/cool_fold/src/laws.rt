@@ -1,4 +1,4 @@
-//! Laws on folded programs.
+//! Laws on folded programs: they run as the programs do, are typed and keep the limits, and nothing is left to fold in them.
 
 ghost use Rattle.std.specs.Prelude.{ℕ, List};
 ghost use Rattle.cool_classes.specs.Chains.{Class};

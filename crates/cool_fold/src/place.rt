@@ -1,4 +1,4 @@
-//! Placing nodes after others, and the results for expressions whose nodes were placed.
+//! Appending the nodes of folded expressions, and the results of folding: the constant that an expression is, and the number of its node.
 
 ghost use Rattle.std.specs.Prelude.{◌≡◌, ◌∷◌, ◌++◌, ◌-◌, ◌+◌, ◌<◌, ◌≤◌, ◌^◌, [], None, length, take, IfOk, OnOk};
 ghost use Rattle.cool_rules.specs.Typing.{bool_type, int_type};

@@ -1,4 +1,4 @@
-//! Programs with each expression folded.
+//! The function `fold`, which folds each expression of a program.
 
 ghost use Rattle.std.specs.Prelude.{◌≡◌, ◌<◌, ◌++◌, ℕ, length, IfOk, OnOk};
 ghost use Rattle.cool_classes.specs.Chains.{features_of};

@@ -1,4 +1,4 @@
--- The places of attributes: the same in all classes below the one that declares them.
+-- An attribute has the same offset in the objects of all classes below the one that declares it.
 use Rattle.std.proofs.Common.{◌≡◌, ℕ, zero, suc, ◌+◌, ◌*◌, ◌<◌, ◌≤◌, List, [], ◌∷◌, ◌++◌, length, get_or, take, Option, Some, None, Bool, true, false, ◌&&◌, ◌||◌, cond, not, refl, sym, ap, ◌∙◌, subst, arith, true≢false, inl, inr, ◌⊎◌, length-append, Contains}
 use Rattle.std.specs.Prelude.{nat_eq}
 use Rattle.std.proofs.lemmas.List.{take_more}

@@ -1,4 +1,4 @@
--- The classes in preorder, read by their tags.
+-- The class at a position in preorder has the position as its tag, and the table of slots at this tag has its methods.
 use Rattle.std.proofs.Common.{◌≡◌, ℕ, ◌<◌, List, length, get_or, sym, ap, ◌∙◌, subst, arith}
 use Rattle.cool_classes.specs.declared.class_id.ClassId.{ClassId}
 use Rattle.cool_classes.specs.Chains.{Class, class_number}

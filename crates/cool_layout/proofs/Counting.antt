@@ -1,4 +1,4 @@
--- The number of times that a class stands in a list and in a family: as often as the head of the family stands on the chain of the class.
+-- A class occurs in a family (`family` of `Preorder.antt`) as often as the head of the family occurs on the chain of the class.
 use Rattle.std.proofs.Common.{◌≡◌, ◌≢◌, ℕ, zero, suc, ◌+◌, ◌<◌, ◌≤◌, List, [], ◌∷◌, ◌++◌, length, flat_map, filter, Option, Some, None, Bool, true, false, cond, refl, sym, ap, ◌∙◌, arith}
 use Rattle.std.specs.Prelude.{nat_eq}
 use Rattle.cool_classes.specs.declared.class_id.ClassId.{ClassId}

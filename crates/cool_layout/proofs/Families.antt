@@ -1,4 +1,4 @@
--- A family is its head and the families of the children of that; the families of all classes stand in the preorder.
+-- The family of a class (`family` of `Preorder.antt`) is the class and then the families of its children, and is a part of the preorder.
 use Rattle.std.proofs.Common.{◌≡◌, ℕ, zero, suc, ◌+◌, ◌<◌, ◌≤◌, List, [], ◌∷◌, ◌++◌, length, flat_map, filter, Option, Some, None, Bool, true, false, cond, refl, sym, ap, ◌∙◌, subst, arith, true≢false, append_assoc}
 use Rattle.std.specs.Prelude.{nat_eq, take}
 use Rattle.std.specs.List.{AllByRecursion}

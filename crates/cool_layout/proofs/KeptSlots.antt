@@ -1,4 +1,4 @@
--- The slots that a layout keeps are those of the methods, and no class has more than the limit.
+-- The slot that a layout keeps for a name is `slot` of `Members.antt`, and no class has more methods than the limit.
 use Rattle.std.proofs.Common.{◌≡◌, ◌≢◌, ◌<◌, ◌≤◌, ℕ, List, [], ◌∷◌, ◌++◌, length, get_or, Some, is_some, Bool, true, false, ◌||◌, refl, sym, ap, ◌∙◌, subst, arith, true≢false, append_assoc}
 use Rattle.std.specs.Prelude.{bytes_eq, if◌then◌else◌}
 use Rattle.std.specs.List.{AllByRecursion}

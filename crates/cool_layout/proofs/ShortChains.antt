@@ -1,4 +1,4 @@
--- No chain has more classes than there are, so that the chain of a class is a function of the table.
+-- No chain has more classes than the table, so `chain` of `ClimbedChains.antt` returns the only chain of a class.
 use Rattle.std.proofs.Common.{◌≡◌, ℕ, zero, suc, ◌<◌, ◌≤◌, List, [], ◌∷◌, length, map, Option, Some, None, Bool, true, false, ◌||◌, eqb, refl, sym, ap, ◌∙◌, subst, arith, true≢false, Contains}
 use Rattle.std.specs.Prelude.{IfSome}
 use Rattle.std.specs.List.{AllByRecursion, IsDistinct, list_any}

@@ -1,4 +1,4 @@
--- A table of slots, with one method more.
+-- Lemmas for `add_own`: after it has added a method to a table of slots, `IsTableFor` of `SlotTables.antt` holds of the table with one method more.
 use Rattle.std.proofs.Common.{◌≡◌, ◌≢◌, ℕ, zero, suc, ◌+◌, ◌<◌, List, [], ◌∷◌, ◌++◌, length, get_or, set, map, Option, Some, None, is_some, Bool, true, false, ◌||◌, cond, not, refl, sym, ap, ◌∙◌, subst, arith, true≢false, inl, inr, ◌⊎◌}
 use Rattle.std.specs.Prelude.{bytes_eq, unwrap_or, if◌then◌else◌}
 use Rattle.std.specs.Map.{lookup}

@@ -1,4 +1,4 @@
--- A table begins with the slots of the table above it, and has in the end the methods of its class.
+-- A table of slots starts with the methods of the parent's table, and in the end has the methods of its class.
 use Rattle.std.proofs.Common.{◌≡◌, ℕ, ◌+◌, ◌<◌, List, [], ◌∷◌, length, map, Option, Some, None, Bool, true, false, refl, sym, ap, ◌∙◌, arith}
 use Rattle.std.specs.Prelude.{bytes_eq, nat_lt, unwrap_or, if◌then◌else◌, option_map}
 use Rattle.std.specs.Map.{lookup}

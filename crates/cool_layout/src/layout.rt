@@ -1,4 +1,4 @@
-//! The layout of a class table.
+//! The type `Layout`: the tags of classes, the offsets of attributes and the slots of methods, with look-ups and the lines of all that.
 
 ghost use Rattle.std.specs.Prelude.{◌≡◌, ◌<◌, ◌↔◌, ℕ, List, length, map, get_or, IfOk, IfSome, IsNone, Some, None, Contains, is_some};
 ghost use Rattle.mips_isa.specs.Lines.{lines_of};

@@ -1,4 +1,4 @@
-//! The classes in preorder.
+//! The classes in preorder: each class before the classes that inherit from it.
 
 ghost use Rattle.std.specs.Prelude.{◌≡◌, ◌<◌, ◌++◌, reverse, length, OnOk, IfOk};
 ghost use Rattle.cool_layout.specs.Roots.{IsRooted};

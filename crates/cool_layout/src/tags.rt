@@ -1,4 +1,4 @@
-//! The tags of classes.
+//! The tags of classes: the position of each class in preorder, and the greatest tag below it.
 
 ghost use Rattle.std.specs.Prelude.{◌≡◌, ◌<◌, ◌^◌, List, length, get_or, IfOk};
 ghost use Rattle.std.specs.List.{AllByRecursion};

@@ -1,4 +1,4 @@
-//! Laws on runs, of every table that the rules type.
+//! Laws on the runs of typed programs: none is stuck, and a run with more steps extends one with fewer.
 
 ghost use Rattle.std.specs.Prelude.{◌≡◌, ◌≢◌, ◌+◌, ℕ, List};
 ghost use Rattle.cool_classes.specs.Chains.{Class};

@@ -1,4 +1,4 @@
--- The variable of a name, as the code holds it.
+-- The declaration that a look-up of a name finds in a scope is that of the variable that the definition finds.
 use Rattle.std.proofs.Common.{◌≡◌, ℕ, List, [], ◌∷◌, Bool, true, false, Some, refl}
 use Rattle.std.specs.Prelude.{bytes_eq, if◌then◌else◌, option_map}
 use Rattle.cool_rules.specs.Scopes.{Bound, found}

@@ -1,4 +1,4 @@
--- The type that an expression has at first sight is the one that the rules give it.
+-- If the rules give an expression a type, the type that `seen_type` finds at first sight is the same, or it finds none.
 use Rattle.std.proofs.Common.{◌≡◌, ◌⊎◌, inl, inr, ℕ, ◌<◌, List, length, Option, Some, None, Bool, true, false, ap, ap₂, sym, ◌∙◌, refl, subst, arith}
 use Rattle.std.specs.Prelude.{bytes_eq, codes, if◌then◌else◌, unwrap_or}
 use Rattle.std.specs.Option.{option_or}

@@ -1,4 +1,4 @@
-//! A value in a box, which contracts see as the value.
+//! A value in a box (an allocation of its own), which contracts see as the value.
 
 ghost use Rattle.std.specs.Prelude.{◌≡◌, IfOk};
 

@@ -1,4 +1,4 @@
-//! The tokens after an operand: operators end, and the innermost open form goes on.
+//! The steps of the parser after an operand: a token ends operators that wait for the operand, continues an open form or ends it.
 
 ghost use Rattle.std.specs.Prelude.{◌≡◌, ◌-◌, ◌<◌, ◌≤◌, ◌^◌, ◌+◌, length, IfOk, OnOk};
 ghost use Rattle.cool_parser.specs.declared.mode.Mode.TheVariants as mode;

@@ -1,4 +1,4 @@
-//! Open forms: each with the token that goes on with it after an operand, or ends it.
+//! The steps of the parser in an open form after an operand: for each form, the token that continues or ends it.
 
 ghost use Rattle.std.specs.Prelude.{◌≡◌, ◌-◌, ◌<◌, ◌^◌, length, IfOk};
 ghost use Rattle.cool_parser.specs.declared.item.Item.TheVariants as item;

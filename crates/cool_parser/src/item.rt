@@ -1,4 +1,4 @@
-//! The items on the stack: forms whose first part has been read.
+//! The items on the parser's stack: forms that wait for an expression after their first part has been read.
 
 ghost use Rattle.std.specs.Prelude.{◌≡◌, IfOk};
 ghost use Rattle.std.specs.Option.{is_some};

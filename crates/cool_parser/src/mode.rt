@@ -1,4 +1,4 @@
-//! The mode of the parser: the tokens that it has just read, and so those that may come next.
+//! The mode of the parser: which tokens it has just read, and so which tokens may come next.
 
 use crate::boxed::Boxed;
 use crate::item::{Call, OpenCase, OpenClass, OpenMethod, Variable};

@@ -1,4 +1,4 @@
-//! Operands: the tokens that may begin an expression, and those that may follow an identifier.
+//! The steps of the parser where an operand may begin: the tokens that may begin an expression, and those that may follow an identifier.
 
 ghost use Rattle.std.specs.Prelude.{◌≡◌, ◌-◌, ◌<◌, ◌^◌, ◌+◌, length, IfOk};
 ghost use Rattle.cool_syntax.specs.declared.token.TokenKind.TheVariants as kind;

@@ -1,4 +1,4 @@
-//! The parser between two tokens.
+//! The state of the parser between two tokens, except its mode: the nodes and classes so far, and the open forms.
 
 ghost use Rattle.std.specs.Prelude.{◌≡◌, ◌-◌, ◌<◌, ◌^◌, length, IfOk, OnOk, Some, None};
 ghost use Rattle.cool_syntax.specs.NodeLists.{tree_of, HasPartsBelow, IsPostorder};

@@ -1,4 +1,4 @@
-//! Parsing a file.
+//! The function `parse`, which parses the tokens of a file.
 
 ghost use Rattle.std.specs.Prelude.{◌≡◌, ℕ, ◌≤◌, ◌-◌, ◌+◌, ◌<◌, ◌^◌, List, [], length, IfOk, IfErr, MatchResult};
 ghost use Rattle.std.specs.List.{AllByRecursion};

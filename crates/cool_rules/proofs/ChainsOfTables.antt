@@ -1,4 +1,4 @@
--- Chains in typed tables: which class is below which, which methods and attributes a class inherits, and the length of a chain.
+-- Lemmas on the chains of a table: which class is below which, which methods and attributes a class inherits, and how long a chain is.
 use Rattle.std.proofs.Common.{◌≡◌, inl, inr, ℕ, ◌<◌, List, [], ◌∷◌, ◌++◌, length, Option, Some, None, ap, sym, ◌∙◌, refl, subst, arith, append_assoc, append-nil}
 use Rattle.std.specs.Prelude.{Contains}
 use Rattle.cool_classes.specs.declared.class_id.ClassId.{ClassId}

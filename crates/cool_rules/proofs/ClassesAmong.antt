@@ -1,4 +1,4 @@
--- A class among those of a chain: it is one that the first of the chain is below.
+-- `is_among` is true of a chain and a class exactly if the first class of the chain is below this class.
 use Rattle.std.proofs.Common.{◌≡◌, zero, suc, ◌<◌, List, [], ◌∷◌, length, Bool, true, false, ap, sym, ◌∙◌, refl, arith}
 use Rattle.std.specs.Prelude.{Contains, nat_eq, ◌||◌}
 use Rattle.std.specs.List.{list_any}

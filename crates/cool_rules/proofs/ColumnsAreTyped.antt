@@ -1,4 +1,4 @@
--- Each entry of the column of a typed expression is the type that the rules give the node there.
+-- Each type in the column of a typed expression is the one that the rules give the node at its position.
 use Rattle.std.proofs.Common.{◌≡◌, ℕ, zero, suc, ◌<◌, List, [], ◌∷◌, ◌++◌, length, get_or, Option, Some, None, refl, sym, subst, arith}
 use Rattle.std.specs.Prelude.{slice_get}
 use Rattle.cool_syntax.specs.declared.file_tree.Feature.{Feature}

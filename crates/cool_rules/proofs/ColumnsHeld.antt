@@ -1,4 +1,4 @@
--- Columns that are held class by class, where they are those of a table: the one of a class and feature.
+-- Lemmas for `TypedProgram::types`: there is a list of columns for each class, and a column in it for each feature of the class.
 use Rattle.std.proofs.Common.{◌≡◌, ℕ, zero, suc, ◌+◌, ◌<◌, List, [], ◌∷◌, length, get_or, Some, refl, ap, ◌∙◌, arith}
 use Rattle.std.specs.Prelude.{slice_get}
 use Rattle.std.specs.Global.{Vec}

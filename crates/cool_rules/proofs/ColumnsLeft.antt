@@ -1,4 +1,4 @@
--- Columns of types that are gathered class by class: those so far, and those of the classes that are left.
+-- Lemmas for loops that collect columns of types: the columns of one class come before those of the classes that are left.
 use Rattle.std.proofs.Common.{◌≡◌, ℕ, zero, suc, ◌+◌, ◌<◌, List, [], ◌∷◌, ◌++◌, length, drop, refl, ap, sym, ◌∙◌, append_assoc, arith}
 use Rattle.std.specs.Global.{Vec}
 use Rattle.std.proofs.lemmas.List.{map-append}

@@ -1,5 +1,4 @@
--- Scopes of names entered one after the other, the latest first, and the same names in the order of the rules: where they are different,
--- each has the same type.
+-- If different names are entered into a scope one after the other, each has the same type as in the scope of the rules, in which their order is another.
 use Rattle.std.proofs.Common.{◌≡◌, ◌≢◌, ℕ, ◌<◌, List, [], ◌∷◌, ◌++◌, map, length, Option, Some, None, Bool, true, false, cond, ap, sym, ◌∙◌, refl, subst}
 use Rattle.std.specs.Prelude.{bytes_eq}
 use Rattle.std.specs.List.{AllByRecursion}

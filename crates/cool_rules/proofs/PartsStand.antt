@@ -1,5 +1,5 @@
--- If the nodes of an expression stand in a body, and their types in its column, the number of its root gives the expression, its node and its type, and its
--- parts stand there too.
+-- If the nodes of an expression are in a body and their types in its column, the number of its root gives the expression, its node and its type. The same
+-- holds of its parts.
 use Rattle.std.proofs.Common.{◌≡◌, ℕ, ◌+◌, ◌-◌, ◌<◌, List, [], ◌∷◌, ◌++◌, Some, length, get_or, refl, sym, ◌∙◌, ap, subst, append_assoc, append-nil, length-append, arith}
 use Rattle.std.specs.Prelude.{slice_get}
 use Rattle.std.proofs.lemmas.List.{get_or-append_right}

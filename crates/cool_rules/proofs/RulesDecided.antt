@@ -1,4 +1,5 @@
--- The functions of the rules of types decide them, in whole tables: the types that names denote, and joins. Two types that conform to one another are one.
+-- In whole tables, the functions for the types of names and for joins return exactly what the rules allow. Two types that conform to each other are the
+-- same.
 use Rattle.std.proofs.Common.{◌≡◌, inl, inr, ◌<◌, ℕ, List, [], ◌∷◌, length, Option, Some, None, Bool, true, false, ap, sym, ◌∙◌, refl, subst, arith, true≢false}
 use Rattle.std.specs.Prelude.{Contains, if◌then◌else◌, bytes_eq, option_map}
 use Rattle.std.proofs.lemmas.Bool.{eqb-true, eq-eqb}

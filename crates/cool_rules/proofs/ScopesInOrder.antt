@@ -1,4 +1,4 @@
--- Entries of a scope seen with the latest first: adding one, taking one out, and looking for a name from the end.
+-- Lemmas for `Scope`, whose entries a contract sees with the latest first: adding one, removing one, and searching for a name from the end.
 use Rattle.std.proofs.Common.{◌≡◌, ℕ, suc, ◌-◌, ◌<◌, List, [], ◌∷◌, ◌++◌, length, take, get_or, Some, Bool, true, false, ap, sym, ◌∙◌, refl, arith}
 use Rattle.std.proofs.Math.Seq.{take-suc, take-length}
 use Rattle.std.proofs.lemmas.List.{length-append}

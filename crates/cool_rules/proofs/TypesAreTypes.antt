@@ -1,4 +1,4 @@
--- The static types of expressions, and those of their nodes, are types of the table, in whole tables; so are those that names mean.
+-- In whole tables, the static types of expressions and of their nodes are types of the table, and so are the types that names denote.
 use Rattle.std.proofs.Common.{◌≡◌, ℕ, ◌<◌, List, [], ◌∷◌, ◌++◌, length, Option, Some, None, refl, arith}
 use Rattle.std.specs.Prelude.{unwrap_or}
 use Rattle.std.specs.List.{AllByRecursion}

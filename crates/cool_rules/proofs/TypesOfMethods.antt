@@ -1,4 +1,4 @@
--- The types that methods declare are types, in whole tables, and so are those of typed expressions.
+-- In whole tables, the types that methods declare and the types of typed expressions are types of the table.
 use Rattle.std.proofs.Common.{◌≡◌, ℕ, ◌<◌, List, [], ◌∷◌, map, length, get_or, take, Option, Some, None, Bool, true, false, ap, sym, ◌∙◌, refl, subst, arith, length-take}
 use Rattle.std.specs.Prelude.{if◌then◌else◌, bytes_eq, codes, slice_get, cond}
 use Rattle.std.specs.List.{AllByRecursion}

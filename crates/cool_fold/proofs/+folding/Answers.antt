@@ -1,4 +1,5 @@
--- Each form, put together from its folded parts, is the folded form.
+-- The functions of the group `folding`, such as `fold` and `fold_if`, append the nodes of a folded expression. Each folds the parts of a form first and then
+-- places the form, or the part that a decided conditional takes.
 use Rattle.std.proofs.Common.{◌≡◌, ◌+◌, ◌-◌, ◌^◌, ◌<◌, ◌≤◌, List, ◌∷◌, length, drop, get_or, Ok, None, refl, sym, subst, ◌∙◌, ap, arith}
 use Rattle.std.proofs.lemmas.List.{drop_more}
 use Rattle.std.specs.List.{AllByRecursion}

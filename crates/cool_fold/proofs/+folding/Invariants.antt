@@ -1,4 +1,5 @@
--- Parts have smaller numbers. Some of the parts are folded, and the others are left.
+-- The functions of the group `folding` end: from a node they go to its parts, which have smaller numbers. The loops of `fold_all` and `fold_branches` have
+-- folded the parts before the current one.
 use Rattle.std.proofs.Common.{◌+◌, ◌*◌, ◌<◌, ◌≤◌, List, length, drop}
 use Rattle.std.specs.List.{AllByRecursion}
 use Rattle.cool_syntax.specs.Tree.{trees_size, cases_size}

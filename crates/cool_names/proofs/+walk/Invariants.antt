@@ -1,5 +1,5 @@
--- Parts have smaller numbers. After the parts whose marks were added the scope is as before, and the marks go on with those of the parts
--- that are left.
+-- The functions of the group `walk` end: from a node they go to its parts, which have smaller numbers. The loops of `add_all` and `add_branches` have added
+-- the marks of the parts before the current one.
 use Rattle.std.proofs.Common.{◌≡◌, ◌+◌, ◌*◌, ◌<◌, ◌++◌, map, drop}
 use Rattle.std.specs.List.{AllByRecursion}
 use Rattle.cool_syntax.specs.Tree.{of_list, of_twigs}

@@ -1,4 +1,4 @@
--- The attributes before this feature are there.
+-- The loop of `add_own` has added the attributes among the features before the current one.
 use Rattle.std.proofs.Common.{◌≡◌, ◌++◌, drop}
 use Rattle.cool_classes.specs.Features.{own_attributes}
 use Rattle.cool_classes.proofs.attributes.add_own.Given as goal

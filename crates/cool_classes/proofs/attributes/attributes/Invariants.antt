@@ -1,4 +1,4 @@
--- The attributes of the classes from this one of the chain up to Object are there.
+-- The loop of `attributes` has added the attributes of the classes from position `index` of the chain up to Object.
 use Rattle.std.proofs.Common.{◌≡◌, drop}
 use Rattle.cool_classes.specs.Features.{attributes_of}
 use Rattle.cool_classes.specs.Entries.{classes}

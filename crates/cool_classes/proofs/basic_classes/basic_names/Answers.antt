@@ -1,4 +1,4 @@
--- One name comes after another.
+-- `basic_names` returns a map from the name of each basic class to its number: each step of its loop adds the next name.
 use Rattle.std.proofs.Common.{◌<◌, ◌+◌, map, take, Some, arith}
 use Rattle.cool_classes.specs.Settled.{basic_names}
 use Rattle.cool_classes.proofs.BasicNames.{basic_more, basic_next}

@@ -1,4 +1,4 @@
--- The names of the classes before this one are there.
+-- The loop of `basic_names` has added the names of the basic classes before the current one.
 use Rattle.std.proofs.Common.{take}
 use Rattle.cool_classes.specs.FirstNames.{FindsNames}
 use Rattle.cool_classes.specs.Settled.{basic_names}

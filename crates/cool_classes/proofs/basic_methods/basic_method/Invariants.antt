@@ -1,4 +1,4 @@
--- The methods from this one on have one of the name where all do, and it is the same.
+-- The loop of `basic_method` has not found the name yet: the methods from the current one on give the same result as all of them.
 use Rattle.std.proofs.Common.{◌≡◌, drop}
 use Rattle.cool_classes.specs.BasicMethods.{named_methods}
 use Rattle.cool_classes.specs.Features.{method_among}

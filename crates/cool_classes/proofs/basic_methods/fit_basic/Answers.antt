@@ -1,4 +1,4 @@
--- Other numbers of formals declare other types.
+-- `fit_basic` returns false if the basic method has another number of formals: `same_types` of `FeatureFaults.antt` is false for lists of different lengths.
 use Rattle.std.proofs.Common.{length, ap, sym, ◌∙◌}
 use Rattle.std.proofs.lemmas.List.{length-map}
 use Rattle.cool_classes.specs.Chains.{name_of}

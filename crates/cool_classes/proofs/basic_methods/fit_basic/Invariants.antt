@@ -1,4 +1,4 @@
--- The formals from this one on declare the same types where all do.
+-- The loop of `fit_basic` has found no difference yet: the formals from the current one on declare the same types exactly if all of them do.
 use Rattle.std.proofs.Common.{◌≡◌, drop, map}
 use Rattle.cool_classes.specs.Chains.{name_of}
 use Rattle.cool_classes.specs.FeatureFaults.{declared_types, same_types}

@@ -1,4 +1,4 @@
--- The features of the class are those that it had, with one exchanged.
+-- `swap_feature` changes the entries only in one feature of one class. It takes the features out of the entry, replaces the one and puts them back.
 use Rattle.std.proofs.Common.{◌≡◌, get_or, ap, ◌∙◌}
 use Rattle.cool_syntax.specs.declared.file_tree.Feature.{Feature}
 use Rattle.cool_classes.specs.Bodies.{changed_at}

@@ -1,4 +1,5 @@
--- The entry of a definition comes after those before it, and its depth is known.
+-- `entries_of` returns the entries of the basic classes and after them one for each definition, which a step of its loop adds. The depth of each definition
+-- is known, as `AreSettled` of `Settled.antt` says.
 use Rattle.std.proofs.Common.{◌≡◌, ◌∷◌, ◌++◌, ◌+◌, ◌<◌, List, [], length, drop, sym, ap, ◌∙◌, arith}
 use Rattle.cool_classes.specs.Settled.{names_with_basic, entries_meant, entries_of}
 use Rattle.cool_classes.specs.declared.entry.Entry.{Entry}

@@ -1,4 +1,5 @@
--- Settled definitions make the entries, whose features are good where they have no fault.
+-- `table` returns the classes that the definitions make (`classes_meant` of `ClassFaults.antt`) if they have no fault. Otherwise it returns the faults of
+-- the classes, or those of the features if the classes have none.
 use Rattle.std.proofs.Common.{rules, ◌≡◌, ◌+◌, ℕ, List, [], length, map, sym, ap, ◌∙◌, subst}
 use Rattle.std.proofs.lemmas.List.{length-map}
 use Rattle.cool_syntax.specs.declared.place.Place.{Place}

@@ -1,4 +1,4 @@
--- If the definitions are not too many, none stands past the most.
+-- `check_number` adds no fault if there are at most `MOST_CLASSES` definitions: `number_faults` of `ClassFaults.antt` is empty then.
 use Rattle.std.proofs.Common.{◌++◌, List, ap, sym, ◌∙◌, append-nil}
 use Rattle.cool_syntax.specs.declared.file_tree.ClassDef.{ClassDef}
 use Rattle.cool_classes.specs.ClassFaults.{first_fault}

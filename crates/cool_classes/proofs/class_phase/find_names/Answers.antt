@@ -1,4 +1,5 @@
--- The name of a definition comes after those before it.
+-- `find_names` returns a map from each name to its first class, and adds the faults C1 and C2. Each step of its loop adds the name and the fault of one
+-- definition.
 use Rattle.std.proofs.Common.{◌≡◌, ◌≢◌, ◌++◌, ◌<◌, ℕ, List, [], Option, Some, None, false, map, take, length, get_or, sym, ap, ◌∙◌, ◌∷◌, ◌+◌, is_some, subst, arith}
 use Rattle.std.specs.Prelude.{IfNone}
 use Rattle.cool_syntax.specs.TreesWithinLimits.{AreClassesWithin}

@@ -1,4 +1,4 @@
--- The names of the definitions so far are there.
+-- The loop of `find_names` has added the names of the definitions before the current one, and their faults.
 use Rattle.std.proofs.Common.{◌≡◌, ◌++◌, ℕ, [], drop, take}
 use Rattle.cool_syntax.specs.TreesWithinLimits.{AreClassesWithin}
 use Rattle.cool_classes.specs.ClassFaults.{names_faults}

@@ -1,4 +1,5 @@
--- The parent of a definition comes after those before it.
+-- `find_parents` returns the parents of the definitions and adds the faults C2, C3 and C4: each step of its loop adds the parent and the fault of one
+-- definition.
 use Rattle.std.proofs.Common.{◌++◌, ◌∷◌, ◌<◌, ℕ, List, [], take, length, ap, ◌∙◌, arith}
 use Rattle.std.specs.Prelude.{IfSome}
 use Rattle.cool_syntax.specs.TreesWithinLimits.{AreClassesWithin, IsTypeWithin}

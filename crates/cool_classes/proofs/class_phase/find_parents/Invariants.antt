@@ -1,4 +1,4 @@
--- The parents of the definitions so far are found.
+-- The loop of `find_parents` has added the parents of the definitions before the current one, and their faults.
 use Rattle.std.proofs.Common.{◌≡◌, ◌++◌, ℕ, [], drop, take}
 use Rattle.std.specs.List.{AllByRecursion}
 use Rattle.cool_syntax.specs.declared.file_tree.ClassDef.{ClassDef}

@@ -1,4 +1,5 @@
--- Parents of definitions are classes, definitions on cycles are there, and the faults that the passes add have places.
+-- `settle_classes` returns the names, parents and depths of the classes if no definition has a fault C1 to C7. Otherwise it returns these faults, as
+-- `class_phase` of `ClassFaults.antt` lists them.
 use Rattle.std.proofs.Common.{rules, ◌≡◌, ◌+◌, ◌<◌, ◌++◌, ℕ, List, length, sym, ap, ◌∙◌, subst}
 use Rattle.std.specs.List.{AllByRecursion}
 use Rattle.cool_syntax.specs.TokenFacts.{IsPlaced}

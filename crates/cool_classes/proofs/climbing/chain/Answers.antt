@@ -1,4 +1,4 @@
--- The classes noted lead on to the parent.
+-- `chain` returns the classes from a class up to Object: each step of its loop adds one class and goes on to its parent.
 use Rattle.std.proofs.Common.{List, sym, ◌∙◌, subst}
 use Rattle.cool_classes.specs.declared.class_id.ClassId.{ClassId}
 use Rattle.cool_classes.specs.Entries.{classes}

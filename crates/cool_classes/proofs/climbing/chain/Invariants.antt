@@ -1,4 +1,4 @@
--- The classes noted so far lead from the first one to the class now.
+-- The loop of `chain` has added the classes from the first one up to the current one, without the current one.
 use Rattle.std.proofs.Common.{◌<◌, length}
 use Rattle.cool_classes.specs.Entries.{classes, depth_at}
 use Rattle.cool_classes.proofs.Climbs.{Noting}

@@ -1,4 +1,4 @@
--- A class is below another one if the climb from it comes to that one.
+-- `is_below` returns true exactly if the second class is on the chain of the first: its loop climbs this chain until it meets the second class.
 use Rattle.std.proofs.Common.{◌≡◌, sym, ◌∙◌, refl}
 use Rattle.cool_classes.specs.Entries.{classes, depth_at}
 use Rattle.cool_classes.proofs.Climbs.{climbing_step, below_end}

@@ -1,4 +1,4 @@
--- The first class and the class now are below the same classes.
+-- The loop of `is_below` has climbed to a class that is below the second class exactly if the first one is.
 use Rattle.cool_classes.specs.Entries.{classes, depth_at}
 use Rattle.cool_classes.proofs.Climbs.{Climbing}
 use Rattle.cool_classes.proofs.climbing.is_below.Given as goal

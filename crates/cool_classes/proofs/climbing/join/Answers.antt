@@ -1,4 +1,5 @@
--- The classes that the two climbs come to are least.
+-- `join` returns the least class that both classes are below. Its loop replaces a class that is at least as deep as the other by its parent, until the two
+-- are the same.
 use Rattle.std.proofs.Common.{◌≤◌, arith}
 use Rattle.cool_classes.specs.Entries.{classes, depth_at}
 use Rattle.cool_classes.proofs.Climbs.{meeting_start, meeting_left, meeting_right, meeting_end, lower_there}

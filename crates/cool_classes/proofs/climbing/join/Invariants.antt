@@ -1,4 +1,4 @@
--- Each class has come to one above it, and both are below all that both of the first are.
+-- The loop of `join` has climbed from each of the two classes to one above it. Both are below each class that both of the first two are below.
 use Rattle.std.proofs.Common.{◌+◌}
 use Rattle.cool_classes.specs.Entries.{classes, depth_at}
 use Rattle.cool_classes.proofs.Climbs.{Meeting}

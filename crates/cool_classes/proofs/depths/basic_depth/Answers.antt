@@ -1,4 +1,4 @@
--- Object stands at the top, and the other basic classes below it.
+-- `basic_depth` returns the number of classes above a basic class: 0 for Object, which has no parent, and 1 for the others, whose parent is Object.
 use Rattle.std.proofs.Common.{◌≢◌, sym, ◌∙◌}
 use Rattle.std.proofs.lemmas.Bool.{eqb-true, eq-eqb}
 use Rattle.std.proofs.Common.{true≢false}

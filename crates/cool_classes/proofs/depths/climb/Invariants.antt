@@ -1,4 +1,4 @@
--- The path leads from the first definition to the one now, and it has those that were passed.
+-- The loop of `climb` has followed the path from the first definition to the current one, and marked the definitions on the path as passed.
 use Rattle.cool_classes.specs.Walks.{unpassed}
 use Rattle.cool_classes.proofs.PassingDefinitions.{Climbing}
 use Rattle.cool_classes.proofs.depths.climb.Given as goal

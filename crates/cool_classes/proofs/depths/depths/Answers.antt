@@ -1,4 +1,5 @@
--- Each definition is walked from.
+-- `depths` returns the definitions on cycles and, if there are none, the depth of each definition. Its loop walks from each definition and keeps `AreWalked`
+-- of `Walks.antt`.
 use Rattle.std.proofs.Common.{◌≤◌, length, refl, arith, rules}
 use Rattle.cool_classes.proofs.CyclesCaught.{all_caught}
 use Rattle.cool_classes.proofs.WalksFind.{all_known, walked_none}

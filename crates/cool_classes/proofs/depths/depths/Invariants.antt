@@ -1,4 +1,4 @@
--- The walks from the definitions before this one are done.
+-- The loop of `depths` has walked from the definitions before the current one (`AreWalked` of `Walks.antt`).
 use Rattle.cool_classes.specs.Walks.{AreWalked}
 use Rattle.cool_classes.proofs.depths.depths.Given as goal
 

@@ -1,4 +1,5 @@
--- A climb that comes to a known depth makes that of its path known, one that comes back to itself a cycle.
+-- `walk` handles one more definition and keeps `AreWalked` of `Walks.antt`. A climb to a known depth gives the depths of its path, and a climb that returns
+-- to its own path gives a cycle.
 use Rattle.std.proofs.Common.{◌≡◌, ◌+◌, List, ℕ, Option, length, sym, ap, ◌∙◌, subst}
 use Rattle.cool_classes.specs.declared.depths.Above.{Above}
 use Rattle.cool_classes.specs.Walks.{AreWalked, IsClimb, settled}

@@ -1,4 +1,4 @@
--- A sort by file, byte, kind and line.
+-- `sort_faults` sorts faults by file, byte, kind and line, so they are in the order of `AreInOrder` of `FaultOrder.antt`.
 use Rattle.std.proofs.Common.{rules}
 use Rattle.std.specs.List.Sorted.{IsSortedByKey}
 use Rattle.std.proofs.lemmas.List.Sorted.{answers_always}

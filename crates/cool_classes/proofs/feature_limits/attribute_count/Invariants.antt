@@ -1,4 +1,4 @@
--- The attributes before this feature are counted.
+-- The loop of `attribute_count` has counted the attributes before the current feature.
 use Rattle.std.proofs.Common.{◌≡◌, ◌+◌, ◌≤◌, length, drop}
 use Rattle.cool_classes.specs.declared.class_id.ClassId.{ClassId}
 use Rattle.cool_classes.specs.Features.{own_attributes}

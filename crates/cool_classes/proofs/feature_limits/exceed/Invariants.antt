@@ -1,4 +1,4 @@
--- The rest of the limit, after the counts of the classes before this one.
+-- The loop of `exceed` has subtracted the counts of the classes before the current one from the limit.
 use Rattle.std.proofs.Common.{◌≡◌, ◌+◌, ◌<◌, length, drop}
 use Rattle.std.specs.List.{AllByRecursion}
 use Rattle.cool_classes.specs.Lineages.{sum_at}

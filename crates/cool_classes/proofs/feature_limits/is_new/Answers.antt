@@ -1,4 +1,4 @@
--- A method is new if it is the first of its name, and no class above has one.
+-- `is_new` returns true exactly for the first method of its name in a class, if no class above has a method of that name.
 use Rattle.std.proofs.Common.{◌≡◌, ℕ, List, map, Bool, ◌&&◌, cond, is_none, is_some, ap, sym, ◌∙◌, refl}
 use Rattle.cool_classes.specs.declared.class_id.ClassId.{ClassId}
 use Rattle.cool_classes.specs.Chains.{features_of}

@@ -1,4 +1,5 @@
--- The counts are those of the class.
+-- `is_over_limit` compares the numbers of attributes and of methods of a class with the limits. Each number is the sum of the counts of all classes on the
+-- chain.
 use Rattle.std.proofs.Common.{ℕ, List, ◌∷◌, Some, length, ap, ◌∙◌, refl}
 use Rattle.std.specs.Prelude.{nat_lt}
 use Rattle.cool_classes.specs.declared.TheConstants.{MOST_ATTRIBUTES, MOST_METHODS}

@@ -1,4 +1,4 @@
--- The new methods before this feature are counted.
+-- The loop of `new_method_count` has counted the new methods before the current feature.
 use Rattle.std.proofs.Common.{◌≡◌, ◌+◌, ◌≤◌, length, drop}
 use Rattle.cool_classes.specs.Entries.{classes}
 use Rattle.cool_classes.specs.MethodNames.{new_among}

@@ -1,4 +1,5 @@
--- The faults of one more class are there; where there are none, the table is good.
+-- `feature_faults` returns the faults of the features of all classes: each step of its loop adds those of one class. If there are none, `AreGood` of
+-- `Resolved.antt` holds of the table.
 use Rattle.std.proofs.Common.{◌≡◌, ◌+◌, ◌++◌, ◌<◌, ◌≤◌, length, get_or, ap, ◌∙◌, subst, arith}
 use Rattle.cool_syntax.specs.declared.place.Place.{Place}
 use Rattle.cool_syntax.specs.TokenFacts.{IsPlaced}

@@ -1,4 +1,4 @@
--- The faults of the classes before this one are there, and with those of the classes after it they are all.
+-- The loop of `feature_faults` has added the faults of the classes before the current one.
 use Rattle.std.proofs.Common.{◌≡◌, ◌+◌, ◌++◌, drop}
 use Rattle.cool_classes.specs.ClassFaults.{features_from}
 use Rattle.cool_classes.specs.Entries.{classes}

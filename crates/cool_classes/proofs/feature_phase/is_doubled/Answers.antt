@@ -1,4 +1,5 @@
--- The class itself, or else those above it.
+-- `is_doubled` returns whether an earlier attribute of the class or an attribute of a class above has the name: `is_first_at` decides the first case, and
+-- `have_attribute` the second.
 use Rattle.std.proofs.Common.{List, map, not, ap, ◌∙◌}
 use Rattle.cool_classes.specs.declared.class_id.ClassId.{ClassId}
 use Rattle.cool_classes.specs.Chains.{features_of}

@@ -1,4 +1,5 @@
--- The faults of an attribute are those of its name, those of the attributes before it and above, and those of its type.
+-- `note_attribute` adds the faults of an attribute as `attribute_faults` of `FeatureFaults.antt` lists them. F3 is for the name self, F2 for the name of
+-- another attribute, F6 for an unknown type.
 use Rattle.std.proofs.Common.{◌≡◌, ◌++◌, ℕ, List, Bool, ap, ◌∙◌, append_assoc}
 use Rattle.std.specs.Prelude.{bytes_eq, codes}
 use Rattle.std.proofs.lemmas.Result.{on_ok_weaker}

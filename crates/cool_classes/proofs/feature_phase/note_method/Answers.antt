@@ -1,4 +1,4 @@
--- The faults of a method are those of its name, of its formals and of its result.
+-- `note_method` adds the faults of a method as `method_faults` of `FeatureFaults.antt` lists them: F1, F7, those of the formals and that of the result.
 use Rattle.std.proofs.Common.{◌≡◌, ◌++◌, ℕ, [], List, map, Bool, not, ap, ◌∙◌}
 use Rattle.std.proofs.lemmas.Result.{on_ok_weaker}
 use Rattle.cool_syntax.specs.declared.file_tree.Formal.{Formal}

@@ -1,4 +1,4 @@
--- A name that is there stays at its first index; another one comes after the others.
+-- `add_name` leaves a name of the map at its first index, and adds another name with the next index.
 use Rattle.std.proofs.Common.{◌≡◌, ◌++◌, ◌∷◌, [], ℕ, List, Some, is_some, true, false, ap, sym, ◌∙◌, subst}
 use Rattle.std.specs.Prelude.{bytes_eq}
 use Rattle.std.specs.Map.{lookup}

@@ -1,4 +1,4 @@
--- A look-up finds the first index.
+-- `first_index` returns the first index of a name, because a look-up in the map finds this index (`FindsFirst` of `FirstNames.antt`).
 use Rattle.std.proofs.Common.{◌∙◌}
 use Rattle.cool_classes.proofs.NameIndexes.{shown_lookup}
 use Rattle.cool_classes.proofs.first_names.first_index.Goals as goal

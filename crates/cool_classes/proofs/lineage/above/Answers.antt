@@ -1,4 +1,4 @@
--- The classes of a chain are classes of the table.
+-- `above` returns only classes of the table: they are the chain of the parent, and each parent is in the table.
 use Rattle.std.proofs.Common.{sym, ◌∙◌, Some}
 use Rattle.std.proofs.lemmas.Result.{IfOk-weaker}
 use Rattle.cool_classes.specs.Chains.{IsChain}

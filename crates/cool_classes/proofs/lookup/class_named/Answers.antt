@@ -1,4 +1,4 @@
--- The class at the first index of the name, or no class.
+-- `class_named` returns the class at the first index of a name, or none if no class has the name; `first_index` finds this index.
 use Rattle.std.proofs.Common.{map, Some, None, sym, ap, ◌∙◌, subst}
 use Rattle.std.specs.Prelude.{option_map}
 use Rattle.cool_classes.specs.Chains.{Class, class_number}

@@ -1,4 +1,4 @@
--- The climb comes to the nearest class that has the method, or to the top.
+-- `find_method` returns the method of a name in the nearest class on the chain that defines one, or none: its loop climbs from the class to Object.
 use Rattle.std.proofs.Common.{length, sym, ◌∙◌}
 use Rattle.cool_classes.specs.Entries.{classes}
 use Rattle.cool_classes.proofs.Seen.{within_classes, within_entries}

@@ -1,4 +1,5 @@
--- A feature comes after the others.
+-- `add_feature` adds the name of a feature to the map of methods or to that of attributes: both still find the first index of each name (`AreOwn` of
+-- `OwnNames.antt`).
 use Rattle.std.proofs.Common.{◌++◌, ◌∷◌, [], ℕ, List, map, Some, sym, ◌∙◌, subst}
 use Rattle.std.proofs.lemmas.List.{length-map}
 use Rattle.std.proofs.lemmas.Result.{on_ok_weaker}

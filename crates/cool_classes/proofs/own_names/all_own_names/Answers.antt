@@ -1,4 +1,4 @@
--- The names of one more class.
+-- `all_own_names` returns the names of the features of each class: each step of its loop adds those of one class.
 use Rattle.std.proofs.Common.{◌≡◌, ◌<◌, ◌+◌, List, length, ap, sym, ◌∙◌, subst}
 use Rattle.cool_syntax.specs.declared.file_tree.Feature.{Feature}
 use Rattle.cool_classes.specs.declared.own_names.OwnNames.{OwnNames}

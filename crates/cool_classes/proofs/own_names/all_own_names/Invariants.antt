@@ -1,4 +1,4 @@
--- The names of the features of the classes before this one are there.
+-- The loop of `all_own_names` has added the names of the features of the classes before the current one.
 use Rattle.cool_classes.specs.OwnNames.{AreAllOwn}
 use Rattle.cool_classes.specs.Entries.{classes}
 use Rattle.cool_classes.proofs.own_names.all_own_names.Given as goal

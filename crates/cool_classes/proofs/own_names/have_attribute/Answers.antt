@@ -1,4 +1,5 @@
--- The first class that has the attribute answers.
+-- `have_attribute` returns true exactly if one of the classes has an attribute of the name. Its loop looks the name up in each class and stops at the first
+-- success.
 use Rattle.std.proofs.Common.{◌≡◌, ◌<◌, length, map, get_or, true, false, is_some, ap, sym, ◌∙◌}
 use Rattle.cool_classes.specs.declared.class_id.ClassId.{ClassId}
 use Rattle.cool_classes.specs.Chains.{class_number, features_of}

@@ -1,4 +1,4 @@
--- The classes from this one on have the attribute where all have it.
+-- The loop of `have_attribute` has not found the attribute yet: the classes from the current one on give the same answer as all of them.
 use Rattle.std.proofs.Common.{◌≡◌, ◌<◌, length, drop}
 use Rattle.std.specs.List.{AllByRecursion}
 use Rattle.cool_classes.specs.FeatureFaults.{have_attribute}

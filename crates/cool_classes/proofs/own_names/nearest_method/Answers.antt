@@ -1,4 +1,5 @@
--- The first class that has the method answers with it, and it is there.
+-- `nearest_method` returns the method of the name in the first listed class that has one, or none. The method exists in the table (`HasMethod` of
+-- `Features.antt`).
 use Rattle.std.proofs.Common.{◌<◌, length, get_or, sym, ◌∙◌}
 use Rattle.cool_classes.specs.declared.class_id.ClassId.{ClassId}
 use Rattle.cool_classes.specs.Chains.{class_number}

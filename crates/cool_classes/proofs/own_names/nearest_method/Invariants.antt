@@ -1,4 +1,4 @@
--- The classes from this one on have the method that all have.
+-- The loop of `nearest_method` has not found the method yet: the classes from the current one on give the same answer as all of them.
 use Rattle.std.proofs.Common.{◌≡◌, ◌<◌, length, drop}
 use Rattle.std.specs.List.{AllByRecursion}
 use Rattle.cool_classes.specs.Features.{implementation}

@@ -1,4 +1,4 @@
--- The first method of the name, or none.
+-- `own_method` returns the first method of a name among the features of a class that is not basic, or none; `first_index` finds its index.
 use Rattle.std.proofs.Common.{map, Some, None, sym, ◌∙◌}
 use Rattle.cool_classes.specs.Chains.{features_of}
 use Rattle.cool_classes.specs.FirstNames.{method_name}

@@ -1,4 +1,4 @@
--- The type of a formal is the one that its name denotes.
+-- `formal` returns the type that the declared name of a formal denotes: the name is in the table of the basic methods, or in the method's definition.
 use Rattle.std.proofs.Common.{◌≡◌, List, [], get_or, ap, sym, ◌∙◌, subst, ℕ}
 use Rattle.cool_syntax.specs.declared.file_tree.Feature.TheVariants.{Method}
 use Rattle.cool_classes.specs.declared.class_id.Ty.TheVariants.{Class as IsClass}

@@ -1,4 +1,4 @@
--- The faults of a formal are those of its name, those of the names before it, and those of its type.
+-- `note_formal` adds the faults of a formal as `formal_faults` of `FeatureFaults.antt` lists them: F3 and F4 for its name, F5 and F6 for its type.
 use Rattle.std.proofs.Common.{◌≡◌, ◌++◌, ℕ, List, Bool, is_some, ap, ◌∙◌}
 use Rattle.std.specs.Prelude.{bytes_eq, codes}
 use Rattle.std.proofs.lemmas.Result.{on_ok_weaker}

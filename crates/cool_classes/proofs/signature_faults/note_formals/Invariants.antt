@@ -1,4 +1,4 @@
--- The faults of the formals before this one are there, and their names.
+-- The loop of `note_formals` has added the faults and the names of the formals before the current one.
 use Rattle.std.proofs.Common.{◌≡◌, ◌++◌, [], drop, take}
 use Rattle.cool_classes.specs.Entries.{classes}
 use Rattle.cool_classes.specs.FirstNames.{shown_names, FindsFirst}

@@ -1,4 +1,4 @@
--- Other numbers of formals declare other types.
+-- `same_formals` returns false for lists of different lengths, and so does `same_types` of `FeatureFaults.antt`.
 use Rattle.std.proofs.Common.{◌∙◌}
 use Rattle.std.proofs.lemmas.List.{length-map}
 use Rattle.cool_syntax.specs.declared.file_tree.Formal.{Formal}

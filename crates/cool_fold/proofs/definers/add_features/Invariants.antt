@@ -1,4 +1,4 @@
--- The methods noted, with those of the features that are left, are all that the class defines.
+-- The loop of `add_features` has added the class under the names of the methods among the features before the current one.
 use Rattle.std.proofs.Common.{◌≡◌, ℕ, List, Bool as Truth, drop}
 use Rattle.std.specs.Prelude.{◌&&◌, ◌||◌}
 use Rattle.std.specs.List.{list_any}

@@ -1,4 +1,5 @@
--- The expression folded is that of the feature, in the scope of its class and its formals.
+-- `fold_body` returns the folded expression of a feature and the types of its nodes, as `fold` makes them. In scope are the formals of the feature and the
+-- attributes of the class.
 use Rattle.std.proofs.Common.{List, length, Some, ◌∙◌, ap, subst, arith}
 use Rattle.std.specs.Prelude.{option_map}
 use Rattle.std.specs.declared.alloc.AllocError.{AllocError}

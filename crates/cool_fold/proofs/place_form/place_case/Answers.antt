@@ -1,4 +1,4 @@
--- The nodes placed for a `case` are those of the folded `case`.
+-- `place_case` appends the node of a `case` to the nodes of its folded value and branches: together they are the nodes of the folded `case`.
 use Rattle.std.proofs.Common.{sym, subst}
 use Rattle.cool_syntax.specs.NodeLists.{tree_at, cases_of}
 use Rattle.cool_fold.specs.PlacedForms.{PlacesCase}

@@ -1,4 +1,5 @@
--- The nodes placed for a dispatch are those of the folded dispatch.
+-- `place_dispatch` appends a dispatch to the nodes of its folded receiver and arguments: together they are the nodes of the folded dispatch. It is a static
+-- dispatch if no class below redefines the method.
 use Rattle.std.proofs.Common.{◌∙◌, sym, subst}
 use Rattle.cool_syntax.specs.NodeLists.{tree_at, trees_of}
 use Rattle.cool_fold.specs.PlacedForms.{PlacesDispatch}

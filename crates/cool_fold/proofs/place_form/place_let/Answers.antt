@@ -1,4 +1,4 @@
--- The nodes placed for a `let` are those of the folded `let`.
+-- `place_let` appends the node of a `let` to the nodes of its folded initial value and body: together they are the nodes of the folded `let`.
 use Rattle.std.proofs.Common.{sym, subst}
 use Rattle.cool_syntax.specs.NodeLists.{tree_at, maybe_tree_of}
 use Rattle.cool_fold.specs.PlacedForms.{PlacesLet}

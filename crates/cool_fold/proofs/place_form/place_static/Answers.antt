@@ -1,4 +1,5 @@
--- The nodes placed for a dispatch to the method of a class are those of the folded dispatch.
+-- `place_static` appends the node of a static dispatch to the nodes of its folded receiver and arguments: together they are the nodes of the folded
+-- dispatch.
 use Rattle.std.proofs.Common.{sym, subst}
 use Rattle.cool_syntax.specs.NodeLists.{tree_at, trees_of}
 use Rattle.cool_fold.specs.PlacedForms.{PlacesStaticDispatch}

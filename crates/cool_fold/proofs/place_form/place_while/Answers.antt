@@ -1,4 +1,4 @@
--- The nodes placed for a loop are those of the folded loop.
+-- `place_while` appends the node of a loop to the nodes of its folded test and body: together they are the nodes of the folded loop.
 use Rattle.std.proofs.Common.{sym, subst}
 use Rattle.cool_syntax.specs.NodeLists.{tree_at}
 use Rattle.cool_fold.specs.PlacedForms.{PlacesLoop}

@@ -1,4 +1,5 @@
--- The nodes placed for an operator with two operands are those of the folded operator.
+-- `place_binary` appends the node of an operator to the nodes of its two folded operands, or replaces these by a constant if its value is known. This gives
+-- the nodes of the folded operator.
 use Rattle.std.proofs.Common.{sym, subst}
 use Rattle.cool_syntax.specs.NodeLists.{tree_at}
 use Rattle.cool_fold.specs.PlacedForms.{PlacesBinary}

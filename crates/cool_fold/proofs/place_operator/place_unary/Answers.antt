@@ -1,4 +1,5 @@
--- The nodes placed for an assignment or an operator with one operand are those of the folded expression.
+-- `place_unary` appends the node of an assignment or of an operator to the nodes of its folded operand, or replaces these by a constant if its value is
+-- known. This gives the nodes of the folded expression.
 use Rattle.std.proofs.Common.{sym, subst}
 use Rattle.cool_syntax.specs.NodeLists.{tree_at}
 use Rattle.cool_fold.specs.PlacedForms.{PlacesUnary}

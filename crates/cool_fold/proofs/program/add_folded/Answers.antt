@@ -1,4 +1,5 @@
--- The folded expression of one feature more, or none where it has none, and the types of its nodes.
+-- `add_folded` adds the folded expressions of the features of a class and returns the types of their nodes. Each step of its loop handles one feature, which
+-- may have no expression.
 use Rattle.std.proofs.Common.{◌≡◌, ◌+◌, ◌<◌, ◌++◌, ◌∙◌, List, length, drop, Option, ap, sym, subst, arith, refl}
 use Rattle.std.proofs.lemmas.List.{append-nil}
 use Rattle.cool_syntax.specs.declared.file_tree.Feature.{Feature}

@@ -1,4 +1,4 @@
--- The expressions so far with those of the features that are left are those before and all of the class; so are the types of their nodes.
+-- The loop of `add_folded` has added the folded expressions of the features before the current one, and the types of their nodes.
 use Rattle.std.proofs.Common.{◌≡◌, ◌++◌, drop}
 use Rattle.cool_classes.specs.Chains.{features_of}
 use Rattle.cool_rules.specs.NodeTypes.{features_types}

@@ -1,4 +1,5 @@
--- One more expression comes to its place, and in the end the table is the folded one, with the types of its nodes.
+-- `fold` returns the program with each expression folded. Each step of its loop puts one folded expression into the table, and in the end the table is the
+-- folded one.
 use Rattle.std.proofs.Common.{◌∙◌, List, ap, sym, subst}
 use Rattle.cool_syntax.specs.declared.TheConstants.{MOST_FILES}
 use Rattle.cool_classes.specs.Chains.{Class}

@@ -1,4 +1,4 @@
--- The table becomes the folded one with the expressions that are left in their places.
+-- The loop of `fold` has put folded expressions into the table: with those that are left in their places it is the folded table.
 use Rattle.std.proofs.Common.{length}
 use Rattle.cool_fold.specs.Folding.{fold_table}
 use Rattle.cool_fold.proofs.ReplacedExpressions.{Becomes}

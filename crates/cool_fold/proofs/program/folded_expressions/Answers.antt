@@ -1,5 +1,5 @@
--- The classes that define methods are those of the program. Those of a class come before those of the classes that are left, and in the end
--- no class is left.
+-- `folded_expressions` returns the folded expressions of all features and the types of their nodes. Each step of its loop adds those of one class, and in
+-- the end no class is left.
 use Rattle.std.proofs.Common.{◌+◌, ◌<◌, ◌++◌, ◌∙◌, ap, drop, length, List, arith, subst}
 use Rattle.std.specs.Global.{Vec}
 use Rattle.cool_classes.specs.declared.class_id.Ty.{Ty}

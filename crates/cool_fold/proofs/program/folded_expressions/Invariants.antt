@@ -1,4 +1,4 @@
--- The expressions so far with those of the classes that are left are all; so are the types of their nodes.
+-- The loop of `folded_expressions` has added the folded expressions of the classes before the current one, and the types of their nodes.
 use Rattle.std.proofs.Common.{◌≡◌, ◌++◌, drop}
 use Rattle.cool_rules.specs.NodeTypes.{classes_types, columns_of, table_types}
 use Rattle.cool_fold.specs.Expressions.{expressions_from}

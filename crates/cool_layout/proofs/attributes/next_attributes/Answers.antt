@@ -1,4 +1,4 @@
--- The attributes of the parent, and the class's own.
+-- `next_attributes` returns the attributes of a class: those of its parent, which are known at the tag of the parent, and after them its own.
 use Rattle.std.proofs.Common.{◌≡◌, ℕ, List, ◌++◌, length, Some, None, sym, ap, ◌∙◌, subst}
 use Rattle.std.specs.Prelude.{IfOk}
 use Rattle.std.specs.Global.{Vec}

@@ -1,4 +1,4 @@
--- The name of the class, a point, and the name of the method.
+-- `method_label` returns the label of a method that the program defines: the name of its class, a dot and its own name.
 use Rattle.std.proofs.Common.{◌≡◌, ℕ, List, ◌++◌, sym, ap, ◌∙◌, subst, append_assoc}
 use Rattle.std.specs.Prelude.{IfOk, codes}
 use Rattle.cool_syntax.specs.declared.file_tree.Feature.{Feature}

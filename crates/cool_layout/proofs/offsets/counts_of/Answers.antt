@@ -1,4 +1,5 @@
--- One class more: those of its parent, and its own.
+-- `counts_of` returns the number of attributes of each class with the inherited ones, by tag. Each step of its loop adds up those of the parent and those
+-- that the class defines.
 use Rattle.std.proofs.Common.{◌≡◌, ◌+◌, ◌<◌, ◌≤◌, length, sym, ap, ◌∙◌, subst, arith}
 use Rattle.std.proofs.lemmas.List.{length_push}
 use Rattle.cool_classes.specs.declared.class_id.ClassId.{ClassId}

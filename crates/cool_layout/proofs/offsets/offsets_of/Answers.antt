@@ -1,4 +1,5 @@
--- Each class is counted, and has no more attributes than the limit.
+-- `offsets_of` returns the offsets of the attributes of each class. No class has more than 2000 attributes (`KeepsLimits` of `Limits.antt`), as
+-- `own_offsets` requires.
 use Rattle.std.proofs.Common.{◌≡◌, ◌+◌, ◌<◌, ◌≤◌, length, ap, ◌∙◌, arith}
 use Rattle.cool_classes.specs.Chains.{class_number, features_of}
 use Rattle.cool_layout.specs.Offsets.{attribute_count, above_count}

@@ -1,4 +1,4 @@
--- The classes so far.
+-- The loop of `offsets_of` has added the offsets of the attributes of the classes before the current one.
 use Rattle.cool_layout.specs.Offsets.{AreOffsets}
 use Rattle.cool_layout.proofs.offsets.offsets_of.Given as goal
 

@@ -1,4 +1,4 @@
--- One feature more.
+-- `own_count` returns the number of attributes among the features of a class: each step of its loop counts one feature if it is an attribute.
 use Rattle.std.proofs.Common.{arith}
 use Rattle.cool_layout.proofs.AttributesCounted.{attribute_counted, method_counted}
 use Rattle.cool_layout.proofs.offsets.own_count.Goals as goal

@@ -1,4 +1,4 @@
--- The attributes so far.
+-- The loop of `own_count` has counted the attributes before the current feature.
 use Rattle.std.proofs.Common.{◌≡◌, ◌≤◌, take}
 use Rattle.cool_layout.specs.Offsets.{attribute_count}
 use Rattle.cool_layout.proofs.offsets.own_count.Given as goal

@@ -1,4 +1,5 @@
--- One feature more; the attributes so far are not more than all.
+-- `own_offsets` returns the offset of each attribute that a class defines, and 0 for each method. Its sums do not overflow, because the class has at most
+-- 2000 attributes.
 use Rattle.std.proofs.Common.{ap, ◌∙◌, arith}
 use Rattle.cool_layout.proofs.AttributePlaces.{attribute_pushed, method_pushed}
 use Rattle.cool_layout.proofs.offsets.own_offsets.Goals as goal

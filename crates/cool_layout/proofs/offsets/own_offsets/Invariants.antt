@@ -1,4 +1,4 @@
--- The offsets so far.
+-- The loop of `own_offsets` has added the offsets of the features before the current one, and counted the attributes among them.
 use Rattle.std.proofs.Common.{◌≡◌, ◌+◌, take}
 use Rattle.cool_layout.specs.Offsets.{offsets_among, attribute_count}
 use Rattle.cool_layout.proofs.offsets.own_offsets.Given as goal

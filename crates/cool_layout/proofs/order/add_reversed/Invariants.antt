@@ -1,4 +1,4 @@
--- The classes from this one on are there, the last one first.
+-- The loop of `add_reversed` has added the classes from position `index` to the last one, in reverse order.
 use Rattle.std.proofs.Common.{◌≡◌, ◌++◌, drop}
 use Rattle.std.specs.Prelude.{reverse}
 use Rattle.cool_layout.proofs.order.add_reversed.Given as goal

@@ -1,4 +1,5 @@
--- One number more.
+-- `children_of` returns for each class the list of the classes that inherit from it directly: each step of its loop adds one class to the list of its
+-- parent.
 use Rattle.std.proofs.Common.{◌+◌, sym, subst, arith}
 use Rattle.std.specs.Global.{Vec}
 use Rattle.cool_classes.specs.declared.class_id.ClassId.{ClassId}

@@ -1,4 +1,4 @@
--- The children among the numbers so far.
+-- The loop of `children_of` has added each class before the current one to the list of its parent.
 use Rattle.cool_layout.specs.Walks.{AreChildren}
 use Rattle.cool_layout.proofs.Children.{AreRooted}
 use Rattle.cool_layout.proofs.order.children_of.Given as goal

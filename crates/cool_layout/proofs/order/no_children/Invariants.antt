@@ -1,4 +1,4 @@
--- The lists so far are empty.
+-- The loop of `no_children` has added one empty list in each step.
 use Rattle.std.proofs.Common.{◌≡◌, [], length}
 use Rattle.std.specs.Prelude.{All}
 use Rattle.cool_layout.proofs.order.no_children.Given as goal

@@ -1,4 +1,5 @@
--- One class more, and fewer left.
+-- `preorder` returns the classes in preorder, and for each the next class that is not below it. Each step of its loop adds one class, and the classes that
+-- are left become fewer.
 use Rattle.std.proofs.Common.{◌≡◌, ◌<◌, List, ◌++◌, length, flat_map, sym, ap, ◌∙◌, subst}
 use Rattle.std.specs.Prelude.{reverse, slice_get, ◌-◌}
 use Rattle.cool_classes.specs.declared.class_id.ClassId.{ClassId}

@@ -1,4 +1,4 @@
--- The Int, and the String after it.
+-- `add_defaults` appends the lines of the Int 0 and then those of the empty String, as `default_lines` of `LinesOfLayout.antt` lists them.
 use Rattle.std.proofs.Common.{ℕ, List, ap, ◌∙◌}
 use Rattle.mips_isa.specs.Lines.{Line, WordItem}
 use Rattle.cool_runtime.specs.Labels.{string_table}

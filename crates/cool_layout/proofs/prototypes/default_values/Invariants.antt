@@ -1,4 +1,4 @@
--- The values of the attributes so far.
+-- The loop of `default_values` has added the default values of the attributes before the current one.
 use Rattle.std.proofs.Common.{◌≡◌, map, take}
 use Rattle.mips_isa.specs.Lines.{item_of}
 use Rattle.cool_classes.specs.Features.{attribute_type}

@@ -1,4 +1,5 @@
--- The attributes of a class are attributes of the program.
+-- `new_fields` returns the fields of a new object of a class. The attributes of the class are attributes of the table (`HasAttribute` of `Features.antt`),
+-- as `default_values` requires.
 use Rattle.std.proofs.Common.{sym, subst}
 use Rattle.std.specs.List.{AllByRecursion}
 use Rattle.cool_classes.specs.Features.{HasAttribute}

@@ -1,4 +1,4 @@
--- The inherited slot is one of the table.
+-- `add_method` looks up the slot that a class inherits for a name and adds the method with it. The inherited slot is in the table, as `add_own` requires.
 use Rattle.std.proofs.Common.{ℕ, [], ◌∷◌, ◌++◌, length, Option, sym, subst}
 use Rattle.std.proofs.lemmas.Result.{on_ok_weaker}
 use Rattle.cool_layout.specs.SlotTables.{IsTableFor, slots_in, methods_in}

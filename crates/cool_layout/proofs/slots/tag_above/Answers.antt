@@ -1,4 +1,4 @@
--- The tag of the parent.
+-- `tag_above` returns the tag of the parent of a class, or none if there is no parent. The tag of the parent is less than that of the class.
 use Rattle.std.proofs.Common.{ℕ, Some, sym, subst}
 use Rattle.cool_layout.specs.Preorder.{tag}
 use Rattle.cool_layout.specs.SlotTables.{IsAbove}

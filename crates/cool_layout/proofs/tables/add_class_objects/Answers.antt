@@ -1,4 +1,4 @@
--- The label, and the lines of the classes after it.
+-- `add_class_objects` appends the label of the table and then a line for each class, with the addresses of its prototype and of its initializer.
 use Rattle.std.proofs.Common.{◌≤◌, List, [], ◌∷◌, ◌++◌, length, map, take_all, ap, ◌∙◌, arith, append_assoc}
 use Rattle.mips_isa.specs.Lines.{Line, lines_of, Address}
 use Rattle.cool_runtime.specs.Instructions.{label}

@@ -1,4 +1,4 @@
--- The lines of the classes so far, after the label.
+-- The loop of `add_class_objects` has appended the lines of the classes before the current one.
 use Rattle.std.proofs.Common.{◌≡◌, [], ◌∷◌, ◌++◌, map, take}
 use Rattle.mips_isa.specs.Lines.{lines_of, Address}
 use Rattle.cool_runtime.specs.LinesOfData.{words}

@@ -1,4 +1,4 @@
--- The label, and the addresses of the methods after it.
+-- `add_dispatch_table` appends the label of the dispatch table of a class and then a line with the addresses of the methods of the class.
 use Rattle.std.proofs.Common.{List, map, sym, ap, ◌∙◌, subst}
 use Rattle.std.specs.List.{AllByRecursion}
 use Rattle.mips_isa.specs.Lines.{WordItem, Address}

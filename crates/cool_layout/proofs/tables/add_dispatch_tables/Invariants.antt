@@ -1,4 +1,4 @@
--- The tables of the classes so far.
+-- The loop of `add_dispatch_tables` has appended the dispatch tables of the classes before the current one.
 use Rattle.std.proofs.Common.{◌≡◌, ◌++◌, flat_map, take}
 use Rattle.mips_isa.specs.Lines.{lines_of}
 use Rattle.cool_layout.specs.LinesOfLayout.{dispatch_table_lines}

@@ -1,4 +1,4 @@
--- The addresses so far.
+-- The loop of `method_addresses` has added the addresses of the methods before the current one.
 use Rattle.std.proofs.Common.{◌≡◌, map, take}
 use Rattle.mips_isa.specs.Lines.{item_of, Address}
 use Rattle.cool_layout.specs.Labels.{method_label}

@@ -1,4 +1,4 @@
--- The addresses so far.
+-- The loop of `name_addresses` has added the addresses of the names of the classes before the current one.
 use Rattle.std.proofs.Common.{◌≡◌, map, take}
 use Rattle.mips_isa.specs.Lines.{item_of, Address}
 use Rattle.cool_layout.specs.Labels.{class_name}

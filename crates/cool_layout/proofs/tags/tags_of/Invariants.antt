@@ -1,4 +1,4 @@
--- The classes with tags so far have them.
+-- The loop of `tags_of` has stored the tag of each class whose tag is below the current one.
 use Rattle.std.proofs.Common.{◌≡◌, ◌<◌, length, get_or}
 use Rattle.cool_classes.specs.declared.class_id.ClassId.{ClassId}
 use Rattle.cool_layout.specs.Preorder.{tag}

@@ -1,4 +1,4 @@
--- The String of the name, and the Int of its length.
+-- `add_name` appends the String of the name of a class and the Int of its length, as `name_lines` of `LinesOfLayout.antt` lists them.
 use Rattle.std.proofs.Common.{◌≡◌, ℕ, List, ap, ◌∙◌}
 use Rattle.mips_isa.specs.Lines.{Name, lines_of}
 use Rattle.cool_classes.specs.Chains.{name_of}

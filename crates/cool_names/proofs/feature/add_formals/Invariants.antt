@@ -1,4 +1,4 @@
--- The marks and the scope go on with the formals that are left.
+-- The loop of `add_formals` has added the marks of the formals before the current one, and entered these formals into the scope.
 use Rattle.std.proofs.Common.{◌≡◌, ◌++◌, drop, map}
 use Rattle.cool_names.specs.Programs.{formal_variable, formals_in_scope, formals_marks}
 use Rattle.cool_rules.specs.Scopes.{entered}

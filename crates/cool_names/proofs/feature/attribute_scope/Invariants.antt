@@ -1,4 +1,4 @@
--- The items left to enter are attributes, and with them it is the scope.
+-- The loop of `attribute_scope` has entered the attributes before the current one; the others are attributes of the table.
 use Rattle.std.proofs.Common.{◌≡◌, map}
 use Rattle.std.specs.List.{AllByRecursion}
 use Rattle.cool_classes.specs.Features.{HasAttribute}

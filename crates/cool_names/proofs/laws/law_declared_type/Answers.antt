@@ -1,4 +1,4 @@
--- The type that a variable's mark declares is the one that the rules give it.
+-- `law_declared_type` holds by `declared_rightly` of `SeenTypes.antt`: the mark of a variable names the type that the rules give the variable.
 use Rattle.cool_names.proofs.SeenTypes.{declared_rightly}
 use Rattle.cool_names.proofs.laws.law_declared_type.Goals as goal
 

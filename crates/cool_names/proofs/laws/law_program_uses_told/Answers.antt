@@ -1,4 +1,5 @@
--- The features of a definition are those of its class.
+-- `law_program_uses_told` holds by `program_told` and `program_typed` of `ProgramUsesTold.antt`. The marks of a program with typed features record the uses
+-- in these features, and an accepted program has typed features.
 use Rattle.cool_names.proofs.ProgramUsesTold.{program_told, program_typed}
 use Rattle.cool_names.proofs.laws.law_program_uses_told.Goals as goal
 

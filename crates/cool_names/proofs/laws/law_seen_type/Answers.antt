@@ -1,4 +1,4 @@
--- The type seen is the one that the rules give.
+-- `law_seen_type` holds by `seen_rightly` of `SeenTypes.antt`: if the rules give an expression a type, `seen_type` of `Marks.antt` is this type or none.
 use Rattle.cool_names.proofs.SeenTypes.{seen_rightly}
 use Rattle.cool_names.proofs.laws.law_seen_type.Goals as goal
 

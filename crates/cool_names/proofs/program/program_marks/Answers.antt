@@ -1,4 +1,4 @@
--- The marks of the next class come before those of the classes after it.
+-- `program_marks` returns the marks of all classes in the order of their definitions: each step of its loop adds those of the next class.
 use Rattle.std.proofs.Common.{◌≡◌, ℕ, ◌+◌, ◌++◌, ◌∙◌, List, drop, ap, arith}
 use Rattle.cool_names.specs.declared.mark.Mark.{Mark}
 use Rattle.cool_names.specs.Programs.{class_marks, marks_from}

@@ -1,4 +1,4 @@
--- The marks go on with those of the classes that are left.
+-- The loop of `program_marks` has added the marks of the classes before the current one.
 use Rattle.std.proofs.Common.{◌≡◌, ◌+◌, ◌++◌, drop}
 use Rattle.cool_names.specs.Programs.{marks_from, program_marks}
 use Rattle.cool_names.proofs.program.program_marks.Given as goal

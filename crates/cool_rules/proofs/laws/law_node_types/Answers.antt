@@ -1,4 +1,5 @@
--- The columns of a typed table are typed.
+-- `law_node_types` holds by `columns_typed` of `ColumnsAreTyped.antt`: the type kept for each node of a typed program is the one that the rules give the
+-- node.
 use Rattle.cool_rules.proofs.ColumnsAreTyped.{columns_typed}
 use Rattle.cool_rules.proofs.laws.law_node_types.Goals as goal
 

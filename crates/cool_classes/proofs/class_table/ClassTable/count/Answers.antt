@@ -1,4 +1,5 @@
--- The depths of the entries are those of a whole table.
+-- `ClassTable::count` promises that the classes are a whole table that keeps the rules of classes: the invariant of `ClassTable` (`IsIndexed` of
+-- `OwnNames.antt`) says so.
 use Rattle.std.proofs.Common.{subst}
 use Rattle.cool_classes.specs.Entries.{depth_at}
 use Rattle.cool_classes.specs.LawfulTables.{IsLawful}

@@ -1,4 +1,4 @@
--- The chain of a class has one class more than stand above it.
+-- `ClassTable::depth` returns the number of classes above a class: the chain of the class has one class more than its depth.
 use Rattle.std.proofs.Common.{◌+◌, ◌<◌, ℕ, List, length, Some, ap, sym, ◌∙◌, subst}
 use Rattle.cool_classes.specs.declared.entry.Entry.{Entry}
 use Rattle.cool_classes.specs.Chains.{Class, IsChain}

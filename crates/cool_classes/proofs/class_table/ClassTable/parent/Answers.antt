@@ -1,4 +1,4 @@
--- A parent is a class of the table.
+-- `ClassTable::parent` returns a class of the table if it returns one: `IsGrounded` of `Tables.antt` says that each parent is in the table.
 use Rattle.std.proofs.Common.{◌<◌, List, length, ap, sym, ◌∙◌, subst}
 use Rattle.std.specs.Prelude.{IfSome}
 use Rattle.cool_classes.specs.declared.entry.Entry.{Entry}

@@ -1,4 +1,5 @@
--- The entries with another body are still those of a table, and are seen as the classes with that body.
+-- `ClassTable::swap_body` keeps the invariant of the table. The classes afterwards are those before with one body exchanged (`with_body_at` of
+-- `Bodies.antt`).
 use Rattle.std.proofs.Common.{◌≡◌, List, length, sym, ap, ◌∙◌, subst}
 use Rattle.std.specs.Vec.{with_items}
 use Rattle.std.proofs.lemmas.List.{with_items_is}

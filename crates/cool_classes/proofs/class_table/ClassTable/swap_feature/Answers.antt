@@ -1,4 +1,5 @@
--- The entries with another feature are still those of a table, and are seen as the classes with that feature.
+-- `ClassTable::swap_feature` keeps the invariant of the table. The classes afterwards are those before with one feature exchanged (`with_feature_at` of
+-- `Bodies.antt`).
 use Rattle.std.proofs.Common.{◌≡◌, List, length, sym, ap, ◌∙◌, subst}
 use Rattle.std.specs.Prelude.{slice_get}
 use Rattle.std.specs.Vec.{with_items}

@@ -1,4 +1,4 @@
--- The next class is added to those before it.
+-- `Definers::new` returns for each name the classes that define a method of the name: each step of its loop adds one class under the names of its methods.
 use Rattle.std.proofs.Common.{◌≡◌, ◌∙◌, ◌+◌, ◌-◌, ℕ, suc, length, ap, sym, is_some, arith, Bool as Truth}
 use Rattle.std.specs.Prelude.{◌&&◌, ◌||◌}
 use Rattle.std.specs.List.{list_any}

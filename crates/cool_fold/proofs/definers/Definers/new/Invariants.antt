@@ -1,4 +1,4 @@
--- With the classes that are left all stand with the names that they define.
+-- The loop of `Definers::new` has added the classes before the current one under the names of their methods.
 use Rattle.std.proofs.Common.{◌≡◌, ◌-◌, ℕ, List, Bool as Truth, length, is_some}
 use Rattle.std.specs.Prelude.{◌&&◌, ◌||◌}
 use Rattle.std.specs.List.{list_any}

@@ -1,4 +1,5 @@
--- The classes above a class are those on the chain of its parent.
+-- `FoldingSetting::is_properly_below` returns true exactly if the second class is above the first: the classes above a class are those on the chain of its
+-- parent.
 use Rattle.std.proofs.Common.{◌≡◌, ◌∙◌, ap, sym, List, Some, None}
 use Rattle.cool_classes.specs.declared.class_id.ClassId.{ClassId}
 use Rattle.cool_classes.specs.Chains.{parent_of}

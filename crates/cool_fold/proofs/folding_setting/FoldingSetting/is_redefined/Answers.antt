@@ -1,4 +1,5 @@
--- The classes that define a name are classes of the table.
+-- `FoldingSetting::is_redefined` returns whether a class below defines a method of the name. The classes that define the name are classes of the table, as
+-- `is_properly_below` requires.
 use Rattle.std.proofs.Common.{◌<◌, length, arith}
 use Rattle.cool_fold.proofs.DefinersGrow.{definer_within}
 use Rattle.cool_fold.proofs.folding_setting.FoldingSetting.is_redefined.Goals as goal

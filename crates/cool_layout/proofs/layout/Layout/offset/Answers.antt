@@ -1,4 +1,4 @@
--- The offset is that in the objects of the owner, and of all classes below it.
+-- `Layout::offset` returns the offset of an attribute in the objects of a class and of all classes below it: the layout keeps one offset for each attribute.
 use Rattle.std.proofs.Common.{◌∙◌, arith}
 use Rattle.std.proofs.lemmas.List.{get_or_read}
 use Rattle.cool_layout.proofs.KeptOffsets.{owner_kept, index_kept, offset_kept, same_offset}

@@ -1,4 +1,4 @@
--- The nearest method on the chain is that of the chain by the table.
+-- `NamingSetting::method` returns the method that the nearest class on the chain defines, which is `method_of` of `Rules.antt`.
 use Rattle.std.proofs.Common.{◌≡◌, ◌<◌, length, sym, subst}
 use Rattle.cool_classes.specs.declared.class_id.ClassId.{ClassId}
 use Rattle.cool_rules.specs.Rules.{method_of}

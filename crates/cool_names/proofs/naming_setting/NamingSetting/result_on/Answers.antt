@@ -1,4 +1,5 @@
--- The type that a result's name denotes is the one that it means.
+-- `NamingSetting::result_on` returns the type of a call: the declared result type of the method (`type_meant` of `Rules.antt`), or the receiver's type if
+-- that is `SELF_TYPE`.
 use Rattle.std.proofs.Common.{ap, sym, ◌∙◌}
 use Rattle.cool_rules.specs.Typing.{result_on}
 use Rattle.cool_rules.proofs.RulesOfTables.{type_meant_is}

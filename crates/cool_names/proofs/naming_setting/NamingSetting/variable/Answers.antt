@@ -1,4 +1,4 @@
--- A local variable comes before an attribute of its name.
+-- `NamingSetting::variable` returns the latest local variable of a name, or the attribute of the name if there is no local variable.
 use Rattle.std.proofs.Common.{Option, ap, sym, ◌∙◌}
 use Rattle.std.specs.Prelude.{option_map}
 use Rattle.std.specs.Option.{option_or}

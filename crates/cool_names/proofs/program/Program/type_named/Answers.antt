@@ -1,4 +1,4 @@
--- The type that has a name is the one that the function finds.
+-- `Program::type_named` returns the type that has a name, or none, as `type_of_name` of `Rules.antt` does.
 use Rattle.cool_rules.proofs.RulesOfTables.{type_of_name_is}
 use Rattle.cool_names.proofs.program.Program.type_named.Goals as goal
 

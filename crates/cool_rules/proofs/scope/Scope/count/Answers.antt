@@ -1,4 +1,4 @@
--- Each entry is one name in scope.
+-- `Scope::count` returns the number of names in scope, because each entry of the scope is one of them.
 use Rattle.std.proofs.Common.{length, ap, sym, ◌∙◌}
 use Rattle.cool_rules.proofs.ScopesInOrder.{as_many}
 use Rattle.cool_rules.proofs.scope.Scope.count.Goals as goal

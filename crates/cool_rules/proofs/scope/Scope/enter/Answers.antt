@@ -1,4 +1,4 @@
--- The name that was entered is the first that is seen.
+-- `Scope::enter` puts a name in front of those in scope: it adds the last entry, and a contract sees the entries with the last one first.
 use Rattle.std.proofs.Common.{ap, ◌∙◌, ℕ, List, ◌∷◌}
 use Rattle.cool_rules.specs.Scopes.{Bound, latest_first}
 use Rattle.cool_rules.proofs.ScopesInOrder.{latest_more}

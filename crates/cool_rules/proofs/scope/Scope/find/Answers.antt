@@ -1,4 +1,4 @@
--- The name is found at this entry or before it.
+-- `Scope::find` returns the value of the latest entry of a name, or none: its loop goes through the entries from the last to the first.
 use Rattle.std.proofs.Common.{◌≡◌, ℕ, suc, ◌-◌, ◌<◌, length, take, ap, sym, ◌∙◌, arith, true, false}
 use Rattle.std.proofs.Math.Seq.{take-length}
 use Rattle.std.specs.Prelude.{bytes_eq}

@@ -1,4 +1,4 @@
--- The last entry is the first name that is seen.
+-- `Scope::latest` returns the last entry, which is the first name in scope, because a contract sees the entries with the last one first.
 use Rattle.std.proofs.Common.{◌-◌, List, length, ap, sym, ◌∙◌}
 use Rattle.std.specs.Prelude.{slice_get}
 use Rattle.std.specs.Option.{option_map}

@@ -1,4 +1,4 @@
--- Leaving a scope restores the entries that were there before.
+-- `Scope::leave` removes the last entry, so the names in scope are those before that entry was added.
 use Rattle.std.proofs.Common.{ℕ, ◌-◌, take, ap, ◌∙◌}
 use Rattle.cool_rules.specs.Scopes.{left, latest_first}
 use Rattle.cool_rules.proofs.ScopesInOrder.{latest_less}

@@ -1,4 +1,5 @@
--- There is a column for each feature of each class, and it is the feature's own.
+-- `TypedProgram::types` returns the types of the nodes of one feature's expression: the invariant of `TypedProgram` has one list of types for each feature
+-- of each class.
 use Rattle.std.proofs.Common.{◌≡◌, List, length, get_or, ap, ◌∙◌, subst, arith}
 use Rattle.std.specs.Global.{Vec}
 use Rattle.cool_classes.specs.declared.class_id.Ty.{Ty}
