@@ -1,4 +1,4 @@
--- Faults that stand in so many files, with one more.
+-- If the places of some faults and of one more are in the files, so are the places of all of them.
 use Rattle.std.proofs.Common.{ℕ, List, [], ◌∷◌, ◌++◌}
 use Rattle.std.specs.List.{AllByRecursion}
 use Rattle.cool_syntax.specs.TokenFacts.{IsPlaced}

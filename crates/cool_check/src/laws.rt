@@ -1,5 +1,4 @@
-//! Laws on checking: a table that keeps the rules on classes, and a feature of it, have no fault exactly where the rules type them; and in
-//! each whole table an expression has one type at most.
+//! Theorems about checking: it finds no fault exactly if the typing rules type the table or the feature, and they give an expression at most one type.
 
 ghost use Rattle.std.specs.Prelude.{List};
 ghost use Rattle.cool_classes.specs.Chains.{Class};

@@ -1,4 +1,4 @@
--- A call that ran an image which means a program, within the limits of a plan, ends as the headline says.
+-- If an image means a program, a call that ran the image within the limits of a plan ends as the field `headline` of `RunEnds` says.
 use Rattle.std.proofs.Common.{arith, ◌≡◌, ℕ, ◌+◌, ◌<◌, ◌⊎◌, inl, inr, List, [], ◌++◌, Some, refl, sym, ◌∙◌, ap, subst, append_assoc, append-nil}
 use Rattle.cool_classes.specs.Chains.{Class}
 use Rattle.cool_eval.specs.Ends.{IsPartOf}

@@ -1,4 +1,4 @@
--- Consequences of a result.
+-- Facts about `Ok` and `Err` results.
 use Rattle.std.specs.Prelude.{Result, Ok, Err, IfErr, OnOk}
 
 -- a fact holds for an `Ok` result, too

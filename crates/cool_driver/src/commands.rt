@@ -1,4 +1,4 @@
-//! The commands, in a file each: the requested command is done, and its end is returned.
+//! The commands of `cool`, in a file each.
 
 pub mod big;
 pub mod build;

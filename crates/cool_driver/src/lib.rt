@@ -1,4 +1,4 @@
-//! The program: one call, `cool`, over its arguments and the outside.
+//! The program: the function `cool`, which does what its arguments ask for over the files, input and writers that it is given.
 //!
 //! Input: words, files, input. Output: output, notes and a status. It implements `specs/Ends.antt`.
 #![tactic(auto)]

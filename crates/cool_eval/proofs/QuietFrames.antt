@@ -1,4 +1,4 @@
--- Frames that no call waits in.
+-- The frames in which no call waits: all except those that wait for the receiver of a dispatch.
 use Rattle.std.proofs.Common.{◌≡◌, ℕ, List, Option, Vec, refl}
 use denote.Ref.{Bor}
 use Rattle.cool_syntax.specs.declared.place.Place.{Place}

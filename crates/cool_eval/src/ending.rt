@@ -1,4 +1,4 @@
-//! The reasons why a run ends before its value, and the run-time errors.
+//! The reasons why a run ends without a value, and the run-time errors.
 
 ghost use Rattle.std.specs.Prelude.{◌≡◌};
 

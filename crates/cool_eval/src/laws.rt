@@ -1,4 +1,4 @@
-//! Theorems on evaluations: their puts are their output, and a stopped one did a part of its run.
+//! Theorems about evaluations: the puts of a run are its output, and a run that is cut short did a part of the whole run.
 
 ghost use Rattle.std.specs.Prelude.{◌≡◌, ℕ, List, Option};
 ghost use Rattle.std.specs.List.{concat};

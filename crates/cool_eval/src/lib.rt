@@ -1,4 +1,4 @@
-//! Running programs without a machine: an interpreter over the meaning of the source.
+//! An interpreter, which runs programs by the meaning of their source, without a machine.
 //!
 //! Input: a typed program, a source and a sink. Output: how its run ends. It implements `specs/Ends.antt`, by the run of the program that
 //! `cool_meaning` defines. `specs/StackMachine.antt` is a machine with a stack of frames whose steps the code takes; `proofs/StepsMean.antt` shows

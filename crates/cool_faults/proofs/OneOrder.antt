@@ -1,4 +1,4 @@
--- Two lists in order of the same faults are one list, where no two faults have one standing.
+-- Two ordered lists of the same faults are the same list if no two of the faults have the same standing, which is a place and a rank.
 use Rattle.std.proofs.Common.{◌≡◌, ◌⊎◌, inl, inr, ℕ, ◌+◌, ◌<◌, ◌≤◌, List, [], ◌∷◌, sum_by, ap, sym, ◌∙◌, refl, subst, arith}
 use Rattle.std.proofs.lemmas.Bool.{cases_eq}
 use Rattle.std.specs.List.{AllByRecursion}

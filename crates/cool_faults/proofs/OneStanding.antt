@@ -1,4 +1,4 @@
--- Two faults of one standing that are found before typing are one: a kind is known by its rank.
+-- Two faults before typing with the same place and rank are the same fault, because each kind has its own rank.
 use Rattle.std.proofs.Common.{◌≡◌, ℕ, ◌+◌, ◌<◌, List, [], ◌∷◌, Some, slice_get, ap, sym, ◌∙◌, refl, arith}
 use Rattle.std.proofs.lemmas.Option.{same_Some, slice_get_within}
 use Rattle.cool_syntax.specs.declared.lexical.LexKind.{LexKind}

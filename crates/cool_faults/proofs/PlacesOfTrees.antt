@@ -1,4 +1,4 @@
--- A tree whose places are all such: its own mark and those of its parts. So is the tree of tokens that all stand at such places.
+-- If all tokens of an expression or a feature are at places with a property, all places of its tree have this property.
 use Rattle.std.proofs.Common.{ℕ, List, [], ◌∷◌, ◌++◌, Option, Some, None, true, false}
 use Rattle.std.specs.Prelude.{IfSome}
 use Rattle.std.specs.List.{AllByRecursion}

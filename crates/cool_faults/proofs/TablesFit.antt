@@ -1,4 +1,4 @@
--- The table of definitions that keep the limits keeps them.
+-- If definitions keep the limits on sizes, names, constants and places, so does their class table.
 use Rattle.std.proofs.Common.{◌≡◌, ℕ, ◌≤◌, List, [], ◌∷◌, length, take, drop, refl, ap, sym, subst, arith}
 use Rattle.std.specs.List.{AllByRecursion}
 use Rattle.std.proofs.lemmas.List.{take-append-drop}

@@ -1,4 +1,4 @@
-//! Whether files are a program.
+//! The verdict on files: whether they are a program.
 
 ghost use Rattle.std.specs.Prelude.{◌≤◌, IfOk, MatchResult, length};
 ghost use Rattle.cool_syntax.specs.declared.TheConstants.{MOST_FILES, MOST_SOURCE_BYTES};

@@ -1,4 +1,4 @@
-//! The findings of a phase in its inputs, one after the other.
+//! The findings of a phase: its results and its faults, added file by file.
 
 ghost use Rattle.std.specs.Prelude.{◌≡◌, [], MatchResult};
 ghost use Rattle.cool_faults.specs.Phases.{AreFaultsOf};

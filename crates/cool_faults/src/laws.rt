@@ -1,4 +1,4 @@
-//! Laws on the faults and the verdict of files: there is one of each, and faults of classes and features are those of the rows.
+//! Theorems about files: they have one fault list and one verdict, and their faults of classes and features are those of the rows of `cool_classes`.
 
 ghost use Rattle.cool_faults.specs.Laws.{AreAcceptedWhereFaultless, AreFaultlessWhereAccepted, AreNeverBoth, AreNeverBothUntyped, AreOneProgram, HaveFaultsOfRows, HaveOneFaultList, HaveVerdicts};
 

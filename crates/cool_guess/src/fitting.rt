@@ -1,4 +1,4 @@
-//! Words that fit between two lexemes: those that stand between such ones elsewhere in the text, or in a text that shows how Cool is written.
+//! Words that fit between two lexemes: those between similar lexemes elsewhere in the text, or in a sample of Cool.
 
 use crate::kind::{Kind, is_keyword, is_number, kind_of};
 use crate::lexeme::{Lexeme, lexemes, part, word_at, word_before};

@@ -1,4 +1,4 @@
-//! Lexemes of any text, good or bad: where they begin and end. A byte that begins no lexeme is one of its own.
+//! Lexemes of any text, valid or not: where they begin and end. A byte that begins no lexeme is one of its own.
 
 ghost use Rattle.std.specs.Prelude.{◌≤◌, length};
 

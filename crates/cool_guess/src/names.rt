@@ -1,4 +1,4 @@
-//! The names that files have.
+//! The names in files: those near to a word, and those of classes.
 
 use crate::definition::is_class;
 use crate::kind::{is_keyword, is_name, is_type_name};

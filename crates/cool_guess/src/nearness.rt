@@ -1,4 +1,4 @@
-//! The nearness of words, as of a word to one that was mistyped.
+//! The nearness of words: the number of changes from one to another, and whether one may be a mistyped form of the other.
 
 ghost use Rattle.std.specs.Prelude.{◌≤◌, length};
 

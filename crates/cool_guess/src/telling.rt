@@ -1,4 +1,4 @@
-//! The difference of two texts, and the words on it.
+//! The difference of two texts, and the description of an edit in words.
 
 use crate::candidate::Reason;
 use crate::lexeme::{is_name_byte, line_length, part};

@@ -1,4 +1,4 @@
--- Items: the text found at a front is one, there is at most one, and each has a byte.
+-- Items at the front of a text: each text with a byte begins with an item or a fault. A text begins with at most one item, and an item has at least one byte.
 use Rattle.std.proofs.Common.{◌≡◌, ◌∙◌, sym, ap, subst, arith, ℕ, zero, suc, ◌+◌, ◌-◌, ◌<◌, ◌≤◌, List, [], ◌∷◌, length, take, drop, get_or}
 use Rattle.std.specs.Prelude.{Some}
 use Rattle.cool_syntax.specs.Lexemes.{Form, class_of, form}

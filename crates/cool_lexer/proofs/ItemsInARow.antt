@@ -1,4 +1,4 @@
--- Items in a row.
+-- Items of a text, one after another: their tokens, and the runs of these tokens.
 use Rattle.std.proofs.Common.{◌≡◌, ◌∙◌, sym, ap, refl, subst, arith, ℕ, ◌+◌, ◌<◌, ◌≤◌, Bool, true, false, List, [], ◌∷◌, ◌++◌, length, drop, append_assoc, length-append}
 use Rattle.std.specs.Prelude.{if◌then◌else◌}
 use Rattle.cool_syntax.specs.declared.TheConstants.{MOST_TOKENS}

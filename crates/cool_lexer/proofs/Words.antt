@@ -1,4 +1,4 @@
--- The front of a word, from the facts that its parts give.
+-- The word at the front of a text, made of its bytes, its kind and its size.
 use Rattle.std.proofs.Common.{◌≡◌, ◌∙◌, sym, ap, arith, ℕ, suc, ◌+◌, Bool, List, ◌∷◌, take, map}
 use Rattle.std.specs.List.{prefix_len}
 use Rattle.cool_syntax.specs.declared.token.TokenKind.{TokenKind}

@@ -1,4 +1,4 @@
--- The columns of a program have a type for each node of the expressions of its features, and are those that are told.
+-- The columns of a program, which the listing writes: each column has a type for each node of the expression of a feature.
 use Rattle.std.proofs.Common.{◌≡◌, ◌∙◌, ℕ, ◌<◌, ◌^◌, List, length, get_or, ap, sym, refl, subst, arith}
 use Rattle.std.specs.Prelude.{Option, Some, None, slice_get}
 use Rattle.std.proofs.lemmas.Option.{slice_get_read}

@@ -1,4 +1,4 @@
--- A call with fresh devices, which did nothing before, listed, refused or was cut short as its process did.
+-- If the devices of a call did nothing before, the listing, refusal or interruption of the call is that of its process.
 use Rattle.std.proofs.Common.{◌≡◌, ℕ, ◌⊎◌, inl, inr, List, [], ◌∙◌, subst}
 use Rattle.std.specs.Prelude.{Option, Some}
 use Rattle.cool_ports.specs.SinkBytes.{GotPrefix}

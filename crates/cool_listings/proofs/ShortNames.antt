@@ -1,4 +1,4 @@
--- Names that fit a program are short.
+-- The names that `fit` of `Ends.antt` admits for the form `Code` are short enough for a build.
 use Rattle.std.proofs.Common.{◌≡◌, ℕ, List, [], ◌∷◌, length}
 use Rattle.std.specs.Prelude.{nat_le, true}
 use Rattle.std.proofs.lemmas.Bool.{and_parts, leb-true}

@@ -1,4 +1,4 @@
-//! The call: from a form and names of files to the lines.
+//! The listing of files by their names: the text of a form is made and written.
 
 ghost use Rattle.std.specs.Prelude.{◌≡◌, ◌≢◌, ◌<◌, ◌≤◌, ◌⊎◌, [], ◌++◌, length, map, string_bytes, IfOk, IfErr, IsErrOf, OnOk, true, false};
 ghost use Rattle.cool_syntax.specs.declared.TheConstants.{MOST_FILES};

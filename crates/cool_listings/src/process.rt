@@ -1,4 +1,4 @@
-//! The call over the system: a runtime's files, and std's writers.
+//! Listings over the system: the files of a runtime, and the writers of std.
 
 ghost use Rattle.std.specs.Prelude.{◌≡◌, ◌≢◌, ◌⊎◌, [], map, string_bytes, Some};
 ghost use Rattle.cool_ports.specs.ShelfFiles.{AskedFront};

@@ -1,4 +1,4 @@
--- Faults after an edit, of which one more is passed.
+-- The comparison of the faults after an edit with those before it, one fault after another.
 use Rattle.std.proofs.Common.{◌≡◌, ℕ, ◌+◌, ◌<◌, ◌≤◌, List, [], ◌∷◌, ◌++◌, length, get_or, map, take, drop, nat_eq, true, subst, sym, ap, append_assoc, arith, ◌∙◌}
 use Rattle.std.proofs.lemmas.Bool.{eqb-true}
 use Rattle.std.proofs.lemmas.List.{map-append, map_push, take_all, take_more}

@@ -1,4 +1,4 @@
--- Explanations whose mends mend, to which one more comes.
+-- Explanations whose edits mend their faults, with one more explanation for the next fault.
 use Rattle.std.proofs.Common.{◌≡◌, ℕ, ◌+◌, ◌<◌, suc, List, [], ◌∷◌, ◌++◌, length, get_or, map, take, Option, Some, None, IfSome, arith, subst, sym, ap, ◌∙◌}
 use Rattle.std.proofs.lemmas.List.{length-map, length-take, map_push, take_more}
 use Rattle.std.specs.List.{AllByRecursion}

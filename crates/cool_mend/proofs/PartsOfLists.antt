@@ -1,4 +1,4 @@
--- A list without some of its items, to which one more comes.
+-- A list that is a part of another list stays one if the other list gets an item, or if both get it.
 use Rattle.std.proofs.Common.{List, [], ◌∷◌, ◌++◌}
 use Rattle.cool_mend.specs.Mends.{IsPart, none, kept, left}
 

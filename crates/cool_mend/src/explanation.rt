@@ -1,4 +1,4 @@
-//! Explanations.
+//! Explanations of faults, and notices about programs.
 
 use crate::edit::Edit;
 use cool_faults::Fault;

@@ -1,4 +1,4 @@
-//! Whether a fault list, which files have after an edit, mends a fault of the one before.
+//! The test whether an edit mends a fault, by the fault lists of the files before and after the edit.
 
 ghost use Rattle.std.specs.Prelude.{◌≡◌, ◌≤◌, ◌+◌, ◌++◌, ◌∷◌, [], List, IfSome, map, length, take, drop, true};
 ghost use Rattle.cool_faults.specs.Files.{bytes_of};

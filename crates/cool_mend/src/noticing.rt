@@ -1,4 +1,4 @@
-//! Expressions that are legal in a program, and likely a mistake.
+//! Notices about expressions that are legal and likely a mistake.
 
 ghost use Rattle.std.specs.Prelude.{◌≡◌, List, map, take, option_map, IfOk, OnOk};
 ghost use Rattle.cool_notices.specs.declared.kind.Notice.{Notice as Due};

@@ -1,5 +1,5 @@
--- Definitions that declare the same: where no phase before typing finds a fault in the ones, none finds one in the others, and their
--- classes have the same signatures.
+-- Definitions that declare the same as others: if no phase before typing finds a fault in one list, none finds one in the other. The classes of both lists
+-- have the same signatures.
 use Rattle.std.proofs.Common.{◌≡◌, ℕ, zero, suc, List, [], ◌∷◌, ◌++◌, map, length, drop, Option, Some, None, refl, sym, ap, ◌∙◌, subst}
 use Rattle.std.specs.Prelude.{codes, is_some, option_map}
 use Rattle.std.proofs.lemmas.List.{length-map}

@@ -1,4 +1,4 @@
--- A check of the files that a base is of: its fault list, where the faults stand, and how many features it types.
+-- A check of unchanged files: its fault list, the places of the faults, and the number of features that it types.
 use Rattle.std.proofs.Common.{◌≡◌, ℕ, ◌<◌, List, Option, Some, None, IfSome, Bool, true, length, refl, sym, subst, arith}
 use Rattle.std.specs.Global.{Vec}
 use Rattle.std.specs.List.{AllByRecursion}

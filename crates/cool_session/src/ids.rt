@@ -1,4 +1,4 @@
-//! The features of a table in order, each by its class and its number there.
+//! The positions of the features of a class table in order: the class of each feature, and the number of the feature in this class.
 
 ghost use Rattle.std.specs.Prelude.{◌≡◌, ◌<◌, ◌^◌, ◌++◌, length, IfOk, OnOk};
 ghost use Rattle.cool_session.specs.Ids.{ids, ids_in};

@@ -1,4 +1,4 @@
-//! Typing the features of files that have no stored result.
+//! Typing of the features that have no stored result.
 
 ghost use Rattle.std.specs.Prelude.{◌≡◌, ◌<◌, ◌^◌, length, IfSome, IfNone, IfOk, OnErr};
 ghost use Rattle.std.specs.List.{AllByRecursion};

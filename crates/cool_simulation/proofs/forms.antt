@@ -1,4 +1,4 @@
--- The forms of expressions: the code of each does what it means, where that of its parts does; and the basic methods.
+-- The forms of expressions: the code of each does what it means, if the code of its parts does; and the basic methods.
 pub mod Arguments
 pub mod Arithmetic
 pub mod Assignments

@@ -1,4 +1,4 @@
--- The results of a shelf that had not been asked for any file before.
+-- The files that a shelf gave, if the shelf had not been asked for any file before.
 use Rattle.std.proofs.Common.{◌≡◌, ℕ, ◌⊎◌, inl, inr, List, [], ◌∷◌, ◌++◌, length, refl, sym, ◌∙◌, ap, arith}
 use Rattle.std.proofs.lemmas.List.{length_push}
 use Rattle.std.specs.Prelude.{Option, Some}

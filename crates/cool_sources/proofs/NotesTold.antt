@@ -1,4 +1,4 @@
--- The note of a status that was written.
+-- The note for a status: if no write failed, it is the note of the status that the call returns.
 use Rattle.std.proofs.Common.{◌≡◌, ◌≢◌, ◌⊎◌, inl, inr, ap, ◌∙◌, sym}
 use Rattle.cool_sources.specs.declared.status.Status.{Status}
 use Rattle.cool_sources.specs.declared.status.Status.TheVariants.{WriteFault}

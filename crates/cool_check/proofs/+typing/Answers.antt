@@ -1,5 +1,5 @@
--- A fault in a part stands where the part does. The type of an expression, its static type, comes after those of its parts; a variable has the
--- type that its declared name means.
+-- `type_of` and the functions of its cycle add the static type of each node after those of its parts. A fault that a part returns is in one of the program's
+-- files, as the part is.
 use Rattle.std.proofs.Common.{◌≡◌, ◌+◌, ◌<◌, ◌++◌, ◌∙◌, Err, drop, map, ap, sym, subst, rules, arith, List}
 use Rattle.std.proofs.lemmas.Grind.{common_steps, elements, moves, pieces}
 use Rattle.std.specs.Prelude.{IfErr, OnOk}

@@ -1,5 +1,5 @@
--- Parts have smaller numbers. After the parts that were checked the scope is as before, the types are types of the table, and those of the
--- nodes were added.
+-- `type_of` and the functions of its cycle end, because parts have smaller numbers. In their loops, the scope is as before, and the types of the nodes of the
+-- parts so far are added.
 use Rattle.std.proofs.Common.{◌≡◌, ◌+◌, ◌*◌, ◌<◌, ◌≤◌, [], ◌++◌, None, length, map, drop}
 use Rattle.std.specs.Prelude.{IfSome}
 use Rattle.std.specs.List.{AllByRecursion}

@@ -1,4 +1,4 @@
--- The end of a call of `session`: its result is that of the session that its input is, and its input is only one session.
+-- The end of a call of `session`: its result is that of the session in its input, and the input has only one session.
 use Rattle.std.proofs.Common.{Err, List, Ok, Result, [], ap, arith, inl, inr, refl, sym, ℕ, ◌≡◌, ◌⊎◌}
 use Rattle.cool_ports.specs.Counts.{Rose}
 use Rattle.cool_session.proofs.OneExchange.{one_exchange}

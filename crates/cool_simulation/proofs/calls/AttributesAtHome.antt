@@ -1,4 +1,4 @@
--- The attributes of a class are at home in the words of self, and with formals in front of them all names of a body are.
+-- The homes of a class's attributes are words of the object `self`. Together with the formals, all names of a body have homes.
 use Rattle.std.proofs.Common.{◌≡◌, ◌≢◌, ℕ, suc, ◌+◌, ◌-◌, ◌*◌, ◌<◌, ◌≤◌, inr, List, [], ◌∷◌, ◌++◌, map as each, length, get_or, Bool as Truth, true, false, cond, not, refl, sym, ap, ◌∙◌, subst, arith, append_assoc}
 use Rattle.std.specs.Prelude.{slice_get}
 use Rattle.std.specs.List.{AllByRecursion, position_or_len}

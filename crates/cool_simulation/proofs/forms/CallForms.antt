@@ -1,4 +1,4 @@
--- Dispatch and static dispatch up to their call: the arguments, the receiver, and the end where it is void.
+-- Dispatch and static dispatch up to their call: the arguments, the receiver, and the end of the run if the receiver is void.
 use Rattle.std.proofs.Common.{◌≡◌, ℕ, ◌+◌, ◌-◌, ◌*◌, ◌<◌, ◌≤◌, List, [], ◌∷◌, ◌++◌, length, get_or, map as each, Some, refl, sym, ap, ◌∙◌, subst, arith, inl, inr}
 use Rattle.std.specs.Prelude.{Contains, codes}
 use Rattle.mips_isa.specs.declared.address_map.TheConstants.{HEAP_START}

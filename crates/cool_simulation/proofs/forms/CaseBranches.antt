@@ -1,4 +1,4 @@
--- The branch of a case that is taken: its body runs with the value as its variable, and behind it that is popped.
+-- The branch of a case that is taken: its body runs with the value as its variable, and then the value is popped.
 use Rattle.std.proofs.Common.{◌≡◌, ℕ, ◌+◌, ◌-◌, ◌*◌, ◌≤◌, List, [], ◌∷◌, ◌++◌, length, Option, Some, None, Bool as Truth, true, false, subst, arith, sym}
 use Rattle.std.specs.Prelude.{if◌then◌else◌, bytes_eq}
 use Rattle.mips_isa.specs.Bytes.{Bytes, set_word}

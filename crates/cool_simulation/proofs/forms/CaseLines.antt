@@ -1,4 +1,4 @@
--- The lines of a case behind the code of its value: to the end where that is void, or with the tag to the tests; a test; and the ends.
+-- The lines of a case after the code of its value: the test whether the value is void, the tests of its tag, and the ends.
 use Rattle.std.proofs.Common.{◌≡◌, ℕ, zero, suc, ◌+◌, ◌-◌, ◌<◌, ◌≤◌, ◌⊎◌, inl, inr, [], ◌∷◌, refl, ◌∙◌, arith, true, false}
 use Rattle.std.specs.Prelude.{ℤ, pos, not, ◌==◌, nat_lt}
 use Rattle.mips_isa.specs.Words.{bits_of}

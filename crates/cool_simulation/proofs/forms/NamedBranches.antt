@@ -1,5 +1,5 @@
--- The branch of a case by the name of its class: the first that names the nearest class is the first that fits in the order of the code, and
--- the other way.
+-- The branch of a case by the name of its class: the first that names the nearest class is the first that fits in the order of the code. The converse holds
+-- too.
 use Rattle.std.proofs.Common.{◌≡◌, ◌≢◌, inl, inr, ℕ, ◌+◌, ◌<◌, List, [], ◌∷◌, length, Option, Some, None, Bool as Truth, true, false, ap, sym, ◌∙◌, refl, subst}
 use Rattle.std.specs.Prelude.{bytes_eq, if◌then◌else◌, nat_eq}
 use Rattle.std.specs.List.{AllByRecursion}

@@ -1,4 +1,4 @@
--- A method's place in the dispatch tables: that of a class is that of each class below it.
+-- The slots of methods in the dispatch tables: a method has the same slot in its class and in each class below it.
 use Rattle.std.proofs.Common.{◌≡◌, ℕ, ◌<◌, List, length, Option, Some, is_some, refl, ap, ◌∙◌}
 use Rattle.cool_classes.specs.declared.class_id.ClassId.{ClassId}
 use Rattle.cool_classes.specs.declared.method.MethodRef.{MethodRef}

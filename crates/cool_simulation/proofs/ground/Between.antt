@@ -1,4 +1,4 @@
--- Numbers between two others, as a test.
+-- The test whether a number is between two others.
 use Rattle.std.proofs.Common.{◌≡◌, ℕ, ◌<◌, ◌≤◌, Bool as Truth, true, false, arith}
 use Rattle.std.specs.Prelude.{nat_le, nat_lt, ◌&&◌}
 

@@ -1,4 +1,4 @@
--- The code of an expression has a word, where each name in it is in scope and no block is empty.
+-- The code of an expression has at least one word if each name in it is in scope and no block in it is empty.
 use Rattle.std.proofs.Common.{◌≡◌, ℕ, ◌+◌, ◌≤◌, List, [], ◌∷◌, ◌++◌, Bool as Truth, true, false, Option, Some, refl, sym, subst, arith}
 use Rattle.std.specs.Prelude.{bytes_eq, codes, if◌then◌else◌}
 use Rattle.mips_isa.specs.Lines.{Line}

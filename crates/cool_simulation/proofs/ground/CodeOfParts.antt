@@ -1,4 +1,4 @@
--- The code of a part stands where that of the whole does, with what the whole asks for.
+-- The code of a part is a part of the code of the whole expression, and the constants that it uses are constants of the program.
 use Rattle.std.proofs.Common.{ℕ, suc, ◌+◌, ◌≤◌, List, ◌∷◌, ◌++◌, length, refl, arith}
 use Rattle.std.specs.Prelude.{Contains}
 use Rattle.std.proofs.lemmas.List.Elements.{Contains-append_left, Contains-append_right}

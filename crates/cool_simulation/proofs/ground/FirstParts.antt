@@ -1,4 +1,4 @@
--- A form that begins with a part: its part runs, and what follows begins behind it.
+-- A form that begins with a part: the code of the part runs first, and the rest of the form's code runs after it.
 use Rattle.std.proofs.Common.{◌≡◌, ℕ, ◌+◌, ◌-◌, ◌*◌, ◌≤◌, List, arith}
 use Rattle.mips_isa.specs.Bytes.{Bytes}
 use Rattle.mips_isa.specs.Calls.{State as Machine}

@@ -1,4 +1,4 @@
--- The features of a loaded program are quiet: where nothing is watched, there is no mark.
+-- If nothing is watched, the text has no mark, and the features of a loaded program are quiet.
 use Rattle.std.proofs.Common.{◌≡◌, ℕ, ◌+◌, ◌<◌, ◌≤◌, List, [], ◌∷◌, length, Option, None, Some, Bool as Truth, false, refl, ap, subst, sym}
 use Rattle.std.specs.Prelude.{IfSome, slice_get}
 use Rattle.cool_syntax.specs.declared.file_tree.Feature.{Feature}

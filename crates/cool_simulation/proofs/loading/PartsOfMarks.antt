@@ -1,5 +1,4 @@
--- Marks in parts of a text that stand one behind the other: where each mark is the beginning of a span of the whole, and the spans of a part
--- begin within it, each mark in a part is the beginning of one of its spans.
+-- If each mark of a text begins a span, and the spans of each part begin within it, each mark in a part begins a span of this part.
 use Rattle.std.proofs.Common.{◌≡◌, ℕ, zero, suc, ◌+◌, ◌%◌, ◌<◌, ◌≤◌, ◌⊎◌, inl, inr, List, [], ◌∷◌, ◌++◌, Bool as Truth, true, false, refl, subst, arith}
 use Rattle.std.specs.Prelude.{Contains, flat_map}
 use Rattle.std.proofs.lemmas.List.Elements.{Contains-append_cases}

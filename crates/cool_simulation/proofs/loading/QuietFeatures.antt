@@ -1,5 +1,4 @@
--- The features of a program in a text with marks: where each mark of the text is the beginning of a span of the program, and the bodies and
--- initial values are quiet wherever they stand, each method and each initializer is.
+-- The features of a program in a text whose marks begin spans: if bodies and initial values are quiet at any address, so are methods and initializers.
 use Rattle.std.proofs.Common.{◌≡◌, ℕ, zero, suc, ◌+◌, ◌%◌, ◌<◌, ◌≤◌, ◌⊎◌, inl, inr, List, [], ◌∷◌, ◌++◌, length, map as each, Option, None, Some, Bool as Truth, true, refl, sym, ap, ◌∙◌, subst, arith, le-ltb, ◌*◌}
 use Rattle.std.specs.Prelude.{Contains, IfSome, flat_map, nat_lt, slice_get, if◌then◌else◌, pos}
 use Rattle.std.proofs.lemmas.List.Elements.{Contains-append_cases}

@@ -1,5 +1,5 @@
--- The bodies and the initial values of a typed program without empty blocks: each name of their scopes has a variable, so their spans begin within
--- their code, and they are quiet where each mark is the beginning of a span.
+-- The bodies and the initial values of a typed program without empty blocks: their spans begin within their code. They are quiet if each mark is the beginning
+-- of a span.
 use Rattle.std.proofs.Common.{◌≡◌, ℕ, ◌+◌, ◌<◌, List, [], ◌∷◌, ◌++◌, Some, Bool as Truth, true, false, refl, ap, subst, length}
 use Rattle.std.specs.Prelude.{bytes_eq, slice_get, if◌then◌else◌}
 use Rattle.std.proofs.lemmas.List.Elements.{All-contains, All-from_recursion}

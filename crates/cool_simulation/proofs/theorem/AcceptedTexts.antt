@@ -1,4 +1,4 @@
--- The strings of accepted files are texts, where the files are bytes and their names are texts.
+-- The strings of accepted files are texts, if the files are bytes and their names are texts.
 use Rattle.std.proofs.Common.{ℕ, ◌+◌, List, [], ◌∷◌}
 use Rattle.std.specs.List.{AllByRecursion}
 use Rattle.cool_syntax.specs.declared.file_tree.FileTree.{FileTree}

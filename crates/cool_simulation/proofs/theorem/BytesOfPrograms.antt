@@ -1,4 +1,4 @@
--- The features of the table that classes mean have bytes as their strings, where those of the classes do.
+-- If the strings of class definitions are bytes, so are those of the features of their class table.
 use Rattle.std.proofs.Common.{◌≡◌, ℕ, zero, suc, List, [], ◌∷◌, map, get_or, Some, sym, subst}
 use Rattle.std.specs.Prelude.{slice_get}
 use Rattle.std.specs.List.{AllByRecursion}

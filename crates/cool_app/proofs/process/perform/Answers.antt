@@ -1,4 +1,4 @@
--- The devices are made anew.
+-- `perform` calls `cool_over_system` with new devices: its clauses are those of `cool_over_system` for devices that did nothing before.
 use Rattle.cool_app.proofs.FreshDevices.{fresh_ends, fresh_ran}
 use Rattle.cool_app.proofs.process.perform.Goals as goal
 

@@ -1,4 +1,4 @@
--- The lines of the numbers so far.
+-- In the loop of `push_lines`, the lines of the numbers below the present one are added.
 use Rattle.std.proofs.Common.{◌≡◌, ◌≤◌, ◌-◌, ◌++◌}
 use Rattle.cool_big.specs.BigPrograms.{line_texts}
 use Rattle.cool_big.proofs.line.push_lines.Given as goal

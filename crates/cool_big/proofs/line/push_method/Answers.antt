@@ -1,4 +1,4 @@
--- The parts of the method one by one.
+-- `push_method` adds the four parts of the text of a method, one after another.
 use Rattle.std.proofs.Common.{◌≡◌, ℕ, ◌+◌, List, ◌++◌, codes, if◌then◌else◌, Result, Ok, Err, OnOk, ap, ◌∙◌, append_assoc}
 use Rattle.std.specs.Result.{is_ok}
 use Rattle.cool_big.specs.BigPrograms.{numbered}

@@ -1,4 +1,5 @@
--- Faults in order stand where they stood.
+-- `check` puts the faults in order and changes no place. If there is no fault, the table is well typed, and `check_classes` has returned the types of its
+-- nodes.
 use Rattle.std.proofs.Common.{◌≡◌, ℕ, suc, List, [], ◌∷◌, length, true, ap, ◌∙◌, refl, subst, sym, arith}
 use Rattle.std.specs.Prelude.{◌==◌}
 use Rattle.std.specs.List.{AllByRecursion}

@@ -1,4 +1,4 @@
--- The result of a feature, its fault or the types of its nodes, comes before those of the features left.
+-- Each step of the loop of `check_class` adds the result of one feature, a fault or the types of its nodes, before those of the features that are left.
 use Rattle.std.proofs.Common.{◌≡◌, ◌++◌, ◌∷◌, [], ◌+◌, ◌∙◌, List, Ok, Err, drop, ap, subst, sym}
 use Rattle.std.specs.Global.{Vec}
 use Rattle.std.specs.List.{AllByRecursion}

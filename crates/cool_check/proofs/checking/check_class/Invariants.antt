@@ -1,5 +1,5 @@
--- The faults so far with those of the features that are left are all, and so are the types of nodes while there is no fault. If the features and the
--- earlier faults stand in so many files, so do the faults.
+-- In the loop of `check_class`, the results so far, followed by those of the features that are left, are all results. Each fault is in one of the files if the
+-- features are.
 use Rattle.std.proofs.Common.{◌≡◌, ℕ, [], ◌++◌, drop}
 use Rattle.std.specs.List.{AllByRecursion}
 use Rattle.cool_syntax.specs.TokenFacts.{IsPlaced}

@@ -1,4 +1,4 @@
--- The results of the next class come first among those left, and its features stand in the files as well.
+-- Each step of the loop of `check_classes` adds the faults and the types of one class before those of the classes that are left.
 use Rattle.std.proofs.Common.{◌++◌, ◌+◌, ◌∙◌, List, drop, ap, arith, sym}
 use Rattle.std.specs.Global.{Vec}
 use Rattle.lists.proofs.JoinedLists.{none_both}

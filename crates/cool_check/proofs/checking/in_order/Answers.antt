@@ -1,4 +1,4 @@
--- The order of the sort is that of the places and the kinds, and it only moves faults.
+-- `in_order` sorts faults by file, byte, kind and line. The sort only moves faults, so each fault has the place that it had.
 use Rattle.std.proofs.Common.{◌≡◌, false, get_or, subst, rules, arith}
 use native.Mathlib.Numerals.{add-one}
 use Rattle.std.specs.Ordering.{is_lt}

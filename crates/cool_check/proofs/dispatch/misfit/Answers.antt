@@ -1,4 +1,5 @@
--- The argument that does not conform stands in one of the files, and those before it conform.
+-- Each step of the loop of `misfit` passes one argument that conforms to its formal. The place of the fault that `misfit` returns is that of an argument in
+-- one of the files.
 use Rattle.std.proofs.Common.{ap, sym, subst, ◌∙◌, arith}
 use Rattle.cool_syntax.specs.Tree.{place_of}
 use Rattle.cool_syntax.specs.NodeLists.{all_trees}

@@ -1,4 +1,4 @@
--- The arguments before this one conform.
+-- In the loop of `misfit`, the first misfit among the arguments that are left is the first among all arguments.
 use Rattle.std.proofs.Common.{◌≡◌, map, drop}
 use Rattle.cool_syntax.specs.Tree.{of_list}
 use Rattle.cool_syntax.specs.NodeLists.{all_trees, at_id}

@@ -1,4 +1,4 @@
--- A type found in either scope is a type of the table.
+-- `type_of_name` returns a type of the table: the scope of the variables and the scope of the attributes contain no others.
 use Rattle.std.proofs.Common.{◌≡◌, ◌∙◌, Some, subst, sym, ap₂, rules}
 use Rattle.std.specs.Prelude.{IfSome}
 use Rattle.std.specs.Option.{option_or}

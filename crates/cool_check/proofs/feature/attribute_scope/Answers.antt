@@ -1,4 +1,5 @@
--- The attributes of the chain are entered in their order, each with the type that its name means.
+-- `attribute_scope` enters the attributes of a class in the order of its chain. Each step of its loop enters one attribute with its type by `type_meant` of
+-- `Rules.antt`.
 use Rattle.std.proofs.Common.{◌≡◌, ◌∙◌, ◌∷◌, List, map, ap, subst, sym, rules}
 use Rattle.std.specs.List.{AllByRecursion}
 use Rattle.cool_classes.specs.declared.method.AttributeRef.{AttributeRef}

@@ -1,4 +1,5 @@
--- The types of the nodes of the initial value were added to none, in a scope that is as that of the rules.
+-- `check_attribute` returns the types of the nodes of the initial value: its column of types starts empty, and its scope gives each name the type that the
+-- rules give.
 use Rattle.std.proofs.Common.{◌∙◌, ◌++◌, List, ap, sym, rules}
 use Rattle.std.specs.Prelude.{Option}
 use Rattle.cool_syntax.specs.Tree.{Tree}

@@ -1,4 +1,4 @@
--- The types of the nodes of the body were added to none, in a scope that is as that of the rules.
+-- `check_method` returns the types of the nodes of the body: its column of types starts empty, and its scope gives each name the type that the rules give.
 use Rattle.std.proofs.Common.{◌∙◌, ◌++◌, List, ap, rules}
 use Rattle.cool_syntax.specs.Tree.{Tree}
 use Rattle.cool_syntax.specs.NodeLists.{tree_at}

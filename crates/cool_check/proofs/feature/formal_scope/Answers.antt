@@ -1,4 +1,4 @@
--- The next formal is entered with the type that its name means.
+-- Each step of the loop of `formal_scope` enters the next formal with its type by `type_meant` of `Rules.antt`.
 use Rattle.std.proofs.Common.{◌≡◌, ◌+◌, ◌<◌, ◌∙◌, ◌∷◌, List, length, map, drop, get_or, ap, subst, rules}
 use Rattle.std.specs.List.{slice_get}
 use Rattle.cool_syntax.specs.declared.file_tree.Formal.{Formal}

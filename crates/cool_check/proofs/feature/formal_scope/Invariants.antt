@@ -1,4 +1,4 @@
--- The formals that were entered have types of the table, and those that are left make the scope.
+-- In the loop of `formal_scope`, the formals in scope have types of the table, and the formals that are left complete the scope.
 use Rattle.std.proofs.Common.{◌≡◌, map, drop}
 use Rattle.cool_rules.specs.Rules.{formal_binding}
 use Rattle.cool_rules.specs.Scopes.{AreTypes, entered}

@@ -1,4 +1,4 @@
--- The formals from one on are variables.
+-- In the loop of `arguments`, the variables so far are the formals from the present position on.
 use Rattle.std.proofs.Common.{◌≡◌}
 use Rattle.cool_eval.specs.Configurations.{locals_of}
 use Rattle.cool_eval.proofs.ArgumentsLocated.{located_from}

@@ -1,4 +1,5 @@
--- Each method over the source and the sink.
+-- `begin_call` does as `begin_call` of `StackMachine.antt` defines: it runs a method of a basic class on the source and the sink, and begins the body of any
+-- other method.
 use Rattle.std.proofs.Common.{◌≡◌, map, Some, Ok, Err, refl, sym, ap, ◌∙◌, rules}
 use Rattle.cool_ports.specs.SinkPuts.{seen}
 use Rattle.cool_classes.specs.declared.method.MethodRef.{MethodRef}

@@ -1,4 +1,4 @@
--- The body of a method is begun with its arguments at the locations behind the store.
+-- `begin_method` begins the body of a method as `begin_method` of `StackMachine.antt` defines, with the arguments at new locations at the end of the store.
 use Rattle.std.proofs.Common.{◌≡◌, ℕ, List, length, map, sym, ap, ◌∙◌}
 use Rattle.std.proofs.lemmas.List.{length-map}
 use Rattle.cool_syntax.specs.declared.file_tree.Formal.{Formal}

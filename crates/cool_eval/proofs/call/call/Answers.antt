@@ -1,4 +1,5 @@
--- A call on void, on a class that there is not, with no step left, and with one that is spent.
+-- `call` does as `call_class` of `StackMachine.antt` defines in each of four cases: the receiver is void, the class is unknown, no step is left, or the call
+-- spends one.
 use Rattle.std.proofs.Common.{◌≡◌, map, Some, Err, sym, ap, ◌∙◌, rules}
 use Rattle.cool_ports.specs.SinkPuts.{seen}
 use Rattle.cool_meaning.specs.Values.{class_of}

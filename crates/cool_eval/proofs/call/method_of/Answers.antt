@@ -1,4 +1,4 @@
--- The method of a class is that of its chain.
+-- `method_of` returns the method that `implementation` finds on the chain of a class. A number past the last class has no method.
 use Rattle.std.proofs.Common.{◌<◌, ◌≤◌, length, arith}
 use Rattle.cool_eval.proofs.MethodsCalled.{method_outside, method_inside}
 use Rattle.cool_eval.proofs.call.method_of.Goals as goal

@@ -1,4 +1,4 @@
--- The next class has the attributes of its chain.
+-- Each step of the loop of `layouts` adds the attributes of the next class, with those that it inherits.
 use Rattle.std.proofs.Common.{arith}
 use Rattle.cool_eval.proofs.LayoutsOfTables.{layouts_more}
 use Rattle.cool_eval.proofs.evaluation.layouts.Goals as goal

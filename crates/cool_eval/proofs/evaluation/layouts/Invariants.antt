@@ -1,4 +1,4 @@
--- So far the attributes of each class stand at its number.
+-- In the loop of `layouts`, the attributes of each class so far are at the number of the class.
 use Rattle.std.proofs.Common.{◌≡◌, length}
 use Rattle.cool_eval.proofs.LayoutsOfTables.{AreOf}
 use Rattle.cool_eval.proofs.evaluation.layouts.Given as goal

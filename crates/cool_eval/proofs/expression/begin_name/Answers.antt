@@ -1,4 +1,4 @@
--- A name that has no value is the end.
+-- If `value_named` returns an error, so does `begin_name`: the error ends the run, as `Comes` of `Configurations.antt` defines.
 use Rattle.std.proofs.Common.{◌≡◌, Err, rules}
 use Rattle.cool_meaning.specs.Evaluation.{value_named}
 use Rattle.cool_eval.specs.Values.{value_of}

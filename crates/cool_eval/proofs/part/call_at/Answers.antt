@@ -1,4 +1,4 @@
--- The parts of a dispatch of a body stand in it.
+-- `call_at` makes a `Call` of a dispatch of a body, because the parts of the dispatch are nodes of the same body.
 use Rattle.cool_syntax.specs.Tree.{tree_size}
 use Rattle.cool_eval.proofs.PartsOfCalls.{parts_below}
 use Rattle.cool_eval.proofs.part.call_at.Goals as goal

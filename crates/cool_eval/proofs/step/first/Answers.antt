@@ -1,4 +1,4 @@
--- The object of class Main is begun by the class of its name.
+-- `first` begins an object of the class that the table has under the name `Main`, as `begin_new` of `StackMachine.antt` defines.
 use Rattle.std.proofs.Common.{◌≡◌, sym, arith}
 use Rattle.std.proofs.lemmas.Grind.{common_steps}
 use Rattle.cool_rules.specs.Rules.{class_named}

@@ -1,4 +1,5 @@
--- A call, or a step that touches neither source nor sink.
+-- `give` does as `returned` of `StackMachine.antt` defines. A receiver leads to a call, and any other frame to a step of `resume` that uses neither source nor
+-- sink.
 use Rattle.std.proofs.Common.{map, ap}
 use Rattle.cool_ports.specs.SinkPuts.{seen}
 use Rattle.cool_eval.specs.Values.{value_of}

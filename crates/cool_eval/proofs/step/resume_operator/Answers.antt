@@ -1,4 +1,4 @@
--- Errors of operators are the end.
+-- If `negate`, `operate` or `compare` returns an error, so does `resume_operator`: the error ends the run, as `Comes` of `Configurations.antt` defines.
 use Rattle.std.proofs.Common.{◌≡◌, Err, rules}
 use Rattle.cool_meaning.specs.Evaluation.{compare}
 use Rattle.cool_eval.specs.Values.{value_of}

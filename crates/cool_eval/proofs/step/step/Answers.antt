@@ -1,4 +1,4 @@
--- An expression or an initial value is begun, or a value is returned.
+-- `step` does as `step` of `StackMachine.antt` defines: it begins an expression or an initial value, or passes a value to the frame that waits for it.
 use Rattle.std.proofs.Common.{◌≡◌, length, Some, Ok, Err, refl, ap, rules}
 use Rattle.cool_ports.specs.SinkPuts.{seen}
 use Rattle.cool_meaning.specs.Values as values

@@ -1,4 +1,4 @@
--- The bytes of the lines but the last one.
+-- `all_but_last` returns the lines that `all_but_last` of `Changes.antt` defines: all except the last one.
 use Rattle.std.proofs.Common.{◌≡◌, ◌-◌, ◌∙◌, ℕ, List, ap, arith, length, sym, take}
 use Rattle.std.specs.Global.{Vec}
 use Rattle.std.proofs.lemmas.List.{length-map, take-map}

@@ -1,4 +1,4 @@
--- The lines so far with those that are left are all.
+-- In the loop of `changed_lines`, the lines so far, followed by the changes of the lines that are left, are all changed lines.
 use Rattle.std.proofs.Common.{◌≡◌, ◌+◌, ◌++◌, drop}
 use Rattle.cool_faults.specs.Files.{bytes_of}
 use Rattle.cool_explanations.specs.Changes.{changed_lines}

@@ -1,4 +1,4 @@
--- The lines of both, those that come, and those that go.
+-- `changes` returns the lines that change, then those that an edit adds, then those that it removes.
 use Rattle.std.proofs.Common.{drop, take_all, length-drop, arith}
 use Rattle.cool_explanations.proofs.LinesChanged.{all_changes}
 use Rattle.cool_explanations.proofs.changes.changes.Goals as goal

@@ -1,4 +1,4 @@
--- The lines so far with those that are left are all.
+-- In the loop of `joined_lines`, the text so far, followed by the lines that are left, is the text of all lines.
 use Rattle.std.proofs.Common.{◌≡◌, ◌++◌, drop}
 use Rattle.std.specs.List.{concat}
 use Rattle.cool_faults.specs.Files.{bytes_of}

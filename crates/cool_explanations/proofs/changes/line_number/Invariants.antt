@@ -1,4 +1,4 @@
--- The newlines so far are counted.
+-- In the loop of `line_number`, `number` is one more than the number of newlines so far.
 use Rattle.std.proofs.Common.{◌≡◌, ◌≤◌, ◌+◌, take}
 use Rattle.std.specs.Prelude.{nat_eq}
 use Rattle.std.specs.List.{count_by}

@@ -1,4 +1,4 @@
--- The lines so far with those that are left are all.
+-- In the loop of `numbered_lines`, the numbered lines so far, followed by those of the lines that are left, are all numbered lines.
 use Rattle.std.proofs.Common.{◌≡◌, ◌+◌, ◌++◌, drop}
 use Rattle.cool_faults.specs.Files.{bytes_of}
 use Rattle.cool_explanations.specs.Changes.{numbered_lines}

@@ -1,4 +1,4 @@
--- The text was written, or a write failed; else there is only a note.
+-- `explain_names` writes the text of its answer, or returns `WriteFault` if a write failed. If it has no answer, it puts only the note of its status.
 use Rattle.std.proofs.Common.{◌∙◌, ℕ, List, ◌++◌, ap, inl, map, sym, subst, append-nil}
 use Rattle.std.specs.Prelude.{Bool, string_bytes}
 use Rattle.cool_ports.specs.SinkBytes.{appended}

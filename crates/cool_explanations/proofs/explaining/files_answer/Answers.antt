@@ -1,4 +1,4 @@
--- The text is that of the result of `explain`.
+-- `files_answer` returns the text of the result of `explain`, and says whether this result contains a fault.
 use Rattle.std.proofs.Common.{List, subst}
 use Rattle.cool_mend.specs.declared.explanation.Explanation.{Explanation}
 use Rattle.cool_explanations.specs.Ends.{HasFaults}

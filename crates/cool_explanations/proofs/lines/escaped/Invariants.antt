@@ -1,4 +1,4 @@
--- The bytes so far with those that are left are all.
+-- In the loop of `escaped`, the text so far, followed by the escaped bytes that are left, is the text of all bytes.
 use Rattle.std.proofs.Common.{◌≡◌, ◌++◌, drop}
 use Rattle.std.specs.List.{flat_map}
 use Rattle.cool_explanations.specs.Lines.{escaped_byte}

@@ -1,4 +1,4 @@
--- The lines so far with those that are left are all.
+-- In the loop of `fact_lines`, the text so far, followed by the lines of the facts that are left, is the text of all facts.
 use Rattle.std.proofs.Common.{◌≡◌, ◌++◌, drop}
 use Rattle.std.specs.List.{flat_map}
 use Rattle.cool_faults.specs.Files.{bytes_of}

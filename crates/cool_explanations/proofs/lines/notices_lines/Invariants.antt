@@ -1,4 +1,4 @@
--- The lines so far with those that are left are all.
+-- In the loop of `notices_lines`, the text so far, followed by the lines of the notices that are left, is the text of all notices.
 use Rattle.std.proofs.Common.{◌≡◌, ◌++◌, drop}
 use Rattle.std.specs.List.{flat_map}
 use Rattle.cool_explanations.specs.Lines.{notice_line}

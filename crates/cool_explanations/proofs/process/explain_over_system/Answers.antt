@@ -1,4 +1,4 @@
--- The clauses for devices that did nothing before.
+-- `explain_over_system` calls `explain_names` with new devices: its clauses are those of `explain_names` for devices that did nothing before.
 use Rattle.std.specs.Prelude.{true, false}
 use Rattle.cool_sources.proofs.FreshShelves.{after_none, were_unread}
 use Rattle.cool_explanations.proofs.FreshDevices.{has_explained, was_cut_short}

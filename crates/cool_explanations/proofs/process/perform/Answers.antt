@@ -1,4 +1,4 @@
--- The call is the one that the words ask for.
+-- `perform` calls `explain_over_system` with the form and the names that `form_asked` and `names_asked` of `Processes.antt` find in the arguments.
 use Rattle.std.proofs.Common.{◌≡◌, ◌⊎◌, inl, inr, true, false, ap}
 use Rattle.std.specs.Prelude.{codes}
 use Rattle.cool_sources.specs.CommandLine.{call_of, words_of}

@@ -1,4 +1,4 @@
--- The marks below the bytes so far.
+-- In the loop of `blanks`, the blanks so far, followed by those below the bytes that are left, are the blanks below all bytes.
 use Rattle.std.proofs.Common.{◌≡◌, ◌++◌, drop}
 use Rattle.std.specs.List.{flat_map}
 use Rattle.cool_explanations.specs.SourceLines.{blank_of}

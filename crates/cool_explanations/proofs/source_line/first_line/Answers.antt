@@ -1,4 +1,4 @@
--- The line ends at a newline, or one more byte is of it.
+-- `first_line` returns the bytes before the first newline: each step of its loop passes one byte that is not a newline.
 use Rattle.cool_explanations.proofs.LinesOfBytes.{first_more, first_stop}
 use Rattle.cool_explanations.proofs.source_line.first_line.Goals as goal
 

@@ -1,4 +1,4 @@
--- The bytes so far are of the line.
+-- In the loop of `first_line`, the bytes so far, followed by the first line of the bytes that are left, are the first line of all bytes.
 use Rattle.std.proofs.Common.{◌≡◌, ◌++◌, drop, take}
 use Rattle.cool_explanations.specs.SourceLines.{first_line}
 use Rattle.cool_explanations.proofs.source_line.first_line.Given as goal

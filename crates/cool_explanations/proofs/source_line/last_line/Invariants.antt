@@ -1,4 +1,4 @@
--- The last line so far begins at `start`.
+-- In the loop of `last_line`, the last line of the bytes so far begins at `start`.
 use Rattle.std.proofs.Common.{◌≡◌, ◌≤◌, drop}
 use Rattle.cool_explanations.specs.SourceLines.{last_start}
 use Rattle.cool_explanations.proofs.source_line.last_line.Given as goal

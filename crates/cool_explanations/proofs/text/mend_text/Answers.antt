@@ -1,4 +1,4 @@
--- The words on a mend, and behind them the lines.
+-- `mend_text` returns the line about a mend and then the lines that the mend changes.
 use Rattle.std.proofs.Common.{◌∙◌, ℕ, List, ◌++◌, ap, map}
 use Rattle.std.specs.Prelude.{string_bytes}
 use Rattle.cool_explanations.specs.Changes.{changed_text}

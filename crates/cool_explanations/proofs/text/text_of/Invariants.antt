@@ -1,4 +1,5 @@
--- The explanations so far with those that are left are all; what is left is placed.
+-- In the loop of `text_of`, the text so far, followed by that of the explanations that are left, is the text of all explanations. The faults that are left are
+-- in the files.
 use Rattle.std.proofs.Common.{◌≡◌, ◌++◌, drop, length, map}
 use Rattle.std.specs.Prelude.{string_bytes}
 use Rattle.std.specs.List.{AllByRecursion, flat_map}

@@ -1,4 +1,5 @@
--- Parts have smaller numbers, and the tokens written so far, followed by those of the parts left, are all.
+-- `write_expr` and the functions of its cycle end, because parts have smaller numbers. In their loops, the tokens so far, followed by those of the parts that
+-- are left, are all tokens.
 use Rattle.std.proofs.Common.{◌≡◌, ◌+◌, ◌*◌, ◌<◌, ◌++◌, map, drop}
 use Rattle.std.specs.List.{AllByRecursion}
 use Rattle.cool_syntax.specs.Tree.{of_list, of_twigs}

@@ -1,4 +1,4 @@
--- The classes are written, and written classes parse to themselves.
+-- `tokens_of` returns the tokens that `write_classes` writes for the classes of a tree. The grammar reads these tokens as the same classes.
 use Rattle.std.proofs.Common.{◌≡◌, rules, subst, sym}
 use Rattle.cool_syntax.specs.Grammar.{Parses}
 use Rattle.cool_syntax.specs.WrittenTrees.{written_classes}

@@ -1,4 +1,4 @@
--- The tokens written so far, followed by those of the classes left, are all.
+-- In the loop of `write_classes`, the tokens so far, followed by those of the classes that are left, are the tokens of all classes.
 use Rattle.std.proofs.Common.{◌≡◌, ◌++◌, drop}
 use Rattle.cool_syntax.specs.WrittenTrees.{written_classes}
 use Rattle.cool_expr.proofs.written_file.write_classes.Given as goal

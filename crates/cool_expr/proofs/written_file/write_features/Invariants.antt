@@ -1,4 +1,4 @@
--- The tokens written so far, followed by those of the features left, are all.
+-- In the loop of `write_features`, the tokens so far, followed by those of the features that are left, are the tokens of all features.
 use Rattle.std.proofs.Common.{◌≡◌, ◌++◌, drop}
 use Rattle.cool_syntax.specs.WrittenTrees.{written_features}
 use Rattle.cool_expr.proofs.written_file.write_features.Given as goal

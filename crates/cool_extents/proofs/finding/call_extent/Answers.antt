@@ -1,4 +1,4 @@
--- The extent goes from the token of the receiver to the one that ends the call.
+-- `call_extent` returns the extent from the first token of the receiver to the last token of the call, as `call_extent` of `FoundExtents.antt` defines.
 use Rattle.std.proofs.Common.{◌∙◌, ap}
 use Rattle.cool_extents.specs.FoundExtents.{token_place, extent_at, outer_first, call_last}
 use Rattle.cool_extents.proofs.ExtentsMade.{same_extent}

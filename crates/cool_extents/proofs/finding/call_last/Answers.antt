@@ -1,4 +1,4 @@
--- The last token of a call with arguments.
+-- `call_last` returns the closing parenthesis around the only argument of a call, or the token behind the last of several arguments.
 use Rattle.std.proofs.Common.{ℕ, ◌+◌, ◌∙◌, ap}
 use Rattle.cool_extents.specs.FoundExtents.{outer_last}
 use Rattle.cool_extents.proofs.ExtentsMade.{one_argument, more_arguments}

@@ -1,4 +1,4 @@
--- The parentheses that were counted, with those that the tokens left begin with, are all.
+-- In the loop of `closes`, the count so far and the closing parentheses at the front of the tokens that are left make the whole count.
 use Rattle.std.proofs.Common.{◌≡◌, ◌+◌, drop}
 use Rattle.cool_extents.specs.FoundExtents.{closes}
 use Rattle.cool_extents.proofs.finding.closes.Given as goal

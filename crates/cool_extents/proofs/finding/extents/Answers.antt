@@ -1,4 +1,4 @@
--- The extent of one more node is found.
+-- Each step of the loop of `extents` adds the extent of the next node.
 use Rattle.std.proofs.Common.{◌∙◌, List, ap, arith}
 use Rattle.cool_syntax.specs.NodeLists.{nodes}
 use Rattle.cool_syntax.proofs.TreesOfLists.{length-nodes}

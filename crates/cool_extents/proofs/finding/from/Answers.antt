@@ -1,4 +1,4 @@
--- The extent ends at the token that the definition counts to.
+-- `from` returns an extent whose last token is the one that `from` of `FoundExtents.antt` counts to.
 use Rattle.std.proofs.Common.{ℕ, ◌+◌, ◌∙◌, ap, refl}
 use Rattle.cool_extents.specs.FoundExtents.{token_place, latest, outer_last}
 use Rattle.cool_extents.proofs.ExtentsMade.{same_extent}

@@ -1,4 +1,4 @@
--- The extent goes from the word or the variable to the token that ends the body.
+-- `let_extent` returns the extent from the keyword `let`, or from the variable if `let` is not right before it, to the last token of the body.
 use Rattle.std.proofs.Common.{◌∙◌, ap}
 use Rattle.cool_extents.specs.FoundExtents.{token_place, number_of, latest, let_first, outer_last}
 use Rattle.cool_extents.proofs.ExtentsMade.{same_extent}

@@ -1,4 +1,4 @@
--- The extents of forms that have a function of their own.
+-- `node_extent` returns the result of `call_extent` for a call, of `let_extent` for a `let`, and of `operation_extent` for an operation.
 use Rattle.std.proofs.Common.{◌∙◌, ap, sym}
 use Rattle.cool_extents.specs.FoundExtents.{call_extent, node_extent}
 use Rattle.cool_extents.proofs.finding.node_extent.Goals as goal

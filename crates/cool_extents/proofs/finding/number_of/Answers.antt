@@ -1,4 +1,4 @@
--- Each turn halves the range in which the number lies.
+-- Each step of the loop of `number_of` halves the range that contains the number of the token.
 use Rattle.std.proofs.Common.{ℕ, ◌+◌, ◌-◌, ◌/◌, arith}
 use Rattle.cool_extents.proofs.SearchingByHalves.{low_is_less, high_is_more}
 use Rattle.cool_extents.proofs.finding.number_of.Goals as goal

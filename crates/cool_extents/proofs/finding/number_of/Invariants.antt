@@ -1,4 +1,4 @@
--- As many tokens stand before the place as are before the first half's end, at least, and no more than before the second's.
+-- In the loop of `number_of`, the number of tokens before the place is at least `low` and at most `high`.
 use Rattle.std.proofs.Common.{◌≤◌, ◌-◌, length}
 use Rattle.cool_extents.specs.FoundExtents.{number_of}
 use Rattle.cool_extents.proofs.finding.number_of.Given as goal

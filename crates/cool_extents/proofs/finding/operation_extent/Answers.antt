@@ -1,4 +1,4 @@
--- The extent goes from the token of the left operand to that of the right one.
+-- `operation_extent` returns the extent from the first token of the left operand to the last token of the right one.
 use Rattle.std.proofs.Common.{◌∙◌, ap}
 use Rattle.cool_extents.specs.FoundExtents.{token_place, extent_at, latest, outer_first, outer_last}
 use Rattle.cool_extents.proofs.ExtentsMade.{same_extent}

@@ -1,4 +1,4 @@
--- The phases before typing refuse the files, or typing decides.
+-- `program` returns the refusal of the phases before typing. If they refuse nothing, the result of `typed_program` decides.
 use Rattle.std.proofs.Common.{◌≤◌, length, arith}
 use Rattle.std.proofs.lemmas.Result.{err_from_is_err_and}
 use Rattle.cool_syntax.specs.declared.TheConstants.{MOST_FILES}

@@ -1,4 +1,4 @@
--- The faults, each as a fault of files, keep their order and their places.
+-- `class_table` returns the faults that `table` finds as faults of files, in the same order and with the same places.
 use Rattle.std.proofs.Common.{List, map, ap, ◌∙◌, sym, subst}
 use Rattle.std.specs.List.{AllByRecursion}
 use Rattle.cool_syntax.specs.TokenFacts.{IsPlaced}

@@ -1,4 +1,4 @@
--- The tokens are a good finding.
+-- If the lexer returns tokens, `lex_file` adds them to the results and adds no fault, as `Adds` of `Phases.antt` defines.
 use Rattle.std.proofs.Common.{inl, refl, ◌∷◌, []}
 use Rattle.std.proofs.lemmas.Slice.{pushed}
 use Rattle.cool_faults.proofs.lexing.lex_file.Goals as goal

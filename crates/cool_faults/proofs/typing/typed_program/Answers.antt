@@ -1,4 +1,4 @@
--- The faults, each as a fault of files, keep their order and their places.
+-- `typed_program` returns the faults that `check` finds as faults of files, in the same order and with the same places.
 use Rattle.std.proofs.Common.{List, map, ap, ◌∙◌, sym, subst}
 use Rattle.std.specs.List.{AllByRecursion}
 use Rattle.std.specs.List.Sorted.{IsPermutation}

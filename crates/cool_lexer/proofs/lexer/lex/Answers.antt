@@ -1,4 +1,4 @@
--- The tokens of a file without a fault are those of all its items.
+-- If `lex` finds no fault, its tokens are the lexemes of all items of the file, and keep the limits that hold for them.
 use Rattle.std.proofs.Common.{ℕ, ◌≤◌, sym, ap, subst, arith, length}
 use Rattle.cool_syntax.specs.LexicalStructure.{Lexes}
 use Rattle.cool_syntax.specs.TokenFacts.{AreWithinLimits, AreRising, weights}

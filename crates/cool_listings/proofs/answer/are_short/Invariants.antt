@@ -1,4 +1,4 @@
--- Each name so far is short.
+-- In the loop of `are_short`, all names are short exactly if the names that are left are.
 use Rattle.std.proofs.Common.{◌≡◌, drop, map}
 use Rattle.std.specs.Prelude.{string_bytes}
 use Rattle.cool_listings.specs.Ends.{fit}

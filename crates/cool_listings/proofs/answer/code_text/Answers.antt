@@ -1,4 +1,4 @@
--- The names are short.
+-- `code_text` may call `table`, because `fit` of `Ends.antt` admits only names within `MOST_FILE_NAME` bytes in the form `Code`.
 use Rattle.std.proofs.Common.{map}
 use Rattle.std.specs.Prelude.{string_bytes}
 use Rattle.cool_listings.proofs.ShortNames.{short_names}

@@ -1,4 +1,4 @@
--- The tree of one more file was added.
+-- Each step of the loop of `definitions_of` parses the next file and adds the classes of its tree.
 use Rattle.std.proofs.Common.{◌≤◌, ◌∙◌, List, length, sym, subst}
 use Rattle.std.specs.List.{AllByRecursion}
 use Rattle.cool_syntax.specs.declared.TheConstants.{MOST_SOURCE_BYTES}

@@ -1,4 +1,4 @@
--- The definitions so far with those of the trees that are left are all; the tokens that are left are few, and are those trees.
+-- In the loop of `definitions_of`, the definitions so far, followed by those of the files that are left, are the definitions of all files.
 use Rattle.std.proofs.Common.{◌≤◌, List, drop, length}
 use Rattle.std.specs.List.{AllByRecursion}
 use Rattle.cool_syntax.specs.declared.TheConstants.{MOST_SOURCE_BYTES}

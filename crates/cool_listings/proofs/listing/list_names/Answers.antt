@@ -1,4 +1,4 @@
--- A call without a note puts no byte to the notes. A note that is due is put at once.
+-- `list_names` puts the note of its status at once, and puts no byte to the notes if the status has no note.
 use Rattle.std.proofs.Common.{◌∙◌, ℕ, List, [], ◌∷◌, ◌++◌, ap, inl, map, sym, subst, append-nil}
 use Rattle.std.specs.Prelude.{string_bytes}
 use Rattle.cool_ports.specs.SinkBytes.{appended, GotPrefix}

@@ -1,4 +1,4 @@
--- The text so far with that of the branches that are left is all.
+-- In the loop of `branches_text`, the text so far, followed by that of the branches that are left, is the text of all branches.
 use Rattle.std.proofs.Common.{◌≡◌, ◌++◌, drop, flat_map}
 use Rattle.cool_listings.specs.NodeTexts.{branch_text}
 use Rattle.cool_listings.proofs.node_text.branches_text.Given as goal

@@ -1,4 +1,4 @@
--- The clauses of `list_names`, for fresh devices, are those of the process.
+-- `list_over_system` calls `list_names` with new devices: its clauses are those of `list_names` for devices that did nothing before.
 use Rattle.cool_sources.proofs.FreshShelves.{after_none, were_unread}
 use Rattle.cool_listings.proofs.FreshDevices.{has_listed, has_refused, was_cut_short}
 use Rattle.cool_listings.proofs.process.list_over_system.Goals as goal

@@ -1,4 +1,4 @@
--- The call is the one that the arguments ask for.
+-- `perform` calls `list_over_system` with the form and the names that `form_asked` and `names_asked` of `Processes.antt` find in the arguments.
 use Rattle.std.proofs.Common.{◌≡◌, ◌⊎◌, inl, inr, true, false, ◌∙◌, ap, sym, subst}
 use Rattle.std.specs.Prelude.{Some, None}
 use Rattle.cool_sources.specs.CommandLine.{words_of}

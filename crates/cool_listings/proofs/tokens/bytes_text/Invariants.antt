@@ -1,4 +1,4 @@
--- The text so far with that of the bytes that are left is all.
+-- In the loop of `bytes_text`, the text so far, followed by that of the bytes that are left, is the text of all bytes.
 use Rattle.std.proofs.Common.{◌≡◌, ◌++◌, drop, flat_map}
 use Rattle.cool_listings.specs.TokenLines.{byte_text}
 use Rattle.cool_listings.proofs.tokens.bytes_text.Given as goal

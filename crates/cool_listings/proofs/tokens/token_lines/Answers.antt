@@ -1,4 +1,4 @@
--- Each file is told.
+-- Each step of the loop of `token_lines` adds the lines of the tokens of the next file.
 use Rattle.std.proofs.Common.{ℕ, ◌+◌, ◌∙◌, List, ◌∷◌, ◌++◌, length, drop, ap, sym, subst, arith}
 use Rattle.std.proofs.lemmas.List.{drop_all}
 use Rattle.cool_faults.specs.Files.{bytes_of}

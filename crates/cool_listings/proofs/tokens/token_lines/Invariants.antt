@@ -1,4 +1,4 @@
--- The text so far goes on with what is told of the files that are left.
+-- In the loop of `token_lines`, the text so far, followed by the lines of the files that are left, is the text of all files.
 use Rattle.std.proofs.Common.{ℕ, List, ◌++◌, drop}
 use Rattle.cool_faults.specs.Files.{bytes_of}
 use Rattle.cool_listings.specs.EachFile.{IsOfEach}

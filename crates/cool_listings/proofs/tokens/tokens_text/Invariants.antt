@@ -1,4 +1,4 @@
--- The lines so far with those of the tokens that are left are all.
+-- In the loop of `tokens_text`, the text so far, followed by the lines of the tokens that are left, is the text of all tokens.
 use Rattle.std.proofs.Common.{◌≡◌, ◌++◌, drop, flat_map}
 use Rattle.cool_listings.specs.TokenLines.{token_line}
 use Rattle.cool_listings.proofs.tokens.tokens_text.Given as goal

@@ -1,4 +1,4 @@
--- The line of one more node is told, with the extent of its number.
+-- Each step of the loop of `body_text` adds the line of the next node, with the extent of the same number.
 use Rattle.std.proofs.Common.{◌≡◌, ◌∙◌, ℕ, ◌<◌, List, ◌++◌, length, ap, refl, subst, arith}
 use Rattle.std.specs.Prelude.{Some, slice_get}
 use Rattle.std.proofs.lemmas.Option.{slice_get_read}

@@ -1,4 +1,4 @@
--- The lines so far with those of the nodes that are left are all.
+-- In the loop of `body_text`, the text so far, followed by the lines of the nodes that are left, is the text of all nodes.
 use Rattle.std.proofs.Common.{◌≡◌, ◌++◌, drop}
 use Rattle.cool_syntax.specs.NodeLists.{nodes}
 use Rattle.cool_extents.specs.FoundExtents.{found_extents}

@@ -1,4 +1,4 @@
--- A feature is told with its own column.
+-- Each step of the loop of `class_text` adds the lines of the next feature, with the types of the nodes of this feature.
 use Rattle.std.proofs.Common.{◌≡◌, ◌∙◌, ℕ, List, ◌++◌, ap, sym, subst, arith, Bor}
 use Rattle.std.specs.Prelude.{Option, Some, None}
 use Rattle.std.specs.Option.{option_map}

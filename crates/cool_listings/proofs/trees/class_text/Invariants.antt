@@ -1,4 +1,4 @@
--- The lines so far with those of the features that are left are all.
+-- In the loop of `class_text`, the text so far, followed by the lines of the features that are left, is the text of the class.
 use Rattle.std.proofs.Common.{◌≡◌, ◌++◌, drop, flat_map}
 use Rattle.std.specs.Option.{option_map}
 use Rattle.cool_extents.specs.FoundExtents.{found_extents}

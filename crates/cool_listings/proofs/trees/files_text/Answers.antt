@@ -1,4 +1,4 @@
--- Each file is told, with the numbers of its classes.
+-- Each step of the loop of `files_text` adds the lines of the next file, whose classes have the numbers after those of the files before.
 use Rattle.std.proofs.Common.{◌≡◌, ◌∙◌, ℕ, ◌+◌, List, ◌∷◌, length, drop, ap, sym, subst, arith}
 use Rattle.std.specs.Option.{option_map}
 use Rattle.std.proofs.lemmas.List.{drop_all}

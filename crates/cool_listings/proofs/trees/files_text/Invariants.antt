@@ -1,4 +1,5 @@
--- The lines so far go on with what is told of the files that are left, which have the next numbers.
+-- In the loop of `files_text`, the text so far, followed by the lines of the files that are left, is the text of all files. The classes that are left have the
+-- next numbers.
 use Rattle.std.proofs.Common.{◌+◌, ◌≤◌, drop}
 use Rattle.std.specs.Option.{option_map}
 use Rattle.cool_faults.specs.Files.{bytes_of, total}

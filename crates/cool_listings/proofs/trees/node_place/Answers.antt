@@ -1,4 +1,4 @@
--- The place is that of the tree that the node makes of no others.
+-- `node_place` returns the place of a node, which is that of the tree of this node, whatever its parts are.
 use Rattle.std.proofs.Common.{[]}
 use Rattle.cool_listings.proofs.trees.node_place.Goals as goal
 

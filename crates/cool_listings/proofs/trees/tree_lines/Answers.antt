@@ -1,4 +1,4 @@
--- The trees are told with the types of the program that the files are, or with none.
+-- `tree_lines` returns the lines of the trees with types if the files are a program, and without types otherwise.
 use Rattle.std.proofs.Common.{subst}
 use Rattle.cool_faults.specs.Files.{bytes_of}
 use Rattle.cool_faults.specs.Verdicts.{IsVerdict}

@@ -1,4 +1,4 @@
--- The copies so far with those of the files that are left are all.
+-- In the loop of `append_copies`, the copies so far, followed by the files that are left, are all files.
 use Rattle.std.proofs.Common.{◌≡◌, ◌++◌, drop}
 use Rattle.cool_faults.specs.Files.{bytes_of}
 use Rattle.cool_mend.proofs.editing.append_copies.Given as goal

@@ -1,4 +1,4 @@
--- The bytes of the files so far are subtracted from the limit.
+-- In the loop of `fit`, `left` is the limit without the bytes of the files so far.
 use Rattle.std.proofs.Common.{◌≡◌, ◌+◌, drop}
 use Rattle.cool_syntax.specs.declared.TheConstants.{MOST_SOURCE_BYTES}
 use Rattle.cool_faults.specs.Files.{bytes_of, total}

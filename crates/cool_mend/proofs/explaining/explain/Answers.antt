@@ -1,4 +1,4 @@
--- Each explanation's fault is one of the fault list.
+-- `explain` explains the faults of the fault list, which are all at places in the files.
 use Rattle.std.proofs.Common.{length, ◌∙◌}
 use Rattle.cool_syntax.specs.TokenFacts.{IsPlaced}
 use Rattle.cool_faults.specs.Files.{bytes_of}

@@ -1,4 +1,4 @@
--- The explanations so far are those of the faults so far, what they tell is so, and each mend that they tell mends.
+-- In the loop of `explanations`, the explanations so far are those of the faults so far. Their facts are true, and the edit of each mends its fault.
 use Rattle.std.proofs.Common.{◌≡◌, map, take}
 use Rattle.std.specs.List.{AllByRecursion}
 use Rattle.cool_faults.specs.Files.{bytes_of}

@@ -1,4 +1,4 @@
--- Files without a class table have a fault.
+-- `noticed` returns no notice for files without a class table: they have a fault, so their fault list is not empty.
 use Rattle.std.proofs.Common.{◌∙◌}
 use Rattle.cool_faults.specs.Files.{bytes_of}
 use Rattle.cool_faults.proofs.OneVerdict.{one_list}

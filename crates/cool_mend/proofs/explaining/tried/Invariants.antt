@@ -1,4 +1,4 @@
--- The mend that is kept mends the fault.
+-- In the loop of `tried`, the edit in `kept` mends the fault.
 use Rattle.std.specs.Prelude.{IfSome}
 use Rattle.cool_faults.specs.Files.{bytes_of}
 use Rattle.cool_mend.specs.Explanations.{IsMend}

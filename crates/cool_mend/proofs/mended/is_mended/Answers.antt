@@ -1,4 +1,4 @@
--- The lines that an edit adds and takes are those of its text and of its range.
+-- `is_mended` counts the lines that an edit adds and removes: they are the line ends in its text and in its range.
 use Rattle.std.proofs.Common.{◌-◌, ℕ, List, inr, ap, arith, drop, sym, take, ◌∙◌}
 use Rattle.std.proofs.lemmas.List.{length-map}
 use Rattle.std.specs.Global.{Vec}

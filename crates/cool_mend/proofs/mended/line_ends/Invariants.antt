@@ -1,4 +1,4 @@
--- The ends of lines so far and those of the bytes that are left are all.
+-- In the loop of `line_ends`, the count so far and the line ends among the bytes that are left make the number of all line ends.
 use Rattle.std.proofs.Common.{◌≡◌, ◌+◌, ◌≤◌, drop}
 use Rattle.cool_mend.specs.Mends.{line_ends}
 use Rattle.cool_mend.proofs.mended.line_ends.Given as goal

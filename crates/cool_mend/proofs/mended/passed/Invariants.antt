@@ -1,4 +1,4 @@
--- The faults so far, moved, hold those that were passed since the start.
+-- In the loop of `passed`, the faults after the edit that were passed since the start are a part of the faults so far, moved by the edit.
 use Rattle.std.proofs.Common.{◌++◌, ◌≤◌, List, length, map, take}
 use Rattle.cool_syntax.specs.FaultOrder.{Standing}
 use Rattle.cool_faults.specs.Verdicts.{standing_of}

@@ -1,4 +1,4 @@
--- The notices so far are told.
+-- In the loop of `add_of_feature`, the first notices that `body_notices` found are added.
 use Rattle.std.proofs.Common.{◌≡◌, ◌++◌, map, take}
 use Rattle.cool_mend.specs.Noticed.{due_saying, saying}
 use Rattle.cool_mend.proofs.noticing.add_of_feature.Given as goal

@@ -1,4 +1,4 @@
--- The notices of the classes so far are told, and of the features so far of the next.
+-- In the loops of `notices`, the notices so far are those of the classes and features before the present one, up to `MOST_NOTICES`.
 use Rattle.std.proofs.Common.{◌≡◌, ◌++◌, [], map, take}
 use Rattle.std.specs.List.{flat_map}
 use Rattle.cool_notices.specs.Notices.{up_to}

@@ -1,4 +1,4 @@
--- Each method so far is one of the class.
+-- In the loops of `add_methods`, each method so far is a method of the class.
 use Rattle.std.specs.Global.{Vec}
 use Rattle.std.specs.Prelude.{ℕ}
 use Rattle.std.specs.List.{AllByRecursion}

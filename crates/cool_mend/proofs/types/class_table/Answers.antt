@@ -1,4 +1,4 @@
--- The table is that of the verdict.
+-- `class_table` returns the class table of the verdict of `class_phase`.
 use Rattle.std.proofs.Common.{refl, subst}
 use Rattle.cool_faults.specs.Files.{bytes_of}
 use Rattle.cool_faults.specs.Untyped.{IsClassVerdict}

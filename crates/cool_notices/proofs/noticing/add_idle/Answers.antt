@@ -1,4 +1,4 @@
--- The items but the last, each in its turn.
+-- Each step of the loop of `add_idle` adds the notice of the next item of a block, up to the last item but one and up to the limit.
 use Rattle.std.proofs.Common.{◌≡◌, List, ◌-◌, map, length, take, sym, ap, arith, ◌∙◌}
 use Rattle.std.specs.List.{flat_map}
 use Rattle.cool_syntax.specs.declared.node.NodeId.{NodeId}

@@ -1,4 +1,4 @@
--- The nodes of a body, each in its turn, are the parts of its tree.
+-- Each step of the loop of `body_notices` adds the notices of the next node. The nodes of a body are the parts of its tree in order.
 use Rattle.std.proofs.Common.{◌≡◌, [], ◌-◌, take, take_all, ap, arith, ◌∙◌}
 use Rattle.std.specs.List.{flat_map}
 use Rattle.cool_syntax.specs.Bare.{nowhere}

@@ -1,4 +1,4 @@
--- The notices at the nodes so far are told.
+-- In the loop of `body_notices`, the notices at the nodes before the present one are added, up to the limit.
 use Rattle.std.proofs.Common.{◌≡◌, take, []}
 use Rattle.std.specs.List.{flat_map}
 use Rattle.cool_syntax.specs.NodeLists.{all_trees}

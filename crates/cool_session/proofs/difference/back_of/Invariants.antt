@@ -1,4 +1,4 @@
--- So many of the last tokens are of the same kinds.
+-- In the loop of `back_of`, the last i tokens of both lists have the same kinds.
 use Rattle.std.proofs.Common.{◌≡◌, ◌≤◌, ◌-◌, length, drop}
 use Rattle.cool_session.specs.FeatureTokens.{kinds}
 use Rattle.cool_session.proofs.difference.back_of.Given as goal

@@ -1,4 +1,5 @@
--- The run around what differs in the one file that differs stands in it, and ends as far from the end of the file as before.
+-- `find_difference` returns a difference as `IsDifference` of `Edits.antt` defines it. The run that it returns contains all changed tokens of the only changed
+-- file, and as many tokens as before follow it.
 use Rattle.std.proofs.Common.{◌≡◌, ◌<◌, ◌+◌, ◌^◌, List, length, sym, ◌∙◌, subst, arith}
 use Rattle.cool_syntax.specs.declared.token.Token.{Token}
 use Rattle.cool_session.specs.Differing.{AreSameFrom, IsFirstOther}

@@ -1,4 +1,5 @@
--- A file whose tokens are of the same kinds is one more that is the same.
+-- `first_other` finds the first file from a number on whose tokens changed: each step of its loop passes one more file whose tokens are as before, except for
+-- places.
 use Rattle.std.proofs.Common.{◌<◌, length, refl, ap, ◌∙◌, sym, arith}
 use Rattle.cool_session.specs.FeatureTokens.{kinds}
 use Rattle.cool_session.proofs.FilesDiffer.{file_at, same_next}

@@ -1,4 +1,4 @@
--- The tokens so far are of the same kinds.
+-- In the loop of `front_of`, the first i tokens of both lists have the same kinds.
 use Rattle.std.proofs.Common.{◌≡◌, ◌≤◌, length, take}
 use Rattle.cool_session.specs.FeatureTokens.{kinds}
 use Rattle.cool_session.proofs.difference.front_of.Given as goal

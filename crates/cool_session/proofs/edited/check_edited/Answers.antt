@@ -1,4 +1,4 @@
--- The files are lexed, and so few that numbers of 32 bits name each of their tokens.
+-- `check_edited` passes on the tokens of files within the limits of a session: numbers of 32 bits count these files and the tokens of each.
 use Rattle.std.proofs.Common.{◌<◌, ◌≤◌, ℕ, List, [], length, sym, subst, arith}
 use Rattle.std.specs.Global.{Vec}
 use Rattle.std.specs.List.{AllByRecursion}

@@ -1,4 +1,5 @@
--- The feature that differs is typed over the table that has it, and what is found is kept in the place of what was kept of it.
+-- `check_one_feature` types the changed feature over the table that contains it, and replaces the stored result of this feature. The other stored results are
+-- those of the new files too.
 use Rattle.std.proofs.Common.{◌≡◌, ◌<◌, ◌^◌, ℕ, List, Option, Some, length, get_or, slice_set, refl, sym, ap, ◌∙◌, subst, arith}
 use Rattle.std.specs.List.{AllByRecursion, slice_get}
 use Rattle.std.proofs.Props.{props}

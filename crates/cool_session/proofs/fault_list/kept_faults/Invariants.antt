@@ -1,4 +1,4 @@
--- The faults so far with those of the features that are left are all.
+-- In the loop of `kept_faults`, the faults so far, followed by those stored for the features that are left, are all stored faults.
 use Rattle.std.proofs.Common.{◌≡◌, ◌++◌, drop}
 use Rattle.cool_session.specs.Bases.{tokens_of}
 use Rattle.cool_session.specs.FeatureTokens.{runs_of}

@@ -1,4 +1,5 @@
--- There is room, or the first thing that has no room is named.
+-- `place_for` returns `Ok` if a file of this size fits into the session. Otherwise it returns the limit that the file would exceed, as `set_room` of
+-- `Files.antt` defines.
 use Rattle.std.proofs.Common.{◌≡◌, ◌≤◌, ◌<◌, ℕ, IfSome, subst, map, length, string_bytes, replicate, None, sym, ◌∙◌, arith}
 use Rattle.std.proofs.lemmas.List.{length-map, length-replicate}
 use Rattle.cool_syntax.specs.declared.TheConstants.{MOST_FILES}

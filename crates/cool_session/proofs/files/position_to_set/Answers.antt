@@ -1,4 +1,4 @@
--- There is room for a file of these bytes where there is room for one of as many.
+-- `position_to_set` returns the result of `place_for` for the number of bytes: the limits depend only on the length of a file.
 use Rattle.std.proofs.Common.{map, string_bytes, length, replicate, sym}
 use Rattle.std.proofs.lemmas.List.{length-replicate}
 use Rattle.cool_faults.specs.Files.{bytes_of}

@@ -1,4 +1,4 @@
--- The features so far with those that are left are all.
+-- In the loop of `add_ids`, the features added so far, followed by those that are left, are all features of the class.
 use Rattle.std.proofs.Common.{◌≡◌, ◌++◌, drop}
 use Rattle.cool_session.specs.Ids.{ids_in}
 use Rattle.cool_session.proofs.ids.add_ids.Given as goal

@@ -1,4 +1,4 @@
--- A class of a table has few features.
+-- `feature_ids` may call `add_ids` for each class, because a class of a table has fewer than 2 ^ 32 features.
 use Rattle.std.proofs.Common.{arith, ap, length}
 use Rattle.cool_session.proofs.ids.feature_ids.Goals as goal
 

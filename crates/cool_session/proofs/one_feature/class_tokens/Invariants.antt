@@ -1,4 +1,4 @@
--- The tokens so far are the head of a class and those of the feature that were copied.
+-- In the loop of `class_tokens`, the tokens so far are the head of a class and the first i tokens of the feature.
 use Rattle.std.proofs.Common.{◌≡◌, [], ◌∷◌, take}
 use Rattle.cool_syntax.specs.declared.token.Key.TheVariants as key
 use Rattle.cool_syntax.specs.declared.token.Sign.TheVariants as sign

@@ -1,4 +1,4 @@
--- The feature that is found is that of the tokens: they stand between the head of a class and its end.
+-- `one_feature` parses the tokens between the head of a class and its end. The only feature of the parsed class is the feature of these tokens.
 use Rattle.std.proofs.Common.{◌∙◌, sym, subst, List, arith}
 use Rattle.cool_syntax.specs.declared.token.Token.{Token}
 use Rattle.cool_syntax.specs.Grammar.{Parses}

@@ -1,4 +1,4 @@
--- The stored result or the typer's result of each feature is to be stored, in turn; the typer is called only if no result is stored.
+-- `renew` stores one result for each feature in turn: the result stored in the base or, if there is none, the result of the typer.
 use Rattle.std.proofs.Common.{rules, ◌≡◌, ◌+◌, ◌<◌, ◌≤◌, ◌++◌, ◌∷◌, [], ℕ, List, length, take, Option, IfSome, refl, sym, ap, ◌∙◌, subst, arith}
 use Rattle.std.specs.Borrow.{Bor}
 use Rattle.std.proofs.lemmas.Option.{slice_get_within}

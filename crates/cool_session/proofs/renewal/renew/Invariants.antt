@@ -1,4 +1,4 @@
--- The results of the features so far, and the number of those without a stored result.
+-- In the loop of `renew`, `faults` has the results of the features so far, and `asked` is the number of them without a stored result.
 use Rattle.std.proofs.Common.{◌≡◌, ◌≤◌, take}
 use Rattle.cool_session.specs.KeptFaults.{results, AreKeptOf}
 use Rattle.cool_session.specs.NewFeatures.{AreNew, calls_after, kinds_seen, runs_seen}

@@ -1,4 +1,4 @@
--- The runs so far with those of the tokens that are left are all runs.
+-- In the loop of `add_runs`, the runs added so far, followed by those that end among the tokens that are left, are all runs of the file.
 use Rattle.std.proofs.Common.{◌≡◌, ◌≤◌, ◌++◌, drop}
 use Rattle.cool_session.specs.Runs.{bounds_from, bounds_in}
 use Rattle.cool_session.proofs.runs.add_runs.Given as goal

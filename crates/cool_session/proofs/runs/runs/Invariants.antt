@@ -1,4 +1,4 @@
--- The runs so far with those of the files that are left are all runs.
+-- In the loop of `runs`, the runs so far, followed by those of the files that are left, are the runs of all files.
 use Rattle.std.proofs.Common.{◌≡◌, ◌++◌, drop}
 use Rattle.cool_session.specs.Runs.{bounds_of}
 use Rattle.cool_session.proofs.runs.runs.Given as goal

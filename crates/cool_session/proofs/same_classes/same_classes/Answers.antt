@@ -1,4 +1,4 @@
--- Tables of which two classes of one number differ have not the same classes.
+-- `same_classes` may return false at the first class that differs: tables with the same classes have the same class at each number.
 use Rattle.cool_session.proofs.TablesOfSignatures.{class_same}
 use Rattle.cool_session.proofs.same_classes.same_classes.Goals as goal
 

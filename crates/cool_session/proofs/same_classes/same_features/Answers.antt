@@ -1,4 +1,4 @@
--- Features of which two at one position differ have not the same signatures.
+-- `same_features` may return false at the first feature that differs: lists with the same signatures have the same signature at each position.
 use Rattle.std.proofs.Common.{arith}
 use Rattle.cool_syntax.proofs.ComparingLists.{same_at}
 use Rattle.cool_session.specs.Signatures.{feature_signature}

@@ -1,4 +1,4 @@
--- The features so far have the same signatures.
+-- In the loop of `same_features`, the first i features of both lists have the same signatures.
 use Rattle.std.proofs.Common.{◌≡◌, take, map}
 use Rattle.cool_session.specs.Signatures.{feature_signature}
 use Rattle.cool_session.proofs.same_classes.same_features.Given as goal

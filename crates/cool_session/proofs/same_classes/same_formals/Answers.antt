@@ -1,4 +1,4 @@
--- Formals of which two at one position differ have not the same types.
+-- `same_formals` may return false at the first formal whose type differs: lists with the same types have the same type at each position.
 use Rattle.std.proofs.Common.{arith, sym, ap, ◌∙◌}
 use Rattle.cool_syntax.specs.declared.file_tree.Formal.{Formal}
 use Rattle.cool_syntax.proofs.ComparingLists.{same_at}

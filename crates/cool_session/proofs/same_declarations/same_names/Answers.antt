@@ -1,4 +1,4 @@
--- Formals of which two at one position differ have not the same names.
+-- `same_names` may return false at the first formal whose name differs: lists with the same names have the same name at each position.
 use Rattle.std.proofs.Common.{arith, sym, ap, ◌∙◌}
 use Rattle.cool_syntax.specs.declared.file_tree.Formal.{Formal}
 use Rattle.cool_syntax.proofs.ComparingLists.{same_at}

@@ -1,4 +1,4 @@
--- The formals so far have the same names.
+-- In the loop of `same_names`, the first i formals of both lists have the same names.
 use Rattle.std.proofs.Common.{◌≡◌, take}
 use Rattle.cool_classes.specs.Declarations.{formal_names}
 use Rattle.cool_session.proofs.same_declarations.same_names.Given as goal

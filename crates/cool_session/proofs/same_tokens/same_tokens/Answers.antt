@@ -1,4 +1,4 @@
--- Tokens of which two at one position differ are not of the same kinds.
+-- `same_tokens` may return false at the first token whose kind differs: lists with the same kinds have the same kind at each position.
 use Rattle.std.proofs.Common.{arith, sym, ap, ◌∙◌}
 use Rattle.cool_syntax.specs.declared.token.Token.{Token}
 use Rattle.cool_syntax.proofs.ComparingLists.{same_at}

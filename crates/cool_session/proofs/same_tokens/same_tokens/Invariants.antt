@@ -1,4 +1,4 @@
--- The tokens so far are of the same kinds.
+-- In the loop of `same_tokens`, the first i tokens of both lists have the same kinds.
 use Rattle.std.proofs.Common.{◌≡◌, take}
 use Rattle.cool_session.specs.FeatureTokens.{kinds}
 use Rattle.cool_session.proofs.same_tokens.same_tokens.Given as goal

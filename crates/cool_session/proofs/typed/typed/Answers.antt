@@ -1,4 +1,4 @@
--- The fault stands at the token that is found.
+-- `typed` returns a fault with the position that `position` finds: the token at this position is at the place of the fault.
 use Rattle.std.proofs.Common.{subst}
 use Rattle.cool_check.specs.FirstFaults.{IsFirst}
 use Rattle.cool_check.specs.TypingFaults.{feature_checked}

@@ -1,4 +1,4 @@
--- No word so far is an option.
+-- In the loop of `has_option`, one of all words is an option exactly if one of the words that are left is.
 use Rattle.std.proofs.Common.{◌≡◌, drop}
 use Rattle.std.specs.List.{list_any}
 use Rattle.cool_sources.specs.CommandLine.{is_option, words_of}

@@ -1,4 +1,4 @@
--- One more file was read, or one was refused.
+-- Each step of the loop of `read_files` adds the bytes of the next file. If a file is refused, `read_files` returns the name of that file and the reason.
 use Rattle.std.proofs.Common.{◌≡◌, ◌∙◌, rules, ap, length, arith}
 use Rattle.std.specs.Prelude.{Err}
 use Rattle.cool_sources.specs.Devices.{shelf_use}

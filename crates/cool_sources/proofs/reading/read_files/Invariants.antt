@@ -1,4 +1,4 @@
--- The files so far were read, `left` is the rest of the bytes, and no fault came.
+-- In the loop of `read_files`, the files so far were read without a fault, and `left` is the number of bytes that the others may have.
 use Rattle.std.proofs.Common.{◌≡◌, ◌+◌, ◌++◌, length, map, take}
 use Rattle.std.specs.Prelude.{string_bytes}
 use Rattle.std.specs.List.{AllByRecursion}

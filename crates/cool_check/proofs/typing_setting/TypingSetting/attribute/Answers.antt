@@ -1,4 +1,4 @@
--- The type that an attribute's name denotes is the one that it means.
+-- `TypingSetting::attribute` returns the type of an attribute as `type_meant` of `Rules.antt` defines it.
 use Rattle.cool_rules.proofs.RulesOfTables.{type_meant_is}
 use Rattle.cool_check.proofs.typing_setting.TypingSetting.attribute.Goals as goal
 

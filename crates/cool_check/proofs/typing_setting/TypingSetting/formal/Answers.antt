@@ -1,4 +1,4 @@
--- The type that a formal's name denotes is the one that it means.
+-- `TypingSetting::formal` returns the type of a formal as `type_meant` of `Rules.antt` defines it.
 use Rattle.cool_rules.proofs.RulesOfTables.{type_meant_is}
 use Rattle.cool_check.proofs.typing_setting.TypingSetting.formal.Goals as goal
 

@@ -1,4 +1,4 @@
--- A join is the function's.
+-- `TypingSetting::join` returns the join of two types as `join_in` of `Rules.antt` defines it.
 use Rattle.cool_rules.proofs.RulesOfTables.{join_in_is}
 use Rattle.cool_check.proofs.typing_setting.TypingSetting.join.Goals as goal
 

@@ -1,4 +1,4 @@
--- The nearest method on the chain is that of the chain by the table.
+-- `TypingSetting::method` returns the nearest method of a name on the chain of a class, as `method_of` of `Rules.antt` defines it.
 use Rattle.cool_rules.proofs.RulesOfTables.{method_of_is}
 use Rattle.cool_check.proofs.typing_setting.TypingSetting.method.Goals as goal
 

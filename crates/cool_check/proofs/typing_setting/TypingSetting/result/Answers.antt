@@ -1,4 +1,4 @@
--- The type that a result's name denotes is the one that it means.
+-- `TypingSetting::result` returns the type of the result of a method as `type_meant` of `Rules.antt` defines it.
 use Rattle.cool_rules.proofs.RulesOfTables.{type_meant_is}
 use Rattle.cool_check.proofs.typing_setting.TypingSetting.result.Goals as goal
 

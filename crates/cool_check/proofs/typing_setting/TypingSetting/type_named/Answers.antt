@@ -1,4 +1,4 @@
--- The type that has a name is the one that the function finds.
+-- `TypingSetting::type_named` returns the type of a name as `type_of_name` of `Rules.antt` defines it.
 use Rattle.cool_rules.proofs.RulesOfTables.{type_of_name_is}
 use Rattle.cool_check.proofs.typing_setting.TypingSetting.type_named.Goals as goal
 

@@ -1,4 +1,4 @@
--- The name is that of this attribute, or else of one further on.
+-- `RunSetting::attribute` returns the location of the first attribute with the name. Each step of its loop passes one attribute with another name.
 use Rattle.std.proofs.Common.{◌≡◌, ◌<◌, ◌+◌, ◌-◌, ℕ, List, length, drop, Some, true, false, ap, sym, ◌∙◌, refl, arith, rules}
 use Rattle.std.proofs.lemmas.Bool.{ltb-true}
 use Rattle.std.proofs.lemmas.Option.{slice_get_read}

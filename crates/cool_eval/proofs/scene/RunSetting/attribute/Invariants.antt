@@ -1,4 +1,4 @@
--- The name is looked for among the attributes and locations that are left.
+-- In the loop of `RunSetting::attribute`, the location of the name among the attributes that are left is its location among all attributes.
 use Rattle.std.proofs.Common.{◌≡◌, ◌-◌, drop}
 use Rattle.cool_meaning.specs.Values.{location_of}
 use Rattle.cool_meaning.specs.Lookups.{located, attribute_names}

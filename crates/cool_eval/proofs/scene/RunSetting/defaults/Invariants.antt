@@ -1,4 +1,4 @@
--- The values so far are the defaults of the attributes so far.
+-- In the loop of `RunSetting::defaults`, the values so far are the default values of the attributes so far.
 use Rattle.std.proofs.Common.{◌≡◌, map, take}
 use Rattle.cool_meaning.specs.Lookups.{default_values}
 use Rattle.cool_eval.specs.Values.{value_of}

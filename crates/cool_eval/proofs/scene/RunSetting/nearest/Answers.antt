@@ -1,4 +1,4 @@
--- The branch of this class, or else of those above it.
+-- `RunSetting::nearest` returns the branch of the first class on the chain that has one. Each step of its loop passes one class without a branch.
 use Rattle.std.proofs.Common.{◌≡◌, ◌-◌, length, Some, None, ap, sym, ◌∙◌, refl, arith}
 use Rattle.cool_syntax.specs.Tree.{of_twigs}
 use Rattle.cool_classes.specs.Chains.{name_of, parent_of}

@@ -1,4 +1,5 @@
--- The name is found at this variable or before it, and else among the attributes.
+-- `Scene::location` returns the location of the latest variable with the name, or else of the attribute. Each step of its loop passes one variable with
+-- another name.
 use Rattle.std.proofs.Common.{◌≡◌, ℕ, suc, ◌-◌, ◌<◌, ◌++◌, length, take, ap, sym, ◌∙◌, true, false, arith, rules}
 use Rattle.std.specs.Prelude.{bytes_eq}
 use Rattle.cool_meaning.specs.Values.{location_of}

@@ -1,4 +1,4 @@
--- After these variables the name was not found.
+-- In the loop of `Scene::location`, the location of the name among the variables that are left and the attributes is its location in the whole environment.
 use Rattle.std.proofs.Common.{◌≡◌, ◌++◌, take}
 use Rattle.cool_meaning.specs.Values.{location_of}
 use Rattle.cool_meaning.specs.Lookups.{environment_of}

@@ -1,4 +1,4 @@
--- The result of loading from all locations, if the value at one is not returned.
+-- If `Store::load` fails at one location, `Store::load_all` returns that error, which `AreLoaded` of `Configurations.antt` allows for the whole list.
 use Rattle.std.proofs.Common.{◌≡◌, Err, rules}
 use Rattle.cool_eval.proofs.LoadedValues.{failed_on}
 use Rattle.cool_eval.proofs.store.Store.load_all.Goals as goal

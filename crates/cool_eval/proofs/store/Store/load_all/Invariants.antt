@@ -1,4 +1,4 @@
--- The values so far, followed by those at the locations left, are the values at all locations.
+-- In the loop of `Store::load_all`, the values so far, followed by those at the locations that are left, are the values at all locations.
 use Rattle.std.proofs.Common.{◌≡◌, ◌-◌, ◌++◌, map, Some}
 use Rattle.std.specs.Prelude.{slice_get}
 use Rattle.cool_eval.specs.Values.{value_of, locations_from}

@@ -1,4 +1,5 @@
--- The lines so far with those of the classes that are left are all, and those classes have the next numbers.
+-- In the loop of `Told::add_classes`, the text so far, followed by the lines of the classes that are left, is the whole text. The classes that are left have
+-- the next numbers.
 use Rattle.std.proofs.Common.{◌≡◌, ◌+◌, ◌++◌, drop, length}
 use Rattle.std.specs.Option.{option_map}
 use Rattle.cool_extents.specs.FoundExtents.{found_extents}

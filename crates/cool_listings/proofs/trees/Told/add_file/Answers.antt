@@ -1,4 +1,4 @@
--- The tree of the file is added, or its lexical fault.
+-- `Told::add_file` adds the lines of the tree of a file, or the line of its lexical fault. No file has both tokens and a lexical fault.
 use Rattle.std.proofs.Common.{◌≡◌, ◌∙◌, ℕ, List, ◌++◌, ap, subst}
 use Rattle.std.specs.Option.{option_map}
 use Rattle.cool_syntax.specs.declared.token.Token.{Token}

@@ -1,4 +1,5 @@
--- Files that are refused before typing type nothing, and of others what is kept gives the fault list.
+-- `Session::check_anew` types no feature if a phase before typing refuses the files. Otherwise the results of `renew` give the fault list and the count of
+-- typed features.
 use Rattle.std.proofs.Common.{◌≡◌, List, ℕ, ◌<◌, ◌≤◌, Option, length, sym, subst, arith}
 use Rattle.std.specs.Global.{Vec}
 use Rattle.std.specs.List.{AllByRecursion}

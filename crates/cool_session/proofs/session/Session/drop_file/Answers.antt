@@ -1,4 +1,4 @@
--- Without a name and its file, as many of both are left, and no more bytes.
+-- `Session::drop_file` removes a name and the file at its position. As many names as files are left, and the files have no more bytes than before.
 use Rattle.std.proofs.Common.{◌≡◌, ◌<◌, map, length, string_bytes, Some, ap, sym, ◌∙◌, arith}
 use Rattle.std.specs.Prelude.{remove}
 use Rattle.std.proofs.lemmas.Grind.{merely}

@@ -1,4 +1,4 @@
--- The file stands in place of that of its name, or last, and there was room for it.
+-- `Session::set_file` replaces the file of a name that is held, or appends a new name and its file. `position_to_set` has shown that the file fits.
 use Rattle.std.proofs.Common.{rules, ◌≡◌, ◌+◌, ◌++◌, [], ◌∷◌, map, length, string_bytes, Some, None, ap, sym, ◌∙◌, arith}
 use Rattle.std.specs.Prelude.{slice_set}
 use Rattle.std.proofs.lemmas.List.{length-map, length-set, map-append, map-set, length_push}

@@ -1,4 +1,4 @@
--- Short names are equal if their counts and rooms are.
+-- `Name::is` compares two short names by their numbers of bytes and their arrays. The array of a short name is zero behind the bytes of the name.
 use Rattle.std.proofs.Common.{◌≡◌, ◌≤◌, ◌∙◌, sym, ap, ℕ, List, length, take, drop, replicate, ◌-◌, subst}
 use Rattle.std.specs.Prelude.{bytes_eq}
 use Rattle.std.proofs.lemmas.Bool.{ne_eqb}
