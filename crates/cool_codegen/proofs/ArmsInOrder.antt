@@ -1,4 +1,4 @@
--- A branch is put after those that are not less deep, one after the other.
+-- Lemmas on `with_branch`, which inserts a branch after the branches of classes that are no less deep: one step of the search, and its end.
 use Rattle.std.proofs.Common.{◌≡◌, ℕ, zero, suc, ◌<◌, List, [], ◌∷◌, ◌++◌, map, take, drop, length, get_or, Bool, true, false, ap, sym, subst, ◌∙◌, refl, append_assoc, arith, drop-cons}
 use Rattle.std.proofs.Math.Seq.{take-suc}
 use Rattle.std.proofs.lemmas.List.{drop-map, get_or-map, length-map}

@@ -1,4 +1,4 @@
--- A feature at its place among those of its class: it is the one there, it keeps what all keep, and its expression is small.
+-- Lemmas on the feature at a number of a class of a program within the limits: there is only one, it is within the limits, and its expression is small.
 use Rattle.std.proofs.Common.{◌≡◌, ℕ, ◌≤◌, ◌<◌, List, length, get_or, Option, Some, ap, sym, subst, ◌∙◌, arith}
 use Rattle.std.specs.Prelude.{slice_get}
 use Rattle.std.proofs.lemmas.Option.{slice_get-get_or}

@@ -1,4 +1,4 @@
--- If only lines are wanted, nothing is noted of spans, and the lines are the same.
+-- If only lines are wanted, code generation notes no spans, and the lines are the same as if spans are wanted.
 use Rattle.std.proofs.Common.{◌≡◌, ℕ, ◌+◌, List, [], ◌∷◌, ◌++◌, Option, None, Some, length, map, ap, sym, refl, ◌∙◌}
 use Rattle.std.specs.Prelude.{codes, slice_get}
 use Rattle.std.specs.List.{AllByRecursion}

@@ -1,4 +1,4 @@
--- Spans while code is made: one of them is replaced, and there are as many lines as contracts see.
+-- Lemmas on the list of spans while code is made: the replacement of one span by itself with another end, and spans of branches that are moved on.
 use Rattle.std.proofs.Common.{◌≡◌, ℕ, ◌+◌, ◌<◌, ◌≤◌, ◌^◌, List, [], ◌∷◌, ◌++◌, Bool, true, false, length, map, get_or, ap, sym, refl, ◌∙◌, arith}
 use Rattle.std.specs.Prelude.{if◌then◌else◌, nat_lt, slice_set}
 use Rattle.std.specs.Global.{Vec}

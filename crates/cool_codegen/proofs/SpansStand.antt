@@ -1,4 +1,4 @@
--- The code of the tree of each span stands where the span says: in a text behind so many lines, and in the text of a machine at an address.
+-- The code of the tree of each span is at the place that the span names: a line of a text, or an address in the text of a machine.
 use Rattle.std.proofs.Common.{ℕ, ◌+◌, List, ◌++◌, length, refl, sym, ap, ◌∙◌, subst, append_assoc, arith}
 use Rattle.std.specs.Prelude.{Contains}
 use Rattle.std.proofs.lemmas.List.{length-append}

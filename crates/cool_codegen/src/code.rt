@@ -1,4 +1,4 @@
-//! The code of a feature while it is made.
+//! The state of code generation within a feature: the names in scope, and the constants, lines and spans so far.
 
 ghost use Rattle.std.specs.Prelude.{◌≡◌, ◌<◌, [], ◌∷◌, ◌++◌, List, length, map, IfOk, OnOk};
 ghost use Rattle.mips_isa.specs.Lines.{lines_of};

@@ -1,4 +1,4 @@
-//! The labels inside the code of a feature.
+//! The labels inside the code of a feature, such as the end of a loop.
 
 ghost use Rattle.std.specs.Prelude.{◌≡◌, ◌++◌, codes, decimal, IfOk, OnOk};
 ghost use Rattle.cool_codegen.specs.Code.{label_at};

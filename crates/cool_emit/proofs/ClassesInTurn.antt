@@ -1,4 +1,4 @@
--- Totals over the classes of a table, by their numbers.
+-- The weight of a class table is the sum of the weights of its classes and features, taken class by class.
 use Rattle.std.proofs.Common.{◌≡◌, ℕ, ◌+◌, ◌≤◌, List, [], ◌∷◌, ◌++◌, length, take, drop}
 use Rattle.std.proofs.Common.{refl, ap, ◌∙◌, subst, arith, length-append, append_assoc}
 use Rattle.std.proofs.Math.Seq.{get_or-append_seam}

@@ -1,4 +1,4 @@
--- The labels with fixed names are there: those of the basic classes, those of Main, and the texts that routines write.
+-- A program has the labels with fixed names: those of the basic classes, those of Main, and those of the texts that routines write.
 use Rattle.std.proofs.Common.{◌≡◌, ℕ, zero, suc, ◌+◌, ◌<◌, List, [], ◌∷◌, ◌++◌, length, Contains, Option}
 use Rattle.std.proofs.Common.{Some, None, Bool, true, false, cond, refl, sym, ap, ◌∙◌, subst, arith}
 use Rattle.std.specs.Prelude.{codes, slice_get, nat_lt, bytes_eq, option_map}

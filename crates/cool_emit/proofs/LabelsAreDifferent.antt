@@ -1,4 +1,4 @@
--- No label of a program stands twice: each name counts once at most, as each label tells by its bytes what it is a label of.
+-- No label occurs twice in a program: each name is counted at most once, since the bytes of a label determine what it is a label of.
 use Rattle.std.proofs.Common.{ℕ, ◌≤◌, List, ◌∷◌, arith}
 use Rattle.mips_isa.specs.Lines.{Name, ToData}
 use Rattle.mips_isa.specs.Assembly.{directive_line}

@@ -1,4 +1,4 @@
--- The labels of the data stand once: those of the classes' tables and prototypes, of defaults and texts, and of constants.
+-- No label occurs twice in the data: those of the classes' tables and prototypes, of defaults and texts, and of constants.
 use Rattle.std.proofs.Common.{◌≡◌, ℕ, ◌+◌, ◌^◌, ◌<◌, ◌≤◌, List, [], ◌∷◌, ◌++◌, length, map}
 use Rattle.std.proofs.Common.{flat_map, Bool, true, false, ◌&&◌, refl, ap, ◌∙◌, arith}
 use Rattle.std.specs.Prelude.{nat_eq, nat_lt, bytes_eq, codes}

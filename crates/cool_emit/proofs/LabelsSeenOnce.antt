@@ -1,4 +1,4 @@
--- The labels of lines, where no name stands twice: what was seen before has none of those that follow, and a name among them is found.
+-- Lemmas on the labels of lines that all differ: the labels of the lines so far are different from those that follow.
 use Rattle.std.proofs.Common.{◌≡◌, ◌≢◌, List, [], ◌∷◌, ◌++◌, refl, sym, ◌∙◌, Bool, true, false}
 use Rattle.std.specs.Prelude.{bytes_eq, Contains}
 use Rattle.std.specs.List.{AllByRecursion}

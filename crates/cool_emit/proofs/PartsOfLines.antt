@@ -1,4 +1,4 @@
--- Lines that stand behind so many lines of a text.
+-- Lemmas on lines that are a part of a text after a given number of lines.
 use Rattle.std.proofs.Common.{◌≡◌, ◌∙◌, ℕ, ◌+◌, ◌≤◌, List, ◌++◌, length, take, sym, ap, append_assoc, arith}
 use Rattle.std.proofs.lemmas.List.{length-append}
 use Rattle.mips_isa.specs.Lines.{Line}

@@ -1,4 +1,4 @@
--- The results of the assembler's passes.
+-- The result of assembling a program if memory runs out or the first pass finds a fault.
 use Rattle.std.proofs.Common.{◌≡◌, sym, subst}
 use Rattle.std.specs.Prelude.{List, Result, Err}
 use Rattle.mips_isa.specs.declared.asm_fault.AsmError.{AsmError}

@@ -1,4 +1,4 @@
--- Sound lines assemble without a fault, their numbers are in range, and they are few.
+-- Lines that satisfy `AreSound` assemble without a fault; their numbers are in range, and their count is limited.
 use Rattle.std.proofs.Common.{◌≡◌, ℕ, zero, suc, ◌+◌, ◌*◌, ◌<◌, ◌≤◌, List, [], ◌∷◌, ◌++◌, length, refl, sym, ap, ◌∙◌}
 use Rattle.std.proofs.Common.{subst, arith, Bool, true, false, not, ◌||◌, ◌&&◌, Option, Some, None, length-append}
 use Rattle.std.specs.Prelude.{if◌then◌else◌, Contains, bytes_eq, is_some}

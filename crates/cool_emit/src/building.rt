@@ -1,4 +1,4 @@
-//! The image of a whole program.
+//! The image of a whole program, which the two passes of the assembler make from batches of its lines.
 
 ghost use Rattle.std.specs.Prelude.{◌≡◌, ◌<◌, ◌≤◌, ◌^◌, ◌+◌, ◌∷◌, [], Some, length, map, slice_get, string_bytes, IfOk, OnOk, None};
 ghost use Rattle.mips_isa.specs.Assembly.{fault_of, image_of, directive_line, Assembles};

@@ -1,4 +1,4 @@
-//! The initializers of classes.
+//! The code of the initializers of classes: the call of the parent's initializer, and the initial values.
 
 ghost use Rattle.std.specs.Prelude.{◌≡◌, ◌++◌, ◌<◌, ◌^◌, length, OnOk};
 ghost use Rattle.mips_isa.specs.Lines.{lines_of};

@@ -1,4 +1,4 @@
-//! The lines of the table of code.
+//! The text of a row of the table of code: a class, a name, a feature or an expression.
 
 ghost use Rattle.std.specs.Prelude.{◌≡◌, ◌++◌, ◌<◌, codes, length, IfOk};
 ghost use Rattle.std.specs.Option.{option_map};

@@ -1,4 +1,4 @@
--- Lines that are added after others.
+-- Lemmas on lists of lines to which one line, several lines, or the lines of several calls are appended.
 use Rattle.std.proofs.Common.{◌≡◌, List, [], ◌∷◌, ◌++◌, ap, ◌∙◌, append_assoc}
 use Rattle.std.specs.Prelude.{Result, Ok, Err, OnOk, is_ok, if◌then◌else◌}
 use Rattle.std.proofs.lemmas.List.{map_push, map-append}

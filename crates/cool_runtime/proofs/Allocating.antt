@@ -1,4 +1,4 @@
--- Pieces that take heap or stack: they come to an end, or to an exit by a limit.
+-- The code that pushes a word and the code that makes an Int have their effects, or the run exits by a limit of heap or stack.
 use Rattle.std.proofs.Common.{◌≡◌, ℕ, ◌+◌, ◌-◌, ◌<◌, ◌≤◌, inl, inr, List, refl, sym, ◌∙◌, subst, arith, true, false}
 use Rattle.std.specs.Prelude.{◌==◌, nat_lt}
 use Rattle.mips_isa.specs.declared.register.TheConstants.{ZERO, T2}

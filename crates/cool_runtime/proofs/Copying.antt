@@ -1,4 +1,4 @@
--- The copy of an object: its words, one after another.
+-- The routine that copies an object: its loop copies one word after another.
 use Rattle.std.proofs.Common.{◌≡◌, ℕ, zero, suc, ◌+◌, ◌*◌, ◌%◌, ◌<◌, ◌≤◌, List, [], ◌∷◌, ◌++◌, refl, ◌∙◌, arith, true, false}
 use Rattle.std.specs.Prelude.{◌==◌, not}
 use Rattle.mips_isa.specs.declared.register.TheConstants.{A0, T1, T2, T3}

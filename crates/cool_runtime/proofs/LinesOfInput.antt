@@ -1,4 +1,4 @@
--- The bytes of a line, one after another.
+-- The line that a call takes of the input: its first byte and the rest of it, its text, and the input that is left.
 use Rattle.std.proofs.Common.{◌≡◌, zero, suc, ◌≢◌, ℕ, ◌<◌, List, [], ◌∷◌, ◌++◌, length, refl, ap, ◌∙◌, arith, Bool, true, false}
 use Rattle.std.specs.Prelude.{◌==◌, if◌then◌else◌}
 use Rattle.mips_isa.specs.Calls.{Taken, taken, asked_line}

@@ -1,4 +1,4 @@
--- The routines that look up the name of a class.
+-- The routines that look up the name of a class: `type_name`, `abort`, and the end of a case without a branch.
 use Rattle.std.proofs.Common.{◌≡◌, ℕ, ◌+◌, ◌*◌, ◌<◌, inl, List, [], ◌∷◌, ◌++◌, refl, ap, ◌∙◌, arith, append_assoc}
 use Rattle.std.specs.Prelude.{Some}
 use Rattle.std.specs.Fmt.{signed_decimal}

@@ -1,4 +1,4 @@
--- Lines one after another, and runs over them.
+-- Lemmas on lines that stand in the text of a machine: the front and the back of a list of lines, and runs over both.
 use Rattle.std.proofs.Common.{◌≡◌, ℕ, ◌+◌, ◌≤◌, List, [], ◌∷◌, ◌++◌, subst, arith}
 use Rattle.mips_isa.specs.Bytes.{Bytes}
 use Rattle.mips_isa.specs.Calls.{State}

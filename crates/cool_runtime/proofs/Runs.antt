@@ -1,4 +1,4 @@
--- Runs that come to a state, one after another.
+-- Lemmas on `Reaches`, a run to a goal: one instruction more, two runs one after the other, and exits by limits.
 use Rattle.std.proofs.Common.{◌≡◌, ℕ, suc, ◌+◌, ◌-◌, ◌<◌, ◌≤◌, ◌⊎◌, inl, inr, refl, sym, ap, ◌∙◌, subst, arith}
 use Rattle.mips_isa.specs.Calls.{State, Outcome, Running, Exited, Trapped}
 use Rattle.mips_isa.specs.Run.{run, cycle, and_then}

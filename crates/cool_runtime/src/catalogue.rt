@@ -1,4 +1,4 @@
-//! The catalogue of the run-time routines.
+//! The run-time routines, as variants of the enum `Routine`.
 
 /// A run-time routine.
 #[derive(Clone, Copy)]

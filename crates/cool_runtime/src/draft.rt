@@ -1,4 +1,4 @@
-//! Drafts: lines of assembly by borrowed names, as a template gives them, and adding them after others.
+//! A draft, which is a line of assembly that borrows its label, and `write`, which appends the lines of drafts.
 
 ghost use Rattle.std.specs.Prelude.{◌≡◌, ◌++◌, ◌<◌, length, map, take, IfOk, OnErr, OnOk};
 ghost use Rattle.mips_isa.specs.Lines.{line_of, lines_of, instruction_of, statement_of};

@@ -1,4 +1,4 @@
-//! Pieces of code that several templates share.
+//! Parts of code that several routines share, such as a push or a new Int, as drafts of their lines.
 
 ghost use Rattle.std.specs.Prelude.{◌≡◌, map};
 ghost use Rattle.cool_runtime.specs.CodeOfCalls.{enter_lines};

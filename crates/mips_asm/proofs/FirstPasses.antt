@@ -1,4 +1,4 @@
--- The first pass, line by line.
+-- Lemmas on the first pass over lines in two parts: their positions, items of data, table of labels, and first fault.
 use Rattle.std.specs.Prelude.{◌≡◌, ℕ, suc, ◌+◌, List, [], ◌∷◌, ◌++◌, length, Option, Some, None, is_some, true, false, refl}
 use Rattle.std.proofs.Common.{ap, sym, ◌∙◌, append_assoc, append-nil, arith, length-append, flat_map, subst}
 use Rattle.mips_isa.specs.declared.asm_fault.AsmKind.{AsmKind}

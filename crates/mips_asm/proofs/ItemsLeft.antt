@@ -1,4 +1,4 @@
--- The items of `.word`, one after another.
+-- Lemmas on the items of `.word` that a loop has not passed: their bytes come after those so far, and their first fault is that of all items.
 use Rattle.std.proofs.Common.{◌≡◌, ◌∙◌, ℕ, List, ◌∷◌, ◌++◌, flat_map, Option}
 use Rattle.std.specs.List.{AllByRecursion}
 use Rattle.mips_isa.specs.declared.place.Place.{Place}

@@ -1,4 +1,4 @@
--- No position of lines without a fault of the first pass is too large.
+-- If lines have no fault of the first pass, the text and the data fit into their segments after each line.
 use Rattle.std.specs.Prelude.{◌≡◌, ℕ, zero, suc, nat_lt, ◌||◌, Bool, true, false, if◌then◌else◌, List, [], ◌∷◌, ◌++◌, Option, Some, None, refl}
 use Rattle.std.proofs.Common.{true≢false}
 use Rattle.std.proofs.lemmas.Bool.{ltb-false}

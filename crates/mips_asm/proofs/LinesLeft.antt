@@ -1,4 +1,4 @@
--- The second pass, line by line.
+-- Lemmas on the state of the second pass (`IsLeft`) at a line without a fault, at a line with a fault, and at a line after a fault.
 use Rattle.std.specs.Prelude.{◌≡◌, ℕ, ◌+◌, List, [], ◌∷◌, ◌++◌, length, Option, Some, None, is_some, Bool, true, false, if◌then◌else◌, Result, Ok, Err, OnOk}
 use Rattle.std.proofs.Common.{ap, sym, ◌∙◌, subst, add-one}
 use Rattle.mips_isa.specs.declared.place.Place.{Place}

@@ -1,4 +1,4 @@
-//! The table of labels.
+//! The table of labels: each label with its mark.
 
 ghost use Rattle.std.specs.Prelude.{◌≡◌, bytes_eq};
 ghost use Rattle.std.specs.Map.{lookup};

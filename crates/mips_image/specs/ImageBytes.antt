@@ -8,7 +8,7 @@ use Rattle.mips_image.specs.declared.stored_image.TheConstants.{MAGIC, UNCHECKED
 abbrev pub word_bytes : ℕ → List ℕ
 word_bytes = little_bytes 4
 
--- 1 marks code made before arithmetic was checked for overflow, or by hand; 2 code whose Cool arithmetic ends a run on overflow
+-- Version 1 marks code that was compiled without checks of arithmetic for overflow, or written by hand; version 2 marks code compiled with them.
 abbrev pub IsVersion : ℕ → Type 0
 IsVersion version = (version ≡ UNCHECKED_VERSION) ⊎ (version ≡ CHECKED_VERSION)
 

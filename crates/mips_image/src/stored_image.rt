@@ -4,18 +4,18 @@ use mips_isa::Image;
 
 /// An image and the version of its bytes.
 ///
-/// Version 1 marks code made before arithmetic was checked for overflow, or by hand; version 2 code whose Cool
-/// arithmetic ends a run on overflow. A machine treats both alike.
+/// Version 1 marks code that was compiled before the compiler checked arithmetic for overflow, or written by hand. Version 2 marks code that was compiled
+/// from Cool, with arithmetic that ends the run on overflow. The machine executes both versions in the same way.
 #[derive(Drop)]
 pub struct StoredImage {
     pub image: Image,
     pub version: u32,
 }
 
-/// A byte that begins no text, and the letters CMI.
+/// The magic number: a byte with which no text begins, and the letters `CMI`.
 pub const MAGIC: [u8; 4] = [0x7f, b'C', b'M', b'I'];
 
-/// The place of the version in the bytes, after the magic.
+/// The place of the version in the bytes, after the magic number.
 pub const VERSION_PLACE: usize = 4;
 
 /// The place of the number of words of the text.
@@ -30,8 +30,8 @@ pub const ENTRY_PLACE: usize = 16;
 /// The bytes of the header.
 pub const HEADER_BYTES: usize = 20;
 
-/// The version of code made before arithmetic was checked for overflow, or by hand.
+/// The version of code that was compiled before the compiler checked arithmetic for overflow, or written by hand.
 pub const UNCHECKED_VERSION: u32 = 1;
 
-/// The version of code whose Cool arithmetic ends a run on overflow.
+/// The version of code that was compiled from Cool, with arithmetic that ends the run on overflow.
 pub const CHECKED_VERSION: u32 = 2;

@@ -1,4 +1,4 @@
--- A name is found among those that begin with its first letter.
+-- The search for a mnemonic by its name may pass over all mnemonics that begin with another letter.
 use Rattle.std.proofs.Common.{◌≡◌, ◌≢◌, ap, refl, arith, ℕ, zero, suc, ◌+◌, ◌<◌, ◌≤◌, Bool, true, false, cond, List, [], ◌∷◌, length, map, take, drop, get_or, filter, find, Decides}
 use Rattle.std.specs.Prelude.{◌==◌, ◌||◌, not, bytes_eq, Some, None}
 use Rattle.std.specs.List.{list_all}

@@ -1,4 +1,4 @@
--- Labels before the rest of a line.
+-- Lemmas on the words of a line: they begin with a label and its colon, or they are the rest of the line.
 use Rattle.std.proofs.Common.{◌≡◌, ◌∙◌, sym, ap, refl, arith, ℕ, zero, suc, ◌+◌, ◌-◌, Bool, true, false, List, [], ◌∷◌, ◌++◌, length, map, take, drop, length-drop, Result, Ok, Err}
 use Rattle.std.proofs.lemmas.List.{drop-map, take_all}
 use Rattle.std.specs.List.{slice_get}

@@ -1,4 +1,4 @@
--- Prefixes of bytes that pass a test: those whose bytes all do, and those that are too long.
+-- A prefix of `prefix_len` bytes or fewer has only bytes that pass the test, and no longer prefix has.
 use Rattle.std.proofs.Common.{◌≡◌, ◌∙◌, ap, refl, arith, ℕ, zero, suc, ◌≤◌, ◌<◌, Bool, true, false, List, [], ◌∷◌, length, take}
 use Rattle.std.specs.Prelude.{◌&&◌}
 use Rattle.std.specs.List.{list_all, prefix_len}

@@ -1,4 +1,4 @@
--- Tables of texts, as lists of references.
+-- The n-th reference of a list of references to texts refers to the n-th text.
 use Rattle.std.proofs.Common.{◌≡◌, ℕ, List, Bor, map, get_or, sym}
 use Rattle.std.proofs.Math.ListN.{get_or-map}
 

@@ -1,4 +1,4 @@
--- Decimal numbers spell their values.
+-- The decimal text of a number is read as the number.
 use Rattle.std.proofs.Common.{◌≡◌, ◌∙◌, ap, refl, arith, ℕ, suc, ◌+◌, ◌-◌, ◌*◌, ◌/◌, ◌%◌, ◌^◌, ◌≤◌, ◌<◌, ℤ, pos, negsuc, Bool, true, false, List, [], ◌∷◌, ◌++◌, length, take, min, if◌then◌else◌}
 use Rattle.std.specs.Prelude.{Some, None, option_map, not, ◌&&◌, ◌==◌}
 use Rattle.std.specs.Option.{option_or}

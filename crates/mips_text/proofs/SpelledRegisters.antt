@@ -1,4 +1,4 @@
--- Registers spell themselves, and so do operands in memory.
+-- The text of a register, and that of an operand in memory, is read as its words (`Spells`).
 use Rattle.std.proofs.Common.{◌≡◌, ◌∙◌, ap, refl, arith, ℕ, zero, suc, ◌<◌, ℤ, Bool, true, List, [], ◌∷◌, ◌++◌, append_assoc, length, take, nat_lt, if◌then◌else◌}
 use Rattle.std.specs.Prelude.{Some, None, not, ◌&&◌}
 use Rattle.std.specs.List.{list_all, prefix_len}

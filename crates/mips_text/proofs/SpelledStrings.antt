@@ -1,4 +1,4 @@
--- Strings in their quotes spell their bytes.
+-- The text of a printed string in its quotes is read as the bytes of the string.
 use Rattle.std.proofs.Common.{◌≡◌, ◌∙◌, sym, ap, refl, arith, ℕ, ◌+◌, Bool, true, false, List, [], ◌∷◌, ◌++◌, append_assoc, length, take, flat_map, length-append, if◌then◌else◌}
 use Rattle.std.specs.Prelude.{Some, option_map, not, ◌&&◌, ◌==◌}
 use Rattle.std.specs.List.{list_all}

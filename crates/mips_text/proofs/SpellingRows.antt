@@ -1,4 +1,4 @@
--- Rows as they are printed, operand by operand.
+-- Lemmas on the loops that print the operands of a line one by one.
 use Rattle.std.proofs.Common.{◌≡◌, ℕ, List, [], ◌∷◌, ◌++◌, ◌+◌, refl, sym, ap, ◌∙◌, append_assoc, length, drop, map, get_or, ◌<◌, ◌≤◌, add-one, add-zero, suc, arith, Result, Ok, Err, OnOk, is_ok, if◌then◌else◌}
 use Rattle.std.proofs.lemmas.List.{append-nil, drop_all, length-map}
 use Rattle.std.proofs.Math.Seq.{drop-cons}

@@ -1,4 +1,4 @@
-//! The errors while a line is read.
+//! The reason why a line was not read: memory ran out, or a word is at fault.
 
 ghost use Rattle.std.specs.Prelude.{◌≡◌};
 ghost use Rattle.mips_text.specs.declared.flaw.Flaw.TheVariants.{Memory};

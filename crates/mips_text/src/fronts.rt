@@ -1,4 +1,4 @@
-//! Scanning the word at a place of a line.
+//! Scanning the longest word at the front of a text.
 
 ghost use Rattle.std.specs.Prelude.{◌≡◌, ◌∷◌, ◌≤◌, ◌<◌, Some, false, IfSome, length, option_map};
 ghost use Rattle.mips_text.specs.declared.class.Start.TheVariants as start;

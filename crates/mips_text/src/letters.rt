@@ -1,4 +1,4 @@
-//! The bytes of words.
+//! The kinds of bytes: those that separate words, and those of which names and registers consist.
 
 ghost use Rattle.std.specs.Prelude.{◌≡◌};
 ghost use Rattle.std.specs.Char.{is_ascii_alphanumeric};

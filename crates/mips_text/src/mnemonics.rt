@@ -1,4 +1,4 @@
-//! The mnemonics: the names of instructions, and of those that stand for others.
+//! The mnemonics of instructions and pseudoinstructions, and the search for one by its name.
 
 ghost use Rattle.std.specs.Prelude.{◌≡◌, bytes_eq};
 ghost use Rattle.std.specs.List.{find};

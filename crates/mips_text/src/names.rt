@@ -1,4 +1,4 @@
-//! Names, as labels have them.
+//! The names of labels: which words are names.
 
 ghost use Rattle.std.specs.Prelude.{◌≡◌};
 ghost use Rattle.mips_text.specs.Names.{is_name};

@@ -1,4 +1,4 @@
-//! Numbers, as they are written.
+//! The value of digits in a base; a value past the range of every operand is read as `LARGEST`.
 
 ghost use Rattle.std.specs.Prelude.{◌≡◌, ◌≤◌, min};
 ghost use Rattle.mips_text.specs.Words.{digit_value, value};

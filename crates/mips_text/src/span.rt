@@ -1,4 +1,4 @@
-//! Spans: bytes of one kind from the front of a text on.
+//! The number of bytes of one kind at the front of a text.
 
 ghost use Rattle.std.specs.Prelude.{◌≡◌, ◌≤◌, length};
 ghost use Rattle.std.specs.List.{prefix_len};

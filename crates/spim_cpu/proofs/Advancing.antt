@@ -1,4 +1,4 @@
--- Instructions one after another.
+-- Lemmas on runs of the processor: one instruction more, and fewer addresses at which a run stops.
 use Rattle.std.proofs.Common.{◌≡◌, ◌-◌, ◌<◌, ◌≤◌, subst, ℕ, zero, suc, Bool, false, List, arith}
 use Rattle.mips_isa.specs.Bytes.{Segments}
 use Rattle.mips_isa.specs.Machine.{Core, On, step}

@@ -1,4 +1,4 @@
--- A run keeps the sink that lends to a counting one: its puts begin with its number.
+-- A counting sink refers to the same sink through a run: the number with which the list of its puts begins does not change.
 use Rattle.std.proofs.Common.{◌≡◌, ◌∙◌, refl, sym, ap, subst, ℕ, ◌+◌, List, [], ◌∷◌, ◌++◌, length, arith}
 use Rattle.std.specs.Prelude.{Bool, Option, Some}
 use Rattle.std.specs.List.{concat}

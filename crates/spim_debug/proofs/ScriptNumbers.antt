@@ -1,4 +1,4 @@
--- Numbers of few digits.
+-- Bounds on the numbers of a script by the count of their digits: eight hexadecimal digits are a number of 32 bits.
 use Rattle.std.proofs.Common.{◌≡◌, ap, sym, ◌∙◌, arith, ℕ, suc, ◌+◌, ◌*◌, ◌^◌, ◌<◌, ◌≤◌, true, List, [], ◌∷◌, length}
 use Rattle.std.proofs.Math.Nat as nat
 use Rattle.std.specs.List.{fold, list_all}

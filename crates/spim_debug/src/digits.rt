@@ -1,4 +1,4 @@
-//! The digits of a word.
+//! The hexadecimal digits of a word.
 
 ghost use Rattle.std.specs.Prelude.{◌≡◌};
 ghost use Rattle.arrayvec.specs.ArrayString.{array_string_len};

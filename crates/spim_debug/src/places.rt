@@ -1,4 +1,4 @@
-//! The words of a program's text that a script may name.
+//! The address of the word of a program's text that a label or an address of a script names.
 
 ghost use Rattle.std.specs.Prelude.{◌≡◌, ◌||◌};
 ghost use Rattle.std.specs.Option.{is_some};

@@ -1,4 +1,4 @@
-//! Numbers in the input.
+//! The number at the front of a line of the input, as the system call `read_int` takes it.
 
 ghost use Rattle.std.specs.Prelude.{◌≡◌, List, ℕ, OnOk, OnErr, IfOk, false, [], ◌∷◌};
 ghost use Rattle.cool_ports.specs.Counts.{Rose};

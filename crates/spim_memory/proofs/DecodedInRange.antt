@@ -1,4 +1,4 @@
--- An instruction that is decoded is in range.
+-- The instruction that `decoded` gives for a word has all its fields in range.
 use Rattle.std.proofs.Common.{◌≡◌, ◌∙◌, sym, ℕ, ◌/◌, ◌<◌, ◌≤◌, None, Some, arith}
 use Rattle.std.specs.Prelude.{◌==◌, if◌then◌else◌, Option, IfSome}
 use Rattle.mips_isa.specs.declared.instr.Instr.{Instr}

@@ -1,4 +1,4 @@
-//! Loads and stores.
+//! The memory of a machine (text, data, heap and stack), and its loads and stores.
 
 ghost use Rattle.std.specs.Prelude.{◌≡◌, ◌<◌, ◌≤◌, length, replicate, Ok, Err, IfOk, IfErr, IfSome, OnOk, OnErr};
 ghost use Rattle.mips_isa.specs.declared.address_map.TheConstants.{MOST_TEXT_WORDS};

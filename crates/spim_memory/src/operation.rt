@@ -1,4 +1,4 @@
-//! Instructions as they are executed.
+//! The operations that the processor executes, one for each instruction of the text, decoded once.
 
 ghost use Rattle.std.specs.Prelude.{◌≡◌, ◌<◌, Some, IfSome};
 ghost use Rattle.mips_isa.specs.declared.instr.Instr.TheVariants as instr;

@@ -1,4 +1,5 @@
--- All lines are one part.
+-- `assemble` gives all lines to the first pass in one part, and then all lines to the second pass in one part.
+-- Its result is that of `SecondPass::finish`, which satisfies `Assembles` for all these lines.
 use Rattle.std.proofs.Common.{[], append-nil, sym, subst}
 use Rattle.mips_isa.specs.Lines.{lines_of}
 use Rattle.mips_asm.specs.SecondPasses.{HasLeft}

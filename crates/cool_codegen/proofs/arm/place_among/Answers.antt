@@ -1,4 +1,5 @@
--- The branch at the place is passed, or the new one stands before it.
+-- `place_among` returns the place at which `with_branch` of `Spans.antt` inserts a branch of this depth.
+-- Both pass each branch whose class is no less deep and stop at the first one that is less deep.
 use Rattle.std.proofs.Common.{◌+◌, ◌<◌, map, length, ap, ◌∙◌, arith}
 use Rattle.std.specs.Prelude.{nat_lt}
 use Rattle.cool_codegen.specs.declared.arm.Arm as declared_arm

@@ -1,4 +1,4 @@
--- No branch so far is of a class that is less deep.
+-- The loop of `place_among` has so far passed only branches of classes that are no less deep, so `with_branch` passes them, too.
 use Rattle.std.proofs.Common.{◌≡◌, ◌++◌, map, take, drop}
 use Rattle.cool_codegen.specs.Spans.{Branch, branch_of, with_branch}
 use Rattle.cool_codegen.proofs.arm.place_among.Given as goal

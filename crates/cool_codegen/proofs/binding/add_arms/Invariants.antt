@@ -1,4 +1,4 @@
--- The lines and the spans of the branches that are left come after those that were added.
+-- The lines and spans that `add_arms` has so far, with those of the branches that are left, are those of all branches.
 use Rattle.std.proofs.Common.{◌≡◌, ◌++◌, map}
 use Rattle.std.specs.List.{AllByRecursion}
 use Rattle.mips_isa.specs.Lines.{lines_of}

@@ -1,4 +1,4 @@
--- The word is four times so many bytes below the frame, and four more.
+-- `pushed` returns the variable whose value is pushed at a depth: its offset from the frame pointer is `-(4 * depth + 4)` bytes.
 use Rattle.std.proofs.Common.{◌≡◌, ◌+◌, ◌*◌, suc, ap, negsuc, rules, arith}
 use Rattle.cool_codegen.specs.Code.{minus}
 use Rattle.cool_codegen.proofs.binding.pushed.Goals as goal

@@ -1,4 +1,4 @@
--- The name of the file is that of the context.
+-- `file_label` returns the label of the name of a place's file: the name at that number in the setting is `file_name` of its context.
 use Rattle.std.proofs.Common.{◌≡◌, [], ap, sym, ◌∙◌}
 use Rattle.std.specs.Prelude.{string_bytes}
 use Rattle.std.proofs.lemmas.Result.{IfOk-weaker}

@@ -1,4 +1,5 @@
--- The number is that of the table after more constants, too.
+-- `int_label` returns the label that an integer has in the table of constants, and in each table that extends it (`Extends`).
+-- The label stays the same because constants are only added at the end.
 use Rattle.std.proofs.Common.{◌≡◌, ◌++◌, ap, sym, ◌∙◌}
 use Rattle.std.specs.Prelude.{nat_eq}
 use Rattle.std.specs.List.{position_or_len}

@@ -1,4 +1,4 @@
--- At first all attributes of the class are left.
+-- The loop of `attribute_variables` enters the attributes of a class into the scope one by one. Before its first step all of them are left.
 use Rattle.std.proofs.Common.{◌∙◌, sym, subst, rules, arith, Contains}
 use Rattle.std.specs.List.{AllByRecursion}
 use Rattle.cool_classes.specs.ClimbedChains.{chain}

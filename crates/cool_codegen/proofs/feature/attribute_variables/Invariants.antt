@@ -1,4 +1,4 @@
--- The attributes that are left are those of the class, and with them the variables are all.
+-- The variables that `attribute_variables` has so far, with those of the attributes that are left, are those of all attributes of the class.
 use Rattle.std.proofs.Common.{◌≡◌, Contains}
 use Rattle.std.specs.List.{AllByRecursion}
 use Rattle.cool_classes.specs.Features.{HasAttribute}

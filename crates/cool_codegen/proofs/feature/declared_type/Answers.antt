@@ -1,4 +1,4 @@
--- The type that an attribute's declared name denotes is the one that it means.
+-- `declared_type` returns `type_meant` of the declared name of an attribute, since `attribute_type` returns the type that the name denotes.
 use Rattle.cool_rules.proofs.RulesOfTables.{type_meant_is}
 use Rattle.cool_codegen.proofs.feature.declared_type.Goals as goal
 

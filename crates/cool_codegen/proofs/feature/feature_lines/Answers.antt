@@ -1,4 +1,4 @@
--- The lines are those of the feature's code.
+-- `feature_lines` returns the lines of the code that `wanted_code` makes for the feature.
 use Rattle.cool_codegen.proofs.feature.feature_lines.Goals as goal
 
 pub returns-clause-lines : goal.returns-clause-lines

@@ -1,4 +1,4 @@
--- The formals that are left are entered after those that were.
+-- The variables that `formal_variables` has so far, with those of the formals that are left, are those of all formals.
 use Rattle.std.proofs.Common.{◌≡◌, ◌<◌, ◌^◌, length, drop}
 use Rattle.cool_codegen.specs.Features.{with_formals}
 use Rattle.cool_codegen.specs.CodeSettings.{HaveTypes}

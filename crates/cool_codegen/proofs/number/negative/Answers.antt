@@ -1,4 +1,4 @@
--- The number with the other sign fits, too.
+-- `negative` returns a number below 2 ^ 31 with the other sign, which fits into an `i32`.
 use Rattle.std.proofs.Common.{◌≡◌, ℕ, zero, suc, ap, ◌∙◌, refl, w32, rules, arith}
 use Rattle.std.specs.Prelude.{pos, ◌-ℤ◌}
 use Rattle.std.proofs.lemmas.Int.{to_z-of_z, to_z_pos}

@@ -1,4 +1,4 @@
--- A number below 2 ^ 31 is read as itself.
+-- `signed` returns a number below 2 ^ 31 as an `i32` of the same value.
 use Rattle.std.proofs.Common.{w32}
 use Rattle.std.proofs.lemmas.Int.{to_z_pos}
 use Rattle.cool_codegen.proofs.number.signed.Goals as goal

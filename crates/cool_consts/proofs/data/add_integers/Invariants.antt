@@ -1,4 +1,4 @@
--- The integers so far.
+-- `add_integers` has so far appended the objects of the integers that its loop has passed.
 use Rattle.std.proofs.Common.{◌≡◌, ◌++◌, take}
 use Rattle.mips_isa.specs.Lines.{lines_of}
 use Rattle.cool_consts.specs.LinesOfConstants.{integers_lines}

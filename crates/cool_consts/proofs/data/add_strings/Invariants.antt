@@ -1,4 +1,4 @@
--- The strings so far.
+-- `add_strings` has so far appended the objects of the strings that its loop has passed, and of their lengths.
 use Rattle.std.proofs.Common.{◌≡◌, ◌++◌, take}
 use Rattle.mips_isa.specs.Lines.{lines_of}
 use Rattle.cool_consts.specs.LinesOfConstants.{strings_lines}

@@ -1,4 +1,5 @@
--- The lines are sound, so they assemble without a fault.
+-- `build` cannot reach the arm of a fault: the lines of a program within the limits satisfy `AreSound` of `SoundLines.antt`.
+-- Such lines assemble without a fault.
 use Rattle.std.proofs.Common.{◌≡◌, ◌∙◌, Some, None, Err, map, sym, subst}
 use Rattle.std.specs.Prelude.{string_bytes}
 use Rattle.mips_isa.specs.declared.asm_fault.AsmError.{AsmError}

@@ -1,4 +1,4 @@
--- One more line.
+-- `addresses` returns the address of each line and the address after the last one; each step of its loop adds the size of one line.
 use Rattle.std.proofs.Common.{◌≡◌, ◌∙◌, ◌+◌, ◌++◌, ◌∷◌, ℕ, List, [], take, drop, ap, ap₂, sym, arith}
 use Rattle.std.proofs.lemmas.List.{map-append, take-append-drop}
 use Rattle.mips_isa.specs.Lines.{Line, line_of, lines_of}

@@ -1,4 +1,4 @@
--- The lines of the classes so far.
+-- `classes_text` has so far the rows of the classes that its loop has passed.
 use Rattle.std.proofs.Common.{◌≡◌, flat_map}
 use Rattle.cool_layout.specs.Preorder.{numbers_from}
 use Rattle.cool_emit.specs.CodeTables.{class_rows}

@@ -1,4 +1,4 @@
--- One name less is left.
+-- `names_text` returns the rows of the latest `count` names; each step of its loop appends the row of one name and removes the name.
 use Rattle.std.proofs.Common.{◌≡◌, ◌∙◌, ◌+◌, ◌-◌, ◌≤◌, ◌<◌, ◌++◌, ◌∷◌, ℕ, suc, List, [], flat_map, length, take, ap, ap₂, sym, refl, append_assoc, arith}
 use Rattle.std.specs.Prelude.{codes}
 use Rattle.cool_codegen.specs.Variables.{Named}

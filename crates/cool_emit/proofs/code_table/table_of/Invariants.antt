@@ -1,4 +1,4 @@
--- The classes so far were told.
+-- `table_of` has so far the rows of all classes and those of the code of the classes that its loop has passed.
 use Rattle.std.proofs.Common.{◌≡◌, ◌+◌, ◌++◌, flat_map, length}
 use Rattle.mips_isa.specs.declared.address_map.TheConstants.{TEXT_START}
 use Rattle.cool_runtime.specs.RoutineLines.{all_routine_lines}

@@ -1,4 +1,4 @@
--- The layout stands after the directive, then the constants, and then the word of the heap.
+-- `add_data` appends the directive `.data`, the layout, the constants and the word at which the heap begins, in this order.
 use Rattle.std.proofs.Common.{◌≡◌, ◌∙◌, ◌++◌, ◌∷◌, ℕ, List, [], ap, append_assoc, arith}
 use Rattle.std.proofs.lemmas.List.{map_push}
 use Rattle.mips_isa.specs.Assembly.{directive_line}

@@ -1,4 +1,4 @@
--- A label, and the word under it.
+-- `add_heap` appends `heap_lines` of `Programs.antt`: the label `heap_start`, and a word.
 use Rattle.std.proofs.Common.{[], ◌∷◌, map, ap, ◌∙◌}
 use Rattle.mips_isa.specs.Lines.{WordItem, item_of}
 use Rattle.cool_runtime.specs.LinesOfData.{words}

@@ -1,4 +1,5 @@
--- The routines, the classes and the data stand one after the other, and the constants are those that all features ask for.
+-- `lines` returns `program_lines` of `Programs.antt`: the text and the data, with the constants that all features name.
+-- The lines satisfy `AreSound` of `SoundLines.antt`, because the program is within the limits.
 use Rattle.std.proofs.Common.{◌≡◌, ◌∙◌, ◌++◌, ◌∷◌, List, map, ap}
 use Rattle.std.specs.Prelude.{string_bytes}
 use Rattle.mips_isa.specs.Assembly.{directive_line}

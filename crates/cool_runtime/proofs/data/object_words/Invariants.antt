@@ -1,4 +1,4 @@
--- The words of the head, and the fields so far.
+-- The loop of `object_words` has so far the words of the head and those of the fields that it has passed.
 use Rattle.std.proofs.Common.{◌≡◌, map}
 use Rattle.mips_isa.specs.Lines.{item_of}
 use Rattle.cool_runtime.specs.LinesOfData.{object_words}

@@ -1,4 +1,4 @@
--- The one field is the address of the length.
+-- `string_head` returns `string_head_lines` of `LinesOfData.antt`: it calls `object` with one field, the address of the length.
 use Rattle.std.proofs.Common.{◌≡◌, List, [], ◌∷◌, map, ap, ◌∙◌, subst}
 use Rattle.std.specs.Prelude.{IfOk}
 use Rattle.mips_isa.specs.Lines.{WordItem, lines_of, item_of}

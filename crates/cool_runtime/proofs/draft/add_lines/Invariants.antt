@@ -1,4 +1,4 @@
--- The lines before, and those of the drafts so far.
+-- The loop of `add_lines` has so far appended the lines of the drafts that it has passed, and kept all lines before these.
 use Rattle.std.proofs.Common.{◌≡◌, ◌++◌, length, map, take}
 use Rattle.mips_isa.specs.Lines.{lines_of}
 use Rattle.cool_runtime.specs.Drafts.{drafted}

@@ -1,4 +1,5 @@
--- The contract of the routine, whether there was memory for its lines or not.
+-- `routine` ensures `Means` of `Meanings.antt`, the effect of the routine in a text that has its lines, by `means` of `MeaningsMet.antt`.
+-- This clause does not depend on the result of `routine`, so it holds also if memory runs out.
 use Rattle.cool_runtime.proofs.MeaningsMet.{means}
 use Rattle.cool_runtime.proofs.lines.routine.Goals as goal
 

@@ -1,4 +1,4 @@
--- The line of each draft is that of the template.
+-- The drafts of `bytes` are, line by line, `bytes_lines` of `Routines.antt`, the loop that copies `$t3` bytes from `$t2` to `$t4`.
 use Rattle.cool_runtime.proofs.piece.bytes.Goals as goal
 
 pub returns : goal.returns

@@ -1,4 +1,4 @@
--- The line of each draft is that of the template.
+-- The drafts of `error` are, line by line, `error_lines` of `Routines.antt`, the code that writes an error with its place and exits with 3.
 use Rattle.cool_runtime.specs.Labels.{colon_text}
 use Rattle.cool_runtime.proofs.piece.error.Goals as goal
 

@@ -1,4 +1,4 @@
--- The line of each draft is that of the template.
+-- The drafts of `new_int` are, line by line, `new_int_lines` of `Routines.antt`, the code that allocates an Int with the value of `$t2`.
 use Rattle.cool_runtime.specs.Labels.{heap_limit, int_prototype}
 use Rattle.cool_runtime.proofs.piece.new_int.Goals as goal
 

@@ -1,4 +1,4 @@
--- The line of each draft is that of the template.
+-- The drafts of `string_return` are, line by line, `string_return_lines` of `Routines.antt`, the code that returns the String after `$gp`.
 use Rattle.cool_runtime.proofs.piece.string_return.Goals as goal
 
 pub returns : goal.returns

@@ -1,4 +1,4 @@
--- The line of each draft is that of the template.
+-- The drafts of `abort` are, line by line, `abort_lines` of `Routines.antt`, the code that writes the name of a class and exits with 3.
 use Rattle.std.proofs.Common.{◌≡◌, map, [], ◌∷◌}
 use Rattle.cool_runtime.specs.Labels.{abort, abort_text, name_table, newline_text}
 use Rattle.cool_runtime.specs.Drafts.{drafted}

@@ -1,4 +1,4 @@
--- The line of each draft is that of the template.
+-- The drafts of `concat_begin` are, line by line, `concat_begin_lines` of `Routines.antt`, the code that reads two lengths and asks for room.
 use Rattle.cool_runtime.specs.Labels.{heap_limit, string_concat}
 use Rattle.cool_runtime.proofs.routine_part.concat_begin.Goals as goal
 

@@ -1,4 +1,4 @@
--- The line of each draft is that of the template.
+-- The drafts of `concat_turn` are, line by line, `concat_turn_lines` of `Routines.antt`, the code that turns to the second of two Strings.
 use Rattle.cool_runtime.specs.Labels.{concat_second}
 use Rattle.cool_runtime.proofs.routine_part.concat_turn.Goals as goal
 

@@ -1,4 +1,4 @@
--- The line of each draft is that of the template.
+-- The drafts of `copy_first` are, line by line, `copy_first_lines` of `Routines.antt`, the code that asks for room for the copy of an object.
 use Rattle.cool_runtime.specs.Labels.{copy, heap_limit}
 use Rattle.cool_runtime.proofs.routine_part.copy_first.Goals as goal
 

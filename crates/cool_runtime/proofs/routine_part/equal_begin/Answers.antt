@@ -1,4 +1,4 @@
--- The line of each draft is that of the template.
+-- The drafts of `equal_begin` are, line by line, `equal_begin_lines` of `Routines.antt`, the code that compares the addresses and tags of two objects.
 use Rattle.std.proofs.Common.{◌≡◌, map, [], ◌∷◌}
 use Rattle.cool_runtime.specs.Labels.{bool_prototype, equal_false, equal_strings, equal_true, equal_values, equality, int_prototype, string_prototype}
 use Rattle.cool_runtime.specs.Drafts.{drafted}

@@ -1,4 +1,4 @@
--- The line of each draft is that of the template.
+-- The drafts of `equal_true` are, line by line, `equal_true_lines` of `Routines.antt`, the code that returns the Bool true.
 use Rattle.cool_runtime.specs.Labels.{equal_true, true_constant}
 use Rattle.cool_runtime.proofs.routine_part.equal_true.Goals as goal
 

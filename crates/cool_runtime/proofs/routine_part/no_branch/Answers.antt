@@ -1,4 +1,4 @@
--- The line of each draft is that of the template.
+-- The drafts of `no_branch` are, line by line, `no_branch_lines` of `Routines.antt`, the code that ends a case in which no branch matches.
 use Rattle.std.proofs.Common.{◌≡◌, map, [], ◌∷◌}
 use Rattle.cool_runtime.specs.Labels.{case_abort, colon_text, name_table, no_branch_text, stop_text}
 use Rattle.cool_runtime.specs.Drafts.{drafted}

@@ -1,4 +1,4 @@
--- The line of each draft is that of the template.
+-- The drafts of `out_string` are, line by line, `out_string_lines` of `Routines.antt`, the code that writes the String at `$sp`.
 use Rattle.cool_runtime.specs.Labels.{out_string}
 use Rattle.cool_runtime.proofs.routine_part.out_string.Goals as goal
 

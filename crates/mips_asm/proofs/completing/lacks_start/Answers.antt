@@ -1,4 +1,4 @@
--- Whether `__start` is missing, by the segments of the names.
+-- `lacks_start` returns whether `__start` is no label of the lines and `main` is one in text, by the segments that `segment_of` returns.
 use Rattle.std.proofs.Common.{Some, None, sym, ◌∙◌, refl}
 use Rattle.mips_isa.specs.declared.place.Segment.TheVariants.{Text}
 use Rattle.mips_isa.specs.Lines.{lines_of}

@@ -1,4 +1,4 @@
--- The lines before this one do not have the label.
+-- The loop of `segment_of` has passed only lines without the label, so the answer for the lines that are left is that for all lines.
 use Rattle.std.proofs.Common.{◌≡◌, drop}
 use Rattle.mips_isa.specs.declared.place.Segment.TheVariants.{Text}
 use Rattle.mips_isa.specs.Lines.{lines_of}

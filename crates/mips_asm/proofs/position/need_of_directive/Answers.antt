@@ -1,4 +1,4 @@
--- The unit of `.align` is small.
+-- `need_of_directive` returns a need that is small (`IsSmall`): the unit of `.align` is 2 to an exponent of at most 12.
 use Rattle.std.proofs.Common.{rules, ◌≤◌}
 use Rattle.mips_asm.proofs.SmallUnits.{shifted_unit}
 use Rattle.mips_asm.proofs.position.need_of_directive.Goals as goal

@@ -1,4 +1,4 @@
--- The labels before this one are in the table.
+-- `define_labels` has so far put the labels that its loop has passed into the table (`Defining`).
 use Rattle.std.proofs.Common.{drop}
 use Rattle.mips_asm.specs.Passes.{shown}
 use Rattle.mips_asm.proofs.LabelTables.{Defining}

@@ -1,4 +1,4 @@
--- The lines before this one do not have the label, and their words are counted.
+-- The count of `words_before` so far, with the words before the label in the lines that are left, is the number of words before it in all lines.
 use Rattle.std.proofs.Common.{◌≡◌, ◌+◌, ◌≤◌, drop}
 use Rattle.mips_isa.specs.Lines.{lines_of}
 use Rattle.mips_asm.specs.TextWords.{words_in, words_before}

@@ -1,4 +1,4 @@
--- The next word's byte goes behind the bytes so far.
+-- `bytes` returns the operands of `.byte`; each step of its loop appends the number of one word.
 use Rattle.std.proofs.Common.{rules, ◌≡◌, ◌++◌, ◌∷◌, [], map, take, get_or, ap, sym, ◌∙◌}
 use Rattle.std.proofs.lemmas.List.{map-append, take_more}
 use Rattle.mips_text.specs.Statements.{byte_made}

@@ -1,4 +1,4 @@
--- If the first byte begins a name, those after it decide.
+-- `is_name` returns whether a word is a name: if its first byte begins a name, the answer depends on the bytes after it.
 use Rattle.std.proofs.Common.{◌≡◌, ◌∙◌, ◌-◌, ◌≤◌, sym, ap, refl, rules, tests, arith, Bool, true, ℕ, List, [], ◌∷◌, length, get_or, drop, take}
 use Rattle.std.specs.Prelude.{◌&&◌}
 use Rattle.std.specs.List.{list_all}

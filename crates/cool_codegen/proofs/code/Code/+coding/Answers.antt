@@ -1,5 +1,5 @@
--- The lines of a branch are its test, its body, and the way to the end; a number with the other sign names its file by the table after it.
--- The setting after a part is the one before it, so what comes next is added as if in that one.
+-- The functions of the group `coding` (`expression`, `control`, `unary`, `operands`, `arms`, `arm`) append the lines and spans that `Numbered.antt` defines.
+-- Each step joins the lines, spans and constants that its parts add, and no part changes the setting or the scope.
 use Rattle.std.proofs.Common.{◌≡◌, ◌+◌, ◌<◌, List, [], ◌++◌, ◌∷◌, length, map, drop, ap, sym, subst, ◌∙◌, append_assoc, rules, arith}
 use Rattle.std.specs.Prelude.{codes}
 use Rattle.std.specs.List.{AllByRecursion}

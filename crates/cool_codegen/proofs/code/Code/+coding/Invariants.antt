@@ -1,4 +1,5 @@
--- Parts have smaller numbers. After the parts whose code was made the setting and the scope are as before, and what is left to make completes the whole.
+-- Each call in the group `coding` is for a part with a smaller number. In each loop the setting and the scope stay the same,
+-- and the lines so far, with those of the parts that are left, are the lines of the whole.
 use Rattle.std.proofs.Common.{◌≡◌, ◌+◌, ◌*◌, ◌<◌, ◌≤◌, ◌++◌, [], length, map, drop}
 use Rattle.std.specs.List.{AllByRecursion}
 use Rattle.mips_isa.specs.Lines.{lines_of}

@@ -1,4 +1,5 @@
--- The file has its number in the table after its name was asked for.
+-- `Code::call_by_slot` appends `slot_code` of `Code.antt`: the call through the dispatch table, with the label of the file's name.
+-- The table of constants has this name after the call of `file_label`, and the label is the one in that table.
 use Rattle.std.proofs.Common.{◌≡◌, ◌++◌, ap, ◌∙◌, rules, arith, w32}
 use Rattle.std.proofs.lemmas.Int.{to_z-of_z}
 use Rattle.mips_isa.specs.Lines.{lines_of}

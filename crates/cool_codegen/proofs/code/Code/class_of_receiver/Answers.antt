@@ -1,4 +1,4 @@
--- The type of a part stands at its number in the column, and its class is one of the table.
+-- `Code::class_of_receiver` reads the type of the receiver in the list of node types and returns its class, which is in the class table.
 use Rattle.std.proofs.Common.{◌≡◌, ◌<◌, length, ap, subst, sym, ◌∙◌}
 use Rattle.std.proofs.lemmas.Option.{same_Some, slice_get_within}
 use Rattle.cool_syntax.specs.NodeLists.{tree_at}

@@ -1,4 +1,5 @@
--- All constants of an operation are named by their numbers in the table after it.
+-- `Code::compute` appends `operation_lines` of `Numbered.antt`: an operation of arithmetic on two operands, and the new Int.
+-- Its labels are those of the table of constants after `make_int`, which only adds to the table that `operate` leaves.
 use Rattle.std.proofs.Common.{◌≡◌, ◌++◌, [], ◌∷◌, ap, subst, ◌∙◌, append_assoc}
 use Rattle.mips_isa.specs.Lines.{lines_of}
 use Rattle.cool_consts.specs.Constants.{Constants, with_string}

@@ -1,4 +1,4 @@
--- The span at its number is the one that was noted there, with another end; if only lines are wanted, none was noted.
+-- If spans are wanted, `Code::end_span` sets the end of the span at this number to the number of lines so far.
 use Rattle.std.proofs.Common.{◌∷◌, [], ◌++◌, length, ap, sym, ◌∙◌}
 use Rattle.mips_isa.specs.Lines.{lines_of}
 use Rattle.cool_codegen.specs.declared.code_setting.Wanted.{Wanted}

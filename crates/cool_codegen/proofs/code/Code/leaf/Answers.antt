@@ -1,4 +1,5 @@
--- A constant is named by its number in the table after it was asked for.
+-- `Code::leaf` appends `node_lines` of `Numbered.antt` for a name, a constant or a new object.
+-- An integer or a string has the label that the table of constants gives after `int_label` or `string_label`.
 use Rattle.std.proofs.Common.{◌≡◌, ◌++◌, map, ap, refl, sym, ◌∙◌, rules, arith}
 use Rattle.std.proofs.lemmas.Grind.{common_steps}
 use Rattle.std.proofs.lemmas.List.{append-nil}

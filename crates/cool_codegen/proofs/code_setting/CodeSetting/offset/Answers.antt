@@ -1,4 +1,5 @@
--- A class has at most 2,000 attributes, so each stands below 2 ^ 31.
+-- `CodeSetting::offset` returns the offset of an attribute in an object, in bytes.
+-- The offset is below 2 ^ 31, as `signed` requires, because a class has at most 2,000 attributes.
 use Rattle.std.proofs.Common.{arith}
 use Rattle.cool_classes.specs.ClimbedChains.{chain}
 use Rattle.cool_layout.specs.Members.{attributes, is_attribute}

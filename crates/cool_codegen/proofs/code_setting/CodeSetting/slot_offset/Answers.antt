@@ -1,4 +1,5 @@
--- A class has at most 2,000 slots.
+-- `CodeSetting::slot_offset` returns the offset of a method in a dispatch table, 4 bytes for each slot before it.
+-- The offset is below 2 ^ 31, as `signed` requires, because a class has at most 2,000 slots.
 use Rattle.std.proofs.Common.{sym, arith}
 use Rattle.cool_layout.proofs.KeptSlots.{slot_low}
 use Rattle.cool_codegen.proofs.code_setting.CodeSetting.slot_offset.Goals as goal

@@ -1,4 +1,5 @@
--- A family has at most as many classes as there are.
+-- `CodeSetting::tag_count` returns the number of tags from that of a class to the last one of the classes below it.
+-- The number is below 2 ^ 31, as `signed` requires, because these classes are at most all classes of the table.
 use Rattle.std.proofs.Common.{◌≡◌, ◌++◌, length, ap, length-append, arith}
 use Rattle.cool_layout.specs.Preorder.{family, preorder}
 use Rattle.cool_layout.proofs.TagRanges.{preorder_long, tag_cut}

@@ -1,4 +1,5 @@
--- The methods are told behind the initializer.
+-- `Told::add_class` appends the rows of a class: first those of its initializer, then those of its methods.
+-- Their addresses stay below 2 ^ 32, as both calls require, because the code of the whole class ends below it.
 use Rattle.std.proofs.Common.{◌≡◌, ◌+◌, ◌^◌, ◌<◌, ◌++◌, flat_map, arith}
 use Rattle.std.proofs.lemmas.Result.{on_ok_weaker}
 use Rattle.cool_runtime.specs.Standing.{sizes}

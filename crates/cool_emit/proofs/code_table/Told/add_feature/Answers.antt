@@ -1,4 +1,5 @@
--- The feature is told by its own lines.
+-- `Told::add_feature` appends the rows of a feature and its expressions, with addresses by the sizes of the lines that `feature_code` returns.
+-- These sizes do not depend on the table of constants, so the addresses are those of the program.
 use Rattle.std.proofs.Common.{◌≡◌, ◌∙◌, ℕ, ◌+◌, ◌^◌, ◌≤◌, ◌<◌, ◌++◌, List, length, flat_map, map, get_or, refl, ap, ap₂, sym, subst, arith}
 use Rattle.std.specs.List.{AllByRecursion}
 use Rattle.std.proofs.lemmas.List.{length-map}

@@ -1,4 +1,4 @@
--- The features so far that belong to the part were told.
+-- `Told::add_features` has so far appended the rows of the features that its loop has passed and that belong to the part.
 use Rattle.std.proofs.Common.{take}
 use Rattle.cool_classes.specs.Chains.{features_of}
 use Rattle.cool_emit.specs.Tellings.{TellsFeatures}

@@ -1,4 +1,5 @@
--- The attributes are told behind what stands before them.
+-- `Told::add_initializer` appends the rows of the attributes of a class, at the addresses after the first lines of its initializer.
+-- The initializer of a basic class has no rows.
 use Rattle.std.proofs.Common.{◌≡◌, ◌∙◌, ℕ, ◌+◌, ◌^◌, ◌≤◌, ◌<◌, ◌++◌, List, flat_map, Bool, true, false, refl, ap, arith}
 use Rattle.std.specs.Prelude.{nat_lt}
 use Rattle.std.proofs.lemmas.Bool.{ltb-true}

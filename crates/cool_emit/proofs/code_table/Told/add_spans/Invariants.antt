@@ -1,4 +1,4 @@
--- The lines so far with those of the spans that are left are all.
+-- The text that `Told::add_spans` has so far, with the rows of the spans that are left, is the text with the rows of all spans.
 use Rattle.std.proofs.Common.{◌≡◌, ◌<◌, ◌++◌, drop, flat_map, get_or, length, map}
 use Rattle.std.specs.List.{AllByRecursion}
 use Rattle.cool_codegen.specs.Shown.{shown_of}

@@ -1,4 +1,4 @@
--- The address behind the lines that are left is the one behind all, and nothing is told.
+-- The address so far, with the sizes of the lines that are left, is the address after all lines; `Told::pass` does not change the text.
 use Rattle.std.proofs.Common.{◌≡◌, ◌+◌, drop}
 use Rattle.mips_isa.specs.Lines.{lines_of}
 use Rattle.cool_runtime.specs.Standing.{sizes}

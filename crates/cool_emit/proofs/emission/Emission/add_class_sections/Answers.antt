@@ -1,4 +1,5 @@
--- Each method stands after those before it.
+-- `Emission::add_class_sections` appends the section of the initializer of a class and one section for each of its methods.
+-- Each step of its loop looks at one feature and appends a section if it is a method.
 use Rattle.std.proofs.Common.{◌≡◌, ◌∙◌, ◌+◌, ◌<◌, ◌++◌, ◌∷◌, ℕ, List, [], length, map, take, get_or, Bool, true, false, ap, sym, refl, subst, arith, append_assoc}
 use Rattle.std.specs.Prelude.{if◌then◌else◌}
 use Rattle.std.proofs.lemmas.List.{map-append}

@@ -1,4 +1,4 @@
--- The methods among the features so far stand after the initializer.
+-- `Emission::add_class_sections` has so far the section of the initializer and those of the methods that its loop has passed.
 use Rattle.std.proofs.Common.{◌≡◌, ◌++◌, ◌∷◌, map, take}
 use Rattle.cool_classes.specs.Chains.{features_of}
 use Rattle.cool_emit.specs.declared.section.Section.TheVariants.{Initializer, Method}

@@ -1,4 +1,4 @@
--- The features so far that belong to the part were added.
+-- `Emission::add_features` has so far appended the code of the features that its loop has passed and that belong to the part.
 use Rattle.std.proofs.Common.{flat_map, take}
 use Rattle.mips_isa.specs.Lines.{lines_of}
 use Rattle.cool_classes.specs.Chains.{features_of}

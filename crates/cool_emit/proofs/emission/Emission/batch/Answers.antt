@@ -1,4 +1,5 @@
--- A batch is that of a section of the program, or that of its data, for which all constants are known.
+-- `Emission::batch` returns the batch at a number of `batches_of` of `Batches.antt`: the lines of a section, or those of the data.
+-- The data comes after all sections, so all constants are then known.
 use Rattle.std.proofs.Common.{◌≡◌, ◌∙◌, ◌+◌, ◌<◌, ◌≤◌, ◌∷◌, ℕ, List, Result, Ok, Err, OnOk, IfOk, Some, length, slice_get, get_or, ap, sym, subst, arith}
 use Rattle.std.proofs.lemmas.List.{get_or_default}
 use Rattle.std.proofs.lemmas.Result.{IfOk-weaker}

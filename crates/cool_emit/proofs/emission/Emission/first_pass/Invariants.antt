@@ -1,4 +1,4 @@
--- The batches so far were taken, and the first of them are kept.
+-- The first pass has so far taken the batches that the loop of `Emission::first_pass` has passed, and the first of them are kept.
 use Rattle.std.proofs.Common.{◌≤◌, length, take}
 use Rattle.mips_asm.specs.FirstPasses.{HasTaken}
 use Rattle.cool_emit.specs.Additions.{files_of}

@@ -1,4 +1,4 @@
--- The batches from this one on are left.
+-- The batches that the loop of `Emission::second_pass` has not passed are left for the second pass (`HasLeft`).
 use Rattle.std.proofs.Common.{drop}
 use Rattle.mips_asm.specs.SecondPasses.{HasLeft}
 use Rattle.cool_emit.specs.Additions.{files_of}

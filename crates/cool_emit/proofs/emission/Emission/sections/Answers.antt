@@ -1,4 +1,4 @@
--- The sections of each class stand after those of the classes before it.
+-- `Emission::sections` returns `sections_in` of `Sections.antt`: the routines, and then the sections of each class in order.
 use Rattle.std.proofs.Common.{◌≡◌, ◌∙◌, ◌+◌, ◌++◌, ◌∷◌, ℕ, List, [], length, flat_map, ap, sym, arith, append-nil}
 use Rattle.std.proofs.lemmas.Grind.{flat_map-append}
 use Rattle.cool_classes.specs.Chains.{class_number}

@@ -1,4 +1,4 @@
--- The sections of the classes so far stand after the routines.
+-- `Emission::sections` has so far the section of the routines and those of the classes that its loop has passed.
 use Rattle.std.proofs.Common.{◌≡◌, ◌∷◌, flat_map}
 use Rattle.cool_layout.specs.Preorder.{numbers_from}
 use Rattle.cool_emit.specs.declared.section.Section.TheVariants.{Routines}

@@ -1,4 +1,4 @@
--- The lines are completed, and the second pass begins with their labels.
+-- `FirstPass::finish` takes the lines that `added_lines` returns, and begins the second pass with the labels of all lines taken.
 use Rattle.std.proofs.Common.{◌≡◌, ◌++◌, [], List, ap, sym, ◌∙◌, subst, rules}
 use Rattle.mips_isa.specs.Lines.{Line, lines_of, AreInRange}
 use Rattle.mips_isa.specs.Assembly.{start_position, first_pass, place_of}

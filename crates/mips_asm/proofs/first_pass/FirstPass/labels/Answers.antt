@@ -1,4 +1,4 @@
--- The places of the labels are those of the lines that were taken.
+-- `FirstPass::labels` returns the labels of the lines that were taken, at the places that `place_of` defines, or their first fault.
 use Rattle.std.proofs.Common.{◌≡◌, ◌+◌, ◌++◌, ◌∷◌, [], ap, ◌∙◌, refl, arith, Some, None, Option}
 use Rattle.mips_isa.specs.declared.asm_fault.AsmFault.{AsmFault}
 use Rattle.mips_isa.specs.Assembly.{Position}

@@ -1,4 +1,4 @@
--- Lines are taken one by one.
+-- `FirstPass::take` takes lines: each step of its loop takes one, and after the last step all are taken (`HasTaken`).
 use Rattle.std.proofs.Common.{◌≡◌, ◌+◌, ◌∷◌, [], drop, List, subst}
 use Rattle.std.proofs.lemmas.List.{drop_all}
 use Rattle.mips_isa.specs.declared.line.Line as declared_line

@@ -1,4 +1,4 @@
--- The lines before this one were taken.
+-- `FirstPass::take` has so far taken the lines that its loop has passed (`Taking`).
 use Rattle.std.proofs.Common.{drop, List}
 use Rattle.mips_isa.specs.Lines.{Line, lines_of}
 use Rattle.mips_asm.specs.FirstPasses.{HasTaken}

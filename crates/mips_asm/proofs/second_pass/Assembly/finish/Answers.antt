@@ -1,4 +1,4 @@
--- The image after the last line.
+-- `Assembly::finish` returns the image or the first fault when no line is left (`IsLeft`).
 use Rattle.std.proofs.Common.{◌≡◌, [], refl, Some, None, Option}
 use Rattle.mips_isa.specs.declared.asm_fault.AsmFault.{AsmFault}
 use Rattle.mips_isa.specs.Assembly.{start_name}

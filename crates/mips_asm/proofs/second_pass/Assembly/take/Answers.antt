@@ -1,4 +1,4 @@
--- Lines are assembled one by one.
+-- `Assembly::take` assembles lines: each step of its loop assembles one, and the lines after it are left (`IsLeft`).
 use Rattle.std.proofs.Common.{◌≡◌, ◌+◌, ◌∷◌, [], ◌++◌, drop, List, subst}
 use Rattle.std.proofs.lemmas.List.{drop_all}
 use Rattle.mips_isa.specs.declared.line.Line as declared_line

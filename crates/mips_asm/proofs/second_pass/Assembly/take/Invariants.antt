@@ -1,4 +1,4 @@
--- The lines from this one on are left.
+-- The lines that the loop of `Assembly::take` has not passed are left (`IsLeft`).
 use Rattle.std.proofs.Common.{◌++◌, drop, List}
 use Rattle.mips_isa.specs.Lines.{Line, lines_of}
 use Rattle.mips_asm.specs.Places.{places_of}

@@ -1,4 +1,4 @@
--- The lines to add are taken, and then the image is done.
+-- `SecondPass::finish` assembles the lines to add, which are all that is left, and returns the image or the first fault.
 use Rattle.std.proofs.Common.{◌≡◌, ◌++◌, [], List, append-nil, ap, sym, ◌∙◌, subst}
 use Rattle.mips_isa.specs.Lines.{Line, lines_of, AreInRange}
 use Rattle.mips_asm.specs.Places.{places_of}

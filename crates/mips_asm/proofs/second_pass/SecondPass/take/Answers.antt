@@ -1,4 +1,4 @@
--- Lines are taken, and the lines to add stay behind them.
+-- `SecondPass::take` assembles the lines that it is given; the lines to add are left after all others (`HasLeft`).
 use Rattle.std.proofs.Common.{◌++◌, List, append_assoc, subst}
 use Rattle.mips_isa.specs.Lines.{Line, lines_of}
 use Rattle.mips_asm.specs.Places.{places_of}

@@ -1,4 +1,4 @@
--- The text of lines ends where their words end, or three words later.
+-- `TextEnd::find` returns the end of the text of lines: the address after their words, or 12 bytes later if a start is added.
 use Rattle.std.proofs.Common.{sym, ◌∙◌, ap, ℕ, ◌+◌, ◌*◌, refl, arith}
 use Rattle.mips_isa.specs.declared.address_map.TheConstants.{TEXT_START}
 use Rattle.mips_isa.specs.Lines.{lines_of}

@@ -1,4 +1,4 @@
--- The table of labels is that of the lines, which have no fault of the first pass.
+-- `TextLabels::find` returns the labels of lines that have an image. Such lines have no fault, so the arm of a fault is not reached.
 use Rattle.std.proofs.Common.{◌≡◌, ◌∙◌, ap, sym, [], Option, Some, None, Err, subst}
 use Rattle.mips_isa.specs.declared.asm_fault.AsmError.{AsmError}
 use Rattle.mips_isa.specs.declared.place.Place.{Place}
