@@ -57,11 +57,11 @@ class Reasons {
     }
 
     // A promise of paragraphs about the rules that an error breaks; of none where it is no error of typing.
-    async broken({ path: file, start, kind, facts }) {
+    async broken({ path: file, start, kind, rule, facts }) {
         if (kind[0] !== "E") return [];
         for (const files of this.programsOf(file)) {
             const trees = await this.trees.of(files), here = failingOf(kind, facts);
-            const rules = trees ? this.rules.broken(kind, trees, file, start) : [];
+            const rules = this.rules.broken(kind, rule?.name, trees?.around(file, start));
             if (rules.length > 0) return [...rules.map((it) => ruleTold(it, kind)), ...(here ? [`Here ${code(here)} does not hold.`] : [])];
         }
         return [];

@@ -8,7 +8,7 @@ from .client import EXAMPLES, HERE, Client, NotTried, check, due, expect, fill
 from .edits import TOKEN, edit, place
 
 FAULTY = 'class Main {\n  s : String <- "ä𝒙"; t : Int <- true;\n  main() : Object { 0 };\n};\nclass Late { m : Main; };\n'
-CURE = "the value is of the declared class or of one below it"
+CURE = "give a value of the declared class, or of a class below it"
 TYPED = FAULTY.encode().index(b"t : Int")
 EDITED = FAULTY.encode().index(b"true;")
 FAULT = "initial value does not conform"

@@ -20,6 +20,7 @@ class ExplanationPlaces {
 
     fault(fault) {
         const found = { line: fault.line, words: `${fault.kind}: ${fault.words}`, ...this.range(fault), facts: fault.facts, cure: fault.cure };
+        if (fault.rule) found.rule = fault.rule;
         if (fault.other) found.other = this.place(fault.other.file, fault.other.at);
         if (fault.mend) found.mend = { words: fault.mend.words, ...this.range(fault.mend), text: fault.mend.text };
         return found;
@@ -27,7 +28,7 @@ class ExplanationPlaces {
 }
 
 // { faults, notices } of the lines about these files; it throws where they are of no form that is known. A fault has { line, words, from, to, facts }, and may
-// have { other, cure, mend: { words, from, to, text } }.
+// have { rule: { name, premise }, other, cure, mend: { words, from, to, text } }.
 function explanationOf(files, lines) {
     const { faults, notices } = explanationLines(lines), places = new ExplanationPlaces(files);
     return { faults: faults.map((it) => places.fault(it)), notices: notices.map((it) => ({ words: it.words, ...places.range(it) })) };

@@ -24,6 +24,10 @@ const EXPLAIN_READERS = {
         const [file, line, start, end] = numbersOf(place);
         faults.push({ file, line, start, end, kind: kind.replace(/:$/, ""), words: plainWords(words), facts: [] });
     },
+    rule({ faults }, rest) {
+        const [, name, premise] = /^(\w+): (.*)$/.exec(rest);
+        faults.at(-1).rule = { name, premise };
+    },
     fact({ faults }, rest) {
         faults.at(-1).facts.push(plainWords(rest));
     },
@@ -48,7 +52,7 @@ const EXPLAIN_READERS = {
 };
 
 // { faults, notices } of lines; it throws where they are of no form that is known. A fault has { file, line, start, end, kind, words, facts }, and may have
-// { other: { file, at }, cure, mend: { words, file, start, end, text } }; a notice has { file, start, end, words }.
+// { rule: { name, premise }, other: { file, at }, cure, mend: { words, file, start, end, text } }; a notice has { file, start, end, words }.
 function explanationLines(lines) {
     const found = { faults: [], notices: [] };
     for (const line of lines.split("\n").slice(0, -1)) {

@@ -4,8 +4,10 @@
 // By the forms of operators and constants how the names of their own rules begin.
 const RULE_NAMES = { "+": "Add", "-": "Sub", "*": "Mul", "/": "Div", "<": "Less", "<=": "LessEqual", "=": "Equal", integer: "Int", string: "String",
     bool: "Bool" };
-// Errors of a predicate and of an argument, which have the place of this part.
-const TOLD_AT_PARTS = new Set(["E6", "E9"]);
+// By a rule of the page the rule of the program that it is one of: these by the table, and others by their own name up to a dash.
+const RULES_TOLD = { Less: "Compare", LessEqual: "Compare", Equal: "Compare" };
+
+const toldName = (name) => RULES_TOLD[name.split("-")[0]] ?? name.split("-")[0];
 
 class RulesOfForms {
     // Of the sections of rules.js.
@@ -37,14 +39,14 @@ class RulesOfForms {
         return all.length > 1 && left?.type !== right?.type ? all[1] : all[0];
     }
 
-    // The rules that an error of a kind breaks at a byte of a file: those of the innermost expression there, else those that are of no form. A predicate and
-    // an argument break the rule of the expression around them. Without trees, all rules that an error of this kind breaks.
-    broken(kind, trees, file, byte) {
+    // The rules with the premise that an error of a kind breaks, among those of the rule that the program names. The expression at the error, if it is known,
+    // tells the operator, and whether a `let` has an initial value. Without a name, all rules that an error of this kind breaks.
+    broken(kind, told, node) {
         const breaks = (rule) => rule.premises.some((it) => it.faults?.includes(kind)), others = this.others.filter(breaks);
-        const inner = trees?.around(file, byte), node = TOLD_AT_PARTS.has(kind) ? inner?.parent : inner;
-        const own = node ? this.typing(node).filter(breaks) : [];
-        if (own.length > 0) return own;
-        return trees && others.length > 0 ? others : [...this.entries.flatMap((it) => it.typing).filter(breaks), ...others];
+        const all = this.entries.flatMap((it) => it.typing).filter(breaks), own = all.filter(({ name }) => toldName(name) === told);
+        if (!told) return [...all, ...others];
+        const here = node ? this.typing(node).filter((it) => own.includes(it)) : [];
+        return [here, own, others].find((it) => it.length > 0) ?? [];
     }
 }
 

@@ -7,7 +7,7 @@ from page import ROOT, same, test
 
 PROGRAM = 'class Main {\n  e : String <- "é"; n : Int <- true;\n  main() : Int { m };\n};\n'
 BYTES = PROGRAM.encode()
-CURE = "the value is of the declared class or of one below it"
+CURE = "give a value of the declared class, or of a class below it"
 LINES = """fault 0:2:%d:%d E17: initial value does not conform
 fact found Bool, and due is `Int`
 other 0:3:%d

@@ -55,6 +55,7 @@ BROKEN = {
     "out_int(self@IO.out_int(1))": "[Dispatch] T₁, …, Tₙ ≤C formals(m)E5 E6",
     "let x : Int <- true in x": "[Let-Init] T₂ ≤C T₁E17", "case 1 of x : Z => 1; esac": "[Types of branches] type(D) = D′E11 E12",
     "new Z": "[New] type(D) = TE11", "zz <- 1": "[Assign] O(x) = T₁E1", "zz": "[Id] O(x) = TE1",
+    "1 < true": "[Less] O, M, C ⊢ e₁ : IntE14", "let self : Int in 1": "[Let-No-Init] x ≠ selfE10",
 }
 
 

@@ -54,7 +54,7 @@ function faultAsked() {
 
 function faultWhy(fault, trees) {
     const [kind] = fault.words.split(":"), known = explainedOf(faults.indexOf(fault)), { facts = [] } = known ?? {}, here = failingOf(kind, facts);
-    const byte = known && byteOf({ ...fault, column: known.from.column }), rules = pageRules.broken(kind, known && trees, fault.file, byte);
+    const node = known && trees?.around(fault.file, byteOf({ ...fault, column: known.from.column })), rules = pageRules.broken(kind, known?.rule?.name, node);
     return [
         element("h2", {}, `${placeWords(fault)}: ${fault.words}`), ...facts.map((it) => element("p", {}, ...spoken(it))),
         element("p", {}, "The premise that is marked does not hold:"), ...rules.map((it) => brokenRule(it, kind)),

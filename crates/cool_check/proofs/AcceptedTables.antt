@@ -55,7 +55,7 @@ module _ (p : List Class) where
   feature_typed c (y ∷ fs) h (suc i) x e = feature_typed c fs (none_both (fault_of (feature_checked p c y)) (features_faults p c fs) h).1 i x e
 
   -- checking a feature of a class decides whether the rules type it
-  decided : IsWholeTable p → IsLawful p → (c : ClassId) (k : ℕ) (x : Feature) → c.0 < length p → slice_get (features_of p c) k ≡ Some x → IsDecided (feature_checked p c x) (λ u. IsTypedFeature p c x)
+  pub decided : IsWholeTable p → IsLawful p → (c : ClassId) (k : ℕ) (x : Feature) → c.0 < length p → slice_get (features_of p c) k ≡ Some x → IsDecided (feature_checked p c x) (λ u. IsTypedFeature p c x)
   decided whole lawful c k x within at =
       feature_decided p whole c within x (own_differ p whole.table lawful c within) (all_get HasDifferentFormals (features_of p c) k x (lawful.formals c within) at)
       (all_get (IsTyped p) (features_of p c) k x (whole.table.types c within) at)

@@ -29,6 +29,8 @@ use Rattle.cool_rules.proofs.TypesOfMethods.{formals_named, result_named, expres
 use Rattle.cool_rules.proofs.EnteredScopes.{found_after}
 use Rattle.cool_check.specs.declared.fault.TypeFault.{TypeFault}
 use Rattle.cool_check.specs.declared.fault.TypeKind.{TypeKind}
+use Rattle.cool_check.specs.declared.fault.TypingRule.{TypingRule}
+use Rattle.cool_check.specs.declared.fault.TypingRule.TheVariants as typing
 use Rattle.cool_check.specs.declared.fault.TypeKind.TheVariants.{E3, E6, E8, E9, E14, E16, E17}
 use Rattle.cool_check.specs.FirstFaults.{Checked, and_then, expect, fits, unfit, is_self, bind, conform, or_unknown, name_checked, or_no_type, named, static_among, static_class, misfit, resulting, or_misfit, called_with, call_checked, initialized, bound_type, branch_among, branch_class, joined, compared, checked, all_checked, last_checked, maybe_checked, cases_checked}
 use Rattle.cool_rules.specs.Rules.{same_type, join_in, type_of_name, type_meant, method_of, is_among}
@@ -88,40 +90,40 @@ module _ (s : Context) (whole : IsWholeTable s.table) (within : s.class.0 < leng
 
   -- Parts of rules
 
-  same_decided : {B : Type 0} {r : Checked B} {Q : B → Type 0} (kind : TypeKind) (at : Place) (t u : Ty) → (t ≡ u → IsDecided r Q) → IsDecided (expect t u kind at r) (λ b. (t ≡ u) × Q b)
-  same_decided {r = r} kind at t u k = where_decided (same_type t u) _ r (t ≡ u) (same_types t u) (types_same t u) k
+  same_decided : {B : Type 0} {r : Checked B} {Q : B → Type 0} (rule : TypingRule) (kind : TypeKind) (at : Place) (t u : Ty) → (t ≡ u → IsDecided r Q) → IsDecided (expect t u rule kind at r) (λ b. (t ≡ u) × Q b)
+  same_decided {r = r} rule kind at t u k = where_decided (same_type t u) _ r (t ≡ u) (same_types t u) (types_same t u) k
 
-  pub conform_decided : {B : Type 0} {r : Checked B} {Q : B → Type 0} (kind : TypeKind) (at : Place) (t u : Ty) → IsType s.table t → (Conforms s.table s.class t u → IsDecided r Q)
-      → IsDecided (fits s t u kind at r) (λ b. Conforms s.table s.class t u × Q b)
-  conform_decided {r = r} kind at t u h k = where_decided (conform s t u) _ r (Conforms s.table s.class t u) (λ e. do_conform_true s.table s.class t u whole.table within h e) (λ c. true_do_conform s.table s.class t u c) k
+  pub conform_decided : {B : Type 0} {r : Checked B} {Q : B → Type 0} (rule : TypingRule) (kind : TypeKind) (at : Place) (t u : Ty) → IsType s.table t → (Conforms s.table s.class t u → IsDecided r Q)
+      → IsDecided (fits s t u rule kind at r) (λ b. Conforms s.table s.class t u × Q b)
+  conform_decided {r = r} rule kind at t u h k = where_decided (conform s t u) _ r (Conforms s.table s.class t u) (λ e. do_conform_true s.table s.class t u whole.table within h e) (λ c. true_do_conform s.table s.class t u c) k
 
-  or_no_type_decided : (at : Place) (name : List ℕ) (o : Option Ty) → type_of_name s.table name ≡ o → IsDecided (or_no_type o at) (λ t. Denotes s.table name t)
-  or_no_type_decided at name None e = record { decided = λ t h. none (sym e ∙ denoted s.table whole name t h) }
+  or_no_type_decided : (rule : TypingRule) (at : Place) (name : List ℕ) (o : Option Ty) → type_of_name s.table name ≡ o → IsDecided (or_no_type o rule at) (λ t. Denotes s.table name t)
+  or_no_type_decided rule at name None e = record { decided = λ t h. none (sym e ∙ denoted s.table whole name t h) }
     where
       none : {A : Type 0} {a : A} → None ≡ Some a → ⊥
       none e = cc
-  or_no_type_decided at name (Some a) e = record { decided = (named_denotes s.table whole name a e, λ t h. some (sym e ∙ denoted s.table whole name t h)) }
+  or_no_type_decided rule at name (Some a) e = record { decided = (named_denotes s.table whole name a e, λ t h. some (sym e ∙ denoted s.table whole name t h)) }
     where
       some : {A : Type 0} {x b : A} → Some x ≡ Some b → b ≡ x
       some e = cc
 
-  named_decided : (r : TypeRef) → IsDecided (named s r) (λ t. Denotes s.table r.name t)
-  named_decided r = or_no_type_decided r.at r.name (type_of_name s.table r.name) refl
+  named_decided : (rule : TypingRule) (r : TypeRef) → IsDecided (named s rule r) (λ t. Denotes s.table r.name t)
+  named_decided rule r = or_no_type_decided rule r.at r.name (type_of_name s.table r.name) refl
 
-  name_decided : (o : List Binding) (at : Place) (name : List ℕ) → IsDecided (name_checked s o at name) (λ t. type_in_scope (o ++ s.attributes) name ≡ Some t)
-  name_decided o at name = by (is_self name)
+  name_decided : (o : List Binding) (rule : TypingRule) (at : Place) (name : List ℕ) → IsDecided (name_checked s o rule at name) (λ t. type_in_scope (o ++ s.attributes) name ≡ Some t)
+  name_decided o rule at name = by (is_self name)
     where
       some : {A : Type 0} {x b : A} → Some x ≡ Some b → b ≡ x
       some e = cc
 
-      other : (x : Option Ty) → x ≡ found (o ++ s.attributes) name → IsDecided (or_unknown x at) (λ t. found (o ++ s.attributes) name ≡ Some t)
+      other : (x : Option Ty) → x ≡ found (o ++ s.attributes) name → IsDecided (or_unknown x rule at) (λ t. found (o ++ s.attributes) name ≡ Some t)
       other None e = record { decided = λ t h. none (e ∙ h) }
         where
           none : {A : Type 0} {a : A} → None ≡ Some a → ⊥
           none e = cc
       other (Some a) e = record { decided = (sym e, λ t h. some (e ∙ h)) }
 
-      by : (x : Bool) → IsDecided (if x then Ok SelfType else or_unknown (option_or (found o name) (found s.attributes name)) at) (λ t. (if x then Some SelfType else found (o ++ s.attributes) name) ≡ Some t)
+      by : (x : Bool) → IsDecided (if x then Ok SelfType else or_unknown (option_or (found o name) (found s.attributes name)) rule at) (λ t. (if x then Some SelfType else found (o ++ s.attributes) name) ≡ Some t)
       by true = record { decided = (refl, λ t h. some h) }
       by false = other (option_or (found o name) (found s.attributes name)) (found_after o s.attributes name)
 
@@ -155,17 +157,17 @@ module _ (s : Context) (whole : IsWholeTable s.table) (within : s.class.0 < leng
   formal_meant : (formal : List ℕ) → IsClassName s.table formal → Denotes s.table formal (type_meant s.table formal)
   formal_meant formal (d, d_within, is) = subst (λ (t : Ty). Denotes s.table formal t) (type_meant_is s.table formal (IsClass d) whole.table (d_within, is)) (d_within, is)
 
-  misfit_by : (scope : List Binding) (given : List Ty) (es : Trees) (formals : List (List ℕ)) (result : Ty) → HaveTypes s.table s.class scope es given → AllByRecursion (IsType s.table) given
-      → AllByRecursion (IsClassName s.table) formals → length given ≡ length formals → IsDecided (or_misfit (misfit s formals given es) result) (λ t. AreArguments s.table s.class given formals × (t ≡ result))
-  misfit_by scope [] es [] result have types names same = record { decided = ((tt, refl), λ t w. w.1) }
-  misfit_by scope [] es (f ∷ fs) result have types names same = absurd (omega arith)
-  misfit_by scope (t ∷ ts) Last fs result have types names same = absurd have
-  misfit_by scope (t ∷ ts) (More e es) [] result have types names same = absurd (omega arith)
-  misfit_by scope (t ∷ ts) (More e es) (f ∷ fs) result have types names same =
-      by (conform s t (type_meant s.table f)) refl (misfit_by scope ts es fs result have.1 types.1 names.1 (omega arith))
+  misfit_by : (rule : TypingRule) (scope : List Binding) (given : List Ty) (es : Trees) (formals : List (List ℕ)) (result : Ty) → HaveTypes s.table s.class scope es given → AllByRecursion (IsType s.table) given
+      → AllByRecursion (IsClassName s.table) formals → length given ≡ length formals → IsDecided (or_misfit (misfit s rule formals given es) result) (λ t. AreArguments s.table s.class given formals × (t ≡ result))
+  misfit_by rule scope [] es [] result have types names same = record { decided = ((tt, refl), λ t w. w.1) }
+  misfit_by rule scope [] es (f ∷ fs) result have types names same = absurd (omega arith)
+  misfit_by rule scope (t ∷ ts) Last fs result have types names same = absurd have
+  misfit_by rule scope (t ∷ ts) (More e es) [] result have types names same = absurd (omega arith)
+  misfit_by rule scope (t ∷ ts) (More e es) (f ∷ fs) result have types names same =
+      by (conform s t (type_meant s.table f)) refl (misfit_by rule scope ts es fs result have.1 types.1 names.1 (omega arith))
     where
-      by : (b : Bool) → b ≡ conform s t (type_meant s.table f) → IsDecided (or_misfit (misfit s fs ts es) result) (λ u. AreArguments s.table s.class ts fs × (u ≡ result))
-          → IsDecided (or_misfit (if b then misfit s fs ts es else Some (unfit E6 (place_of e) t (type_meant s.table f))) result) (λ u. AreArguments s.table s.class (t ∷ ts) (f ∷ fs) × (u ≡ result))
+      by : (b : Bool) → b ≡ conform s t (type_meant s.table f) → IsDecided (or_misfit (misfit s rule fs ts es) result) (λ u. AreArguments s.table s.class ts fs × (u ≡ result))
+          → IsDecided (or_misfit (if b then misfit s rule fs ts es else Some (unfit rule E6 (place_of e) t (type_meant s.table f))) result) (λ u. AreArguments s.table s.class (t ∷ ts) (f ∷ fs) × (u ≡ result))
       by true e more = decided_as
           (λ u w. (((type_meant s.table f, formal_meant f names.0, do_conform_true s.table s.class t (type_meant s.table f) whole.table within types.0 (sym e)), w.0), w.1))
           (λ u w. (w.0.1, w.1)) more
@@ -178,14 +180,14 @@ module _ (s : Context) (whole : IsWholeTable s.table) (within : s.class.0 < leng
   result_is r (IsClass c) = refl
   result_is r SelfType = refl
 
-  called_by : (scope : List Binding) (at : Place) (k : ClassId) (name : List ℕ) (receiver : Ty) (given : List Ty) (es : Trees) → k.0 < length s.table → HaveTypes s.table s.class scope es given
+  called_by : (rule : TypingRule) (scope : List Binding) (at : Place) (k : ClassId) (name : List ℕ) (receiver : Ty) (given : List Ty) (es : Trees) → k.0 < length s.table → HaveTypes s.table s.class scope es given
       → AllByRecursion (IsType s.table) given → (o : Option MethodRef) → implementation s.table (chain_of s.table k) name ≡ o
-      → IsDecided (called_with s at k receiver es given o) (λ t. IsCall s.table s.class k name receiver given t)
-  called_by scope at k name receiver given es k_within have types None e = record { decided = λ t call. none (sym e ∙ found_is k name call.method k_within call.found) }
+      → IsDecided (called_with s rule at k receiver es given o) (λ t. IsCall s.table s.class k name receiver given t)
+  called_by rule scope at k name receiver given es k_within have types None e = record { decided = λ t call. none (sym e ∙ found_is k name call.method k_within call.found) }
     where
       none : {A : Type 0} {a : A} → None ≡ Some a → ⊥
       none e = cc
-  called_by scope at k name receiver given es k_within have types (Some m) e =
+  called_by rule scope at k name receiver given es k_within have types (Some m) e =
       let (u, denotes) = result_named s.table whole m (method_there k name m k_within e) in
       let meant : u ≡ type_meant s.table (result_of s.table m) = type_meant_is s.table (result_of s.table m) u whole.table denotes in
       decided_as
@@ -202,9 +204,9 @@ module _ (s : Context) (whole : IsWholeTable s.table) (within : s.class.0 < leng
       let args : AreArguments s.table s.class given (formals_of s.table m) = subst (λ (x : MethodRef). AreArguments s.table s.class given (formals_of s.table x)) (sym same) call.arguments in
       let declared : Denotes s.table (result_of s.table m) call.result = subst (λ (x : MethodRef). Denotes s.table (result_of s.table x) call.result) (sym same) call.declared in
       (sym (argument_count given (formals_of s.table m) args), (args, call.is ∙ (ap (result_on receiver) (type_meant_is s.table (result_of s.table m) call.result whole.table declared) ∙ sym (result_is receiver (type_meant s.table (result_of s.table m)))))))
-      (where_decided (nat_eq (length (formals_of s.table m)) (length given)) _ (or_misfit (misfit s (formals_of s.table m) given es) (resulting receiver (type_meant s.table (result_of s.table m))))
+      (where_decided (nat_eq (length (formals_of s.table m)) (length given)) _ (or_misfit (misfit s rule (formals_of s.table m) given es) (resulting receiver (type_meant s.table (result_of s.table m))))
       (length (formals_of s.table m) ≡ length given) (equal_true (length (formals_of s.table m)) (length given)) (equal_same (length (formals_of s.table m)) (length given))
-      (λ same. misfit_by scope given es (formals_of s.table m) (resulting receiver (type_meant s.table (result_of s.table m))) have types (formals_named s.table whole m (method_there k name m k_within e)) (sym same)))
+      (λ same. misfit_by rule scope given es (formals_of s.table m) (resulting receiver (type_meant s.table (result_of s.table m))) have types (formals_named s.table whole m (method_there k name m k_within e)) (sym same)))
     where
       some : {x y : MethodRef} → Some x ≡ Some y → x ≡ y
       some e = cc
@@ -215,9 +217,9 @@ module _ (s : Context) (whole : IsWholeTable s.table) (within : s.class.0 < leng
       equal_same : (m n : ℕ) → m ≡ n → nat_eq m n ≡ true
       equal_same m n e = grind arith
 
-  call_decided : (scope : List Binding) (at : Place) (k : ClassId) (name : List ℕ) (receiver : Ty) (given : List Ty) (es : Trees) → k.0 < length s.table → HaveTypes s.table s.class scope es given
-      → AllByRecursion (IsType s.table) given → IsDecided (call_checked s at k receiver name es given) (λ t. IsCall s.table s.class k name receiver given t)
-  call_decided scope at k name receiver given es k_within have types = called_by scope at k name receiver given es k_within have types (method_of s.table k name) (method_is k name)
+  call_decided : (rule : TypingRule) (scope : List Binding) (at : Place) (k : ClassId) (name : List ℕ) (receiver : Ty) (given : List Ty) (es : Trees) → k.0 < length s.table → HaveTypes s.table s.class scope es given
+      → AllByRecursion (IsType s.table) given → IsDecided (call_checked s rule at k receiver name es given) (λ t. IsCall s.table s.class k name receiver given t)
+  call_decided rule scope at k name receiver given es k_within have types = called_by rule scope at k name receiver given es k_within have types (method_of s.table k name) (method_is k name)
 
   -- the class after `@`
   static_by : (at : Place) (name : List ℕ) (receiver : Ty) → IsType s.table receiver → (o : Option Ty) → type_of_name s.table name ≡ o
@@ -233,7 +235,7 @@ module _ (s : Context) (whole : IsWholeTable s.table) (within : s.class.0 < leng
   static_by at name receiver h (Some (IsClass d)) e = decided_as
       (λ k w. (subst (λ (x : ClassId). Denotes s.table name (IsClass x)) (sym w.1) (named_denotes s.table whole name (IsClass d) e), subst (λ (x : ClassId). Conforms s.table s.class receiver (IsClass x)) (sym w.1) w.0))
       (λ k w. let same : k ≡ d = some (sym e ∙ denoted s.table whole name (IsClass k) w.0) in (subst (λ (x : ClassId). Conforms s.table s.class receiver (IsClass x)) same w.1, same))
-      (conform_decided E8 at receiver (IsClass d) h (λ k. ok_decided d))
+      (conform_decided typing.StaticDispatch E8 at receiver (IsClass d) h (λ k. ok_decided d))
     where
       some : {k : ClassId} → Some (IsClass d) ≡ Some (IsClass k) → k ≡ d
       some e = cc
@@ -243,8 +245,8 @@ module _ (s : Context) (whole : IsWholeTable s.table) (within : s.class.0 < leng
 
   -- Comparison
 
-  compared_less : (at : Place) (t u : Ty) → IsDecided (expect t int_type E14 at (expect u int_type E14 at (Ok bool_type))) (λ r. ((t ≡ int_type) × (u ≡ int_type)) × (r ≡ bool_type))
-  compared_less at t u = decided_as (λ r w. ((w.0, w.1.0), w.1.1)) (λ r w. (w.0.0, (w.0.1, w.1))) (same_decided E14 at t int_type (λ x. same_decided E14 at u int_type (λ y. ok_decided bool_type)))
+  compared_less : (at : Place) (t u : Ty) → IsDecided (expect t int_type typing.Compare E14 at (expect u int_type typing.Compare E14 at (Ok bool_type))) (λ r. ((t ≡ int_type) × (u ≡ int_type)) × (r ≡ bool_type))
+  compared_less at t u = decided_as (λ r w. ((w.0, w.1.0), w.1.1)) (λ r w. (w.0.0, (w.0.1, w.1))) (same_decided typing.Compare E14 at t int_type (λ x. same_decided typing.Compare E14 at u int_type (λ y. ok_decided bool_type)))
 
   compared_decided : (op : CompareOp) (at : Place) (t u : Ty) → IsDecided (compared op t u at) (λ r. AreComparable op t u × (r ≡ bool_type))
   compared_decided Less at t u = compared_less at t u
@@ -285,7 +287,7 @@ module _ (s : Context) (whole : IsWholeTable s.table) (within : s.class.0 < leng
   init_by at scope (With e) (Some t) bound types h one = decided_as
       (λ u w. ((t, h, w.0), w.1))
       (λ u w. (subst (λ (x : Ty). Conforms s.table s.class x bound) (some (one (Some w.0.0) (Some t) w.0.1 h)) w.0.2, w.1))
-      (conform_decided E17 at t bound (expression_type s.table whole s.class within e scope t types h) (λ k. ok_decided bound))
+      (conform_decided typing.Let E17 at t bound (expression_type s.table whole s.class within e scope t types h) (λ k. ok_decided bound))
     where
       some : {u : Ty} → Some u ≡ Some t → u ≡ t
       some e = cc
@@ -320,8 +322,8 @@ module _ (s : Context) (whole : IsWholeTable s.table) (within : s.class.0 < leng
   bound_decided at scope name declared init o types h one = decided_as
       (λ b w. let (other, (t, denotes, (fits, is))) = w in (other, (subst (λ (x : Ty). Denotes s.table declared.name x) (sym is) denotes, subst (λ (x : Ty). HasInit s.table s.class scope x init) (sym is) fits)))
       (λ b w. let (other, (denotes, fits)) = w in (other, (b, denotes, (fits, refl))))
-      (unless_decided (is_self name) _ (and_then (named s declared) (λ bound. initialized s at bound o)) (IsNotSelf name) (λ e. e) (λ e. e) (λ other.
-      bind_decided (named_decided declared) (λ bound denotes. init_by at scope init o bound types h one)))
+      (unless_decided (is_self name) _ (and_then (named s typing.Let declared) (λ bound. initialized s at bound o)) (IsNotSelf name) (λ e. e) (λ e. e) (λ other.
+      bind_decided (named_decided typing.Let declared) (λ bound denotes. init_by at scope init o bound types h one)))
 
   -- the class in which a receiver's method is looked for
   receiver_class : (t : Ty) → IsType s.table t → (class_of s.class t).0 < length s.table
@@ -525,7 +527,7 @@ module _ (s : Context) (whole : IsWholeTable s.table) (within : s.class.0 < leng
 
   mutual
     checks : (e : Tree) (o : List Binding) → AreTypes s.table o → IsDecided (checked s o e) (λ t. HasType s.table s.class (o ++ s.attributes) e t)
-    checks (trees.Id at name) o types = name_decided o at name
+    checks (trees.Id at name) o types = name_decided o typing.Id at name
     checks (trees.Int at n) o types = ok_decided int_type
     checks (trees.Str at bytes) o types = ok_decided string_type
     checks (trees.Bool at b) o types = ok_decided bool_type
@@ -535,30 +537,30 @@ module _ (s : Context) (whole : IsWholeTable s.table) (within : s.class.0 < leng
         (λ t w. let (d, other, has, there, conforms) = w in
         (t, has, (other, (d, ap (λ (x : Bool). if x then Some SelfType else found (o ++ s.attributes) name) other ∙ there, (conforms, refl)))))
         (bind_decided (checks e o types) (λ t has.
-        unless_decided (is_self name) _ (and_then (name_checked s o at name) (λ declared. fits s t declared E3 at (Ok t))) (IsNotSelf name) (λ e. e) (λ e. e) (λ other.
-        bind_decided (name_decided o at name) (λ d there. conform_decided E3 at t d (expression_type s.table whole s.class within e (o ++ s.attributes) t (both_types o types) has) (λ k. ok_decided t)))))
+        unless_decided (is_self name) _ (and_then (name_checked s o typing.Assign at name) (λ declared. fits s t declared typing.Assign E3 at (Ok t))) (IsNotSelf name) (λ e. e) (λ e. e) (λ other.
+        bind_decided (name_decided o typing.Assign at name) (λ d there. conform_decided typing.Assign E3 at t d (expression_type s.table whole s.class within e (o ++ s.attributes) t (both_types o types) has) (λ k. ok_decided t)))))
     checks (trees.Dispatch at e name es) o types = decided_as
         (λ t w. let (r, has, (given, have, call)) = w in (r, given, has, have, call))
         (λ t w. let (r, given, has, have, call) = w in (r, has, (given, have, call)))
         (bind_decided (checks e o types) (λ r has. bind_decided (all_from es o (checks_more es o [] types)) (λ given have.
-        call_decided (o ++ s.attributes) at (class_of s.class r) name r given es (receiver_class r (expression_type s.table whole s.class within e (o ++ s.attributes) r (both_types o types) has)) have
+        call_decided typing.Dispatch (o ++ s.attributes) at (class_of s.class r) name r given es (receiver_class r (expression_type s.table whole s.class within e (o ++ s.attributes) r (both_types o types) has)) have
         (all_types es (o ++ s.attributes) given (both_types o types) have))))
     checks (trees.StaticDispatch at e class name es) o types = decided_as
         (λ t w. let (r, has, (given, have, (k, (denotes, conforms), call))) = w in (r, given, k, has, have, denotes, conforms, call))
         (λ t w. let (r, given, k, has, have, denotes, conforms, call) = w in (r, has, (given, have, (k, (denotes, conforms), call))))
         (bind_decided (checks e o types) (λ r has. bind_decided (all_from es o (checks_more es o [] types)) (λ given have.
         bind_decided (static_decided class r (expression_type s.table whole s.class within e (o ++ s.attributes) r (both_types o types) has)) (λ k w.
-        call_decided (o ++ s.attributes) at k name r given es w.0.0 have (all_types es (o ++ s.attributes) given (both_types o types) have)))))
+        call_decided typing.StaticDispatch (o ++ s.attributes) at k name r given es w.0.0 have (all_types es (o ++ s.attributes) given (both_types o types) have)))))
     checks (trees.If at test first second) o types = decided_as
         (λ j w. let (b, has, (t, has1, (u, has2, (is_bool, join)))) = w in (t, u, subst (λ (x : Ty). HasType s.table s.class (o ++ s.attributes) test x) is_bool has, has1, has2, join))
         (λ j w. let (t, u, has, has1, has2, join) = w in (bool_type, has, (t, has1, (u, has2, (refl, join)))))
         (bind_decided (checks test o types) (λ b has. bind_decided (checks first o types) (λ t has1. bind_decided (checks second o types) (λ u has2.
-        same_decided E9 (place_of test) b bool_type (λ x. join_decided t u (expression_type s.table whole s.class within first (o ++ s.attributes) t (both_types o types) has1)
+        same_decided typing.If E9 (place_of test) b bool_type (λ x. join_decided t u (expression_type s.table whole s.class within first (o ++ s.attributes) t (both_types o types) has1)
         (expression_type s.table whole s.class within second (o ++ s.attributes) u (both_types o types) has2))))))
     checks (trees.While at test body) o types = decided_as
         (λ j w. let (b, has, (t, has1, (is_bool, is))) = w in (t, subst (λ (x : Ty). HasType s.table s.class (o ++ s.attributes) test x) is_bool has, has1, is))
         (λ j w. let (t, has, has1, is) = w in (bool_type, has, (t, has1, (refl, is))))
-        (bind_decided (checks test o types) (λ b has. bind_decided (checks body o types) (λ t has1. same_decided E9 (place_of test) b bool_type (λ x. ok_decided object_type))))
+        (bind_decided (checks test o types) (λ b has. bind_decided (checks body o types) (λ t has1. same_decided typing.While E9 (place_of test) b bool_type (λ x. ok_decided object_type))))
     checks (trees.Block at es) o types = checks_items es o object_type types
     checks (trees.Let at name declared init e) o types = decided_as
         (λ t w. let (given, has, (bound, (other, (denotes, fits)), has1)) = w in (bound, other, denotes, fits, has1))
@@ -570,21 +572,21 @@ module _ (s : Context) (whole : IsWholeTable s.table) (within : s.class.0 < leng
         (λ j w. case_type (o ++ s.attributes) at e cs j (both_types o types) w)
         (λ j h. type_case (o ++ s.attributes) at e cs j (both_types o types) h)
         (bind_decided (checks e o types) (λ t has. checks_cases cs o [] None types))
-    checks (trees.New at class) o types = named_decided class
+    checks (trees.New at class) o types = named_decided typing.New class
     checks (trees.IsVoid at e) o types = bind_decided (checks e o types) (λ t has. ok_decided bool_type)
     checks (trees.Not at e) o types = decided_as
         (λ t w. (subst (λ (x : Ty). HasType s.table s.class (o ++ s.attributes) e x) w.2.0 w.1, w.2.1))
         (λ t w. (bool_type, w.0, (refl, w.1)))
-        (bind_decided (checks e o types) (λ t has. same_decided E16 at t bool_type (λ x. ok_decided bool_type)))
+        (bind_decided (checks e o types) (λ t has. same_decided typing.Not E16 at t bool_type (λ x. ok_decided bool_type)))
     checks (trees.Neg at e) o types = decided_as
         (λ t w. (subst (λ (x : Ty). HasType s.table s.class (o ++ s.attributes) e x) w.2.0 w.1, w.2.1))
         (λ t w. (int_type, w.0, (refl, w.1)))
-        (bind_decided (checks e o types) (λ t has. same_decided E14 at t int_type (λ x. ok_decided int_type)))
+        (bind_decided (checks e o types) (λ t has. same_decided typing.Neg E14 at t int_type (λ x. ok_decided int_type)))
     checks (trees.Arith at op a b) o types = decided_as
         (λ t w. let (u, has, (v, has1, (is_int, (is_int1, is)))) = w in
         (subst (λ (x : Ty). HasType s.table s.class (o ++ s.attributes) a x) is_int has, subst (λ (x : Ty). HasType s.table s.class (o ++ s.attributes) b x) is_int1 has1, is))
         (λ t w. let (has, has1, is) = w in (int_type, has, (int_type, has1, (refl, (refl, is)))))
-        (bind_decided (checks a o types) (λ t has. bind_decided (checks b o types) (λ u has1. same_decided E14 at t int_type (λ x. same_decided E14 at u int_type (λ y. ok_decided int_type)))))
+        (bind_decided (checks a o types) (λ t has. bind_decided (checks b o types) (λ u has1. same_decided typing.Arith E14 at t int_type (λ x. same_decided typing.Arith E14 at u int_type (λ y. ok_decided int_type)))))
     checks (trees.Compare at op a b) o types = decided_as
         (λ t w. let (u, has, (v, has1, (comparable, is))) = w in (u, v, has, has1, comparable, is))
         (λ t w. let (u, v, has, has1, comparable, is) = w in (u, has, (v, has1, (comparable, is))))

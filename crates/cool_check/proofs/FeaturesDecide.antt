@@ -25,6 +25,8 @@ use Rattle.cool_rules.proofs.RulesOfTables.{type_meant_is}
 use Rattle.cool_rules.proofs.ScopesMoved.{AreSame, moved}
 use Rattle.cool_rules.proofs.TypesAreTypes.{attributes_are_types, formals_are_types}
 use Rattle.cool_rules.proofs.TypesOfMethods.{expression_type}
+use Rattle.cool_check.specs.declared.fault.TypingRule.{TypingRule}
+use Rattle.cool_check.specs.declared.fault.TypingRule.TheVariants as typing
 use Rattle.cool_check.specs.declared.fault.TypeKind.{TypeKind}
 use Rattle.cool_check.specs.declared.fault.TypeKind.TheVariants.{E17, E18}
 use Rattle.cool_check.specs.Contexts.{attribute_bindings}
@@ -37,16 +39,16 @@ module _ (p : List Class) (whole : IsWholeTable p) (c : ClassId) (within : c.0 <
   meant_denotes : (name : List ℕ) → IsTypeName p name → Denotes p name (type_meant p name)
   meant_denotes name (t, denotes) = subst (λ (x : Ty). Denotes p name x) (type_meant_is p name t whole.table denotes) denotes
 
-  own_types : AreTypes p (attribute_bindings p c)
+  pub own_types : AreTypes p (attribute_bindings p c)
   own_types = entered_types (IsType p) (own_scope p c) [] (attributes_are_types p whole (attributes_of p (climbed.chain p c))) tt
 
   back : (s t : List Binding) → AreSame s t → AreSame t s
   back s t h = λ name. sym (h name)
 
   -- an expression conforms to what a feature declares
-  declared_decided : (bs : List Binding) (kind : TypeKind) (at : Place) (e : Tree) (name : List ℕ) → NamesDiffer (own_scope p c) → NamesDiffer bs → AreTypes p bs → IsTypeName p name
-      → IsDecided {A = Unit {0}} (and_then (checked (class_context p c) (entered bs []) e) (λ t. fits (class_context p c) t (type_meant p name) kind at (Ok tt))) (λ u. FitsDeclared p c bs e name)
-  declared_decided bs kind at e name differ different types named = decided_as
+  declared_decided : (bs : List Binding) (rule : TypingRule) (kind : TypeKind) (at : Place) (e : Tree) (name : List ℕ) → NamesDiffer (own_scope p c) → NamesDiffer bs → AreTypes p bs → IsTypeName p name
+      → IsDecided {A = Unit {0}} (and_then (checked (class_context p c) (entered bs []) e) (λ t. fits (class_context p c) t (type_meant p name) rule kind at (Ok tt))) (λ u. FitsDeclared p c bs e name)
+  declared_decided bs rule kind at e name differ different types named = decided_as
       (λ u w. let (t, has, (conforms, unit)) = w in record {
         chain = climbed.chain p c;
         is_chain = chain_is p c whole.table within;
@@ -65,7 +67,7 @@ module _ (p : List Class) (whole : IsWholeTable p) (c : ClassId) (within : c.0 <
         (subst (λ (t : Ty). Conforms p c f.type t) (type_meant_is p name f.result whole.table f.denotes) f.conforms, refl),
       ))
       (bind_decided (checked_decides (class_context p c) whole within own_types e (entered bs []) (entered_types (IsType p) bs [] types tt)) (λ t has.
-      conform_decided (class_context p c) whole within own_types kind at t (type_meant p name)
+      conform_decided (class_context p c) whole within own_types rule kind at t (type_meant p name)
       (expression_type p whole c within e (entered bs [] ++ attribute_bindings p c) t (both (entered bs []) (entered_types (IsType p) bs [] types tt)) has) (λ k. ok_decided (tt {0}))))
     where
       both : (o : List Binding) → AreTypes p o → AreTypes p (o ++ attribute_bindings p c)
@@ -74,9 +76,9 @@ module _ (p : List Class) (whole : IsWholeTable p) (c : ClassId) (within : c.0 <
 
   init_decided : (a : AttributeDef) (o : Option Tree) → NamesDiffer (own_scope p c) → IsTypeName p a.declared.name → IsDecided (initial_checked (class_context p c) a o) (λ u. IsTypedInit p c a.declared.name o)
   init_decided a None differ named = decided_as (λ u e. tt) (λ u h. refl) (ok_decided (tt {0}))
-  init_decided a (Some e) differ named = declared_decided [] E17 a.at e a.declared.name differ tt tt named
+  init_decided a (Some e) differ named = declared_decided [] typing.Attribute E17 a.at e a.declared.name differ tt tt named
 
   pub feature_decided : (x : Feature) → NamesDiffer (own_scope p c) → HasDifferentFormals x → IsTyped p x → IsDecided (feature_checked p c x) (λ u. IsTypedFeature p c x)
   feature_decided (Method m) differ names typed =
-      declared_decided (map (formal_binding p) m.formals) E18 m.at m.body m.result.name differ (formals_differ p m.formals names) (formals_are_types p whole m.formals) typed.2
+      declared_decided (map (formal_binding p) m.formals) typing.Method E18 m.at m.body m.result.name differ (formals_differ p m.formals names) (formals_are_types p whole m.formals) typed.2
   feature_decided (Attribute a) differ names typed = init_decided a a.init differ typed

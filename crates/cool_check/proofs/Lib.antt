@@ -10,5 +10,6 @@ pub mod OrderOfKinds
 mod PartsLeft
 mod PlacedFaults
 pub mod PlacesOfParts
+mod RulesThatFail
 mod TypesGiven
 mod TypesInScope

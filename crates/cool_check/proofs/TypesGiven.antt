@@ -17,6 +17,7 @@ use Rattle.cool_rules.proofs.StaticTypesAreGiven.{type_is}
 use Rattle.cool_check.specs.Contexts.{Context}
 use Rattle.cool_check.specs.FirstFaults.{Checked, refuse, refuse_type, and_then, or_no_type, initialized, bound_type, branch_among, branch_class, conform, is_self, checked}
 use Rattle.cool_check.specs.declared.fault.TypeKind.TheVariants.{E10, E13, E17}
+use Rattle.cool_check.specs.declared.fault.TypingRule.TheVariants as typing
 use Rattle.cool_check.proofs.CheckedDecides.{Decides, both_types, checked_decides}
 
 -- a claim that is decided and given holds
@@ -44,15 +45,15 @@ bound_meant s at name declared given bound is = by (is_self name) is
     initial None a e = cc
     initial (Some g) a e = fitting (conform s g a) e
       where
-        fitting : (b : Bool) → (if b then Ok a else refuse_type E17 at g a) ≡ Ok bound → a ≡ bound
+        fitting : (b : Bool) → (if b then Ok a else refuse_type typing.Let E17 at g a) ≡ Ok bound → a ≡ bound
         fitting true e = cc
         fitting false e = absurd (cc)
 
-    declared_by : (o : Option Ty) → type_of_name s.table declared.name ≡ o → and_then (or_no_type o declared.at) (λ (a : Ty). initialized s at a given) ≡ Ok bound → type_meant s.table declared.name ≡ bound
+    declared_by : (o : Option Ty) → type_of_name s.table declared.name ≡ o → and_then (or_no_type o typing.Let declared.at) (λ (a : Ty). initialized s at a given) ≡ Ok bound → type_meant s.table declared.name ≡ bound
     declared_by None e is = absurd (cc)
     declared_by (Some a) e is = named_meant s.table declared.name a e ∙ initial given a is
 
-    by : (b : Bool) → (if b then refuse E10 at else and_then (or_no_type (type_of_name s.table declared.name) declared.at) (λ (a : Ty). initialized s at a given)) ≡ Ok bound
+    by : (b : Bool) → (if b then refuse typing.Let E10 at else and_then (or_no_type (type_of_name s.table declared.name) typing.Let declared.at) (λ (a : Ty). initialized s at a given)) ≡ Ok bound
         → type_meant s.table declared.name ≡ bound
     by true is = absurd (cc)
     by false is = declared_by (type_of_name s.table declared.name) refl is
@@ -62,7 +63,7 @@ pub branch_meant : (s : Context) (at : Place) (name : List ℕ) (declared : Type
     → type_meant s.table declared.name ≡ IsClass class
 branch_meant s at name declared earlier class is = by (is_self name) is
   where
-    among : (b : Bool) (d : ClassId) → (if b then refuse E13 declared.at else Ok d) ≡ Ok class → d ≡ class
+    among : (b : Bool) (d : ClassId) → (if b then refuse typing.Case E13 declared.at else Ok d) ≡ Ok class → d ≡ class
     among true d e = absurd (cc)
     among false d e = cc
 
@@ -71,6 +72,6 @@ branch_meant s at name declared earlier class is = by (is_self name) is
     declared_by (Some SelfType) e is = absurd (cc)
     declared_by (Some (IsClass d)) e is = named_meant s.table declared.name (IsClass d) e ∙ ap (λ (x : ClassId). IsClass x) (among (is_among earlier d) d is)
 
-    by : (b : Bool) → (if b then refuse E10 at else branch_among declared.at earlier (type_of_name s.table declared.name)) ≡ Ok class → type_meant s.table declared.name ≡ IsClass class
+    by : (b : Bool) → (if b then refuse typing.Case E10 at else branch_among declared.at earlier (type_of_name s.table declared.name)) ≡ Ok class → type_meant s.table declared.name ≡ IsClass class
     by true is = absurd (cc)
     by false is = declared_by (type_of_name s.table declared.name) refl is

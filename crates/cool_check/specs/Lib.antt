@@ -1,6 +1,7 @@
 pub mod Calls
 pub mod Checks
 pub mod Contexts
+pub mod FailingRules
 pub mod Faults
 pub mod FirstFaults
 pub mod Laws

@@ -13,6 +13,7 @@ use Rattle.cool_check.specs.declared.fault.CheckAllError.{CheckAllError}
 use Rattle.cool_check.specs.declared.fault.CheckAllError.TheVariants as all
 use Rattle.cool_check.specs.declared.fault.TypeFault.{TypeFault}
 use Rattle.cool_check.specs.declared.fault.TypeKind.TheVariants.{E17, E18}
+use Rattle.cool_check.specs.declared.fault.TypingRule.TheVariants as typing
 use Rattle.cool_check.specs.Faults.{standing_of}
 use Rattle.cool_rules.specs.Rules.{type_meant}
 use Rattle.cool_check.specs.Contexts.{Context, attribute_bindings, formal_bindings}
@@ -25,13 +26,13 @@ class_context p c = record { table = p; class = c; attributes = attribute_bindin
 -- the initial value of an attribute, where there is one, conforms to its type
 abbrev pub initial_checked : Context → AttributeDef → Option Tree → Checked (Unit {0})
 initial_checked s a None = Ok tt
-initial_checked s a (Some t) = and_then (checked s [] t) (λ found. fits s found (type_meant s.table a.declared.name) E17 a.at (Ok tt))
+initial_checked s a (Some t) = and_then (checked s [] t) (λ found. fits s found (type_meant s.table a.declared.name) typing.Attribute E17 a.at (Ok tt))
 
 -- A feature of a class is well typed, or this is its first fault: the body of a method conforms to its result.
 abbrev pub feature_checked : List Class → ClassId → Feature → Checked (Unit {0})
 feature_checked p c (Method m) =
     and_then (checked (class_context p c) (formal_bindings p m.formals) m.body)
-    (λ found. fits (class_context p c) found (type_meant p m.result.name) E18 m.at (Ok tt))
+    (λ found. fits (class_context p c) found (type_meant p m.result.name) typing.Method E18 m.at (Ok tt))
 feature_checked p c (Attribute a) = initial_checked (class_context p c) a a.init
 
 abbrev pub fault_of : Checked (Unit {0}) → List TypeFault

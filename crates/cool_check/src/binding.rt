@@ -15,7 +15,7 @@ ghost use Rattle.cool_check.specs.Contexts.{context};
 ghost use Rattle.cool_check.specs.TypingSettings.{IsSound};
 
 use crate::expression::{is_self, type_of};
-use crate::fault::{CheckError, TypeKind};
+use crate::fault::{CheckError, TypeKind, TypingRule};
 use crate::typing_setting::TypingSetting;
 use cool_classes::{ClassId, OBJECT, Ty};
 use cool_pool::Column;
@@ -100,14 +100,14 @@ fn bound_type(
     ensures { IsAnswer (bound_type (context setting.now) at name.now declared.now given) (IsType setting.now.table.now) (λ n. IsPlaced n at × IsPlaced n declared.now.at) result }
 {
     if is_self(name) {
-        return Err(CheckError::at(TypeKind::E10, at));
+        return Err(CheckError::at(TypingRule::Let, TypeKind::E10, at));
     }
     let Some(bound) = setting.type_named(&declared.name) else {
-        return Err(CheckError::at(TypeKind::E11, declared.at));
+        return Err(CheckError::at(TypingRule::Let, TypeKind::E11, declared.at));
     };
     match given {
         Some(value) if !setting.conforms(value, bound) => {
-            Err(CheckError::unfit(TypeKind::E17, at, value, bound))
+            Err(CheckError::unfit(TypingRule::Let, TypeKind::E17, at, value, bound))
         }
         _ => Ok(bound),
     }
@@ -196,14 +196,14 @@ fn branch_class(
     ensures { IsAnswer (branch_class (context setting.now) branch.now.at branch.now.name branch.now.declared earlier.now) (λ class. class.0 < length setting.now.table.now) (λ n. IsPlaced n branch.now.at × IsPlaced n branch.now.declared.at) result }
 {
     if is_self(&branch.name) {
-        return Err(CheckError::at(TypeKind::E10, branch.at));
+        return Err(CheckError::at(TypingRule::Case, TypeKind::E10, branch.at));
     }
     let at = branch.declared.at;
     match setting.type_named(&branch.declared.name) {
-        Some(Ty::SelfType) => Err(CheckError::at(TypeKind::E12, at)),
-        None => Err(CheckError::at(TypeKind::E11, at)),
+        Some(Ty::SelfType) => Err(CheckError::at(TypingRule::Case, TypeKind::E12, at)),
+        None => Err(CheckError::at(TypingRule::Case, TypeKind::E11, at)),
         Some(Ty::Class(class)) if is_among(earlier, class) => {
-            Err(CheckError::at(TypeKind::E13, at))
+            Err(CheckError::at(TypingRule::Case, TypeKind::E13, at))
         }
         Some(Ty::Class(class)) => Ok(class),
     }

@@ -14,7 +14,7 @@ ghost use Rattle.cool_check.specs.Contexts.{context};
 ghost use Rattle.cool_check.specs.TypingSettings.{IsSound};
 
 use crate::expression::{type_of, types_of};
-use crate::fault::{CheckError, TypeFault, TypeKind};
+use crate::fault::{CheckError, TypeFault, TypeKind, TypingRule};
 use crate::typing_setting::TypingSetting;
 use cool_classes::{ClassId, MethodRef, Ty};
 use cool_pool::Column;
@@ -50,6 +50,7 @@ pub(crate) fn type_of_call<'a>(
             let given = types_of(setting, locals, types, id, args.as_slice())?;
             let class = class_of(setting.class, object);
             let called = Called {
+                rule: TypingRule::Dispatch,
                 at: *at,
                 class,
                 object,
@@ -68,6 +69,7 @@ pub(crate) fn type_of_call<'a>(
             let given = types_of(setting, locals, types, id, args.as_slice())?;
             let class = static_class(setting, class, object)?;
             let called = Called {
+                rule: TypingRule::StaticDispatch,
                 at: *at,
                 class,
                 object,
@@ -79,9 +81,10 @@ pub(crate) fn type_of_call<'a>(
     }
 }
 
-/// A call: its place, the class in which the method is looked for, the type of the receiver, and the method's name.
+/// A call: its rule, its place, the class in which the method is looked for, the type of the receiver, and the method's name.
 #[derive(Clone, Copy)]
 struct Called<'a> {
+    rule: TypingRule,
     at: Place,
     class: ClassId,
     object: Ty,
@@ -99,13 +102,23 @@ fn static_class(
     ensures { IsAnswer (static_class (context setting.now) class.now object) (λ found. found.0 < length setting.now.table.now) (λ n. IsPlaced n class.now.at) result }
 {
     match setting.type_named(&class.name) {
-        Some(Ty::SelfType) => Err(CheckError::at(TypeKind::E7, class.at)),
-        None => Err(CheckError::at(TypeKind::E11, class.at)),
+        Some(Ty::SelfType) => Err(CheckError::at(
+            TypingRule::StaticDispatch,
+            TypeKind::E7,
+            class.at,
+        )),
+        None => Err(CheckError::at(TypingRule::StaticDispatch, TypeKind::E11, class.at)),
         Some(Ty::Class(found)) => {
             if setting.conforms(object, Ty::Class(found)) {
                 Ok(found)
             } else {
-                Err(CheckError::unfit(TypeKind::E8, class.at, object, Ty::Class(found)))
+                Err(CheckError::unfit(
+                    TypingRule::StaticDispatch,
+                    TypeKind::E8,
+                    class.at,
+                    object,
+                    Ty::Class(found),
+                ))
             }
         }
     }
@@ -122,15 +135,15 @@ fn type_of_result(
     requires class { called.now.class.0 < length setting.now.table.now }
     requires object { IsType setting.now.table.now called.now.object }
     requires arguments { AreArguments setting.now args.now given.now }
-    ensures { IsAnswer (call_checked (context setting.now) called.now.at called.now.class called.now.object called.now.name.now (trees_of setting.now.body.now args.now) given.now) (IsType setting.now.table.now) (λ n. IsPlaced n called.now.at × AreTreesWithin n (trees_of setting.now.body.now args.now)) result }
+    ensures { IsAnswer (call_checked (context setting.now) called.now.rule called.now.at called.now.class called.now.object called.now.name.now (trees_of setting.now.body.now args.now) given.now) (IsType setting.now.table.now) (λ n. IsPlaced n called.now.at × AreTreesWithin n (trees_of setting.now.body.now args.now)) result }
 {
     let Some(method) = setting.method(called.class, called.name) else {
-        return Err(CheckError::in_class(TypeKind::E4, called.at, called.class));
+        return Err(CheckError::in_class(called.rule, TypeKind::E4, called.at, called.class));
     };
     if setting.table.formal_count(method) as usize != args.len() {
-        return Err(CheckError::in_class(TypeKind::E5, called.at, called.class));
+        return Err(CheckError::in_class(called.rule, TypeKind::E5, called.at, called.class));
     }
-    match misfit(setting, method, args, given) {
+    match misfit(setting, called.rule, method, args, given) {
         Some(fault) => Err(CheckError::Fault(fault)),
         None => Ok(resulting(called.object, setting.result(method))),
     }
@@ -139,6 +152,7 @@ fn type_of_result(
 /// The fault of the first argument that does not conform to its formal.
 fn misfit(
     setting: &TypingSetting<'_, '_>,
+    rule: TypingRule,
     method: MethodRef,
     args: &[NodeId],
     given: &[Ty],
@@ -147,14 +161,14 @@ fn misfit(
     requires has { HasMethod setting.now.table.now method }
     requires arguments { AreArguments setting.now args.now given.now }
     requires formals { length (formals_of setting.now.table.now method) ≡ length args.now }
-    ensures misfit { result ≡ misfit (context setting.now) (formals_of setting.now.table.now method) given.now (trees_of setting.now.body.now args.now) }
+    ensures misfit { result ≡ misfit (context setting.now) rule (formals_of setting.now.table.now method) given.now (trees_of setting.now.body.now args.now) }
     ensures places { (n : ℕ) → AreTreesWithin n (trees_of setting.now.body.now args.now) → IfSome result (λ fault. IsPlaced n fault.at) }
 {
     for index in 0..args.len() {
         let formal = setting.formal(method, index as u32);
         if !setting.conforms(given[index], formal) {
             let at = setting.body.node(args[index]).place();
-            return Some(TypeFault::unfit(TypeKind::E6, at, given[index], formal));
+            return Some(TypeFault::unfit(rule, TypeKind::E6, at, given[index], formal));
         }
     }
     None

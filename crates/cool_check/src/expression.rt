@@ -22,7 +22,7 @@ ghost use Rattle.cool_rules.specs.Scopes.{AreTypes};
 
 use crate::binding::type_of_binding;
 use crate::dispatch::type_of_call;
-use crate::fault::{CheckError, TypeKind};
+use crate::fault::{CheckError, TypeKind, TypingRule};
 use crate::operator::{type_of_binary, type_of_unary};
 use crate::typing_setting::TypingSetting;
 use cool_classes::{BOOL, ClassId, INT, OBJECT, STRING, Ty};
@@ -101,10 +101,10 @@ fn type_of_leaf(
     ensures { IsTypeOf setting.now locals.now (tree_of_node setting.now.body.now node.now) result }
 {
     match node {
-        Node::Id { at, name } => type_of_name(setting, locals, *at, name),
+        Node::Id { at, name } => type_of_name(setting, locals, TypingRule::Id, *at, name),
         Node::New { class, .. } => match setting.type_named(&class.name) {
             Some(made) => Ok(made),
-            None => Err(CheckError::at(TypeKind::E11, class.at)),
+            None => Err(CheckError::at(TypingRule::New, TypeKind::E11, class.at)),
         },
         Node::Int { .. } => Ok(Ty::Class(INT)),
         Node::Str { .. } => Ok(Ty::Class(STRING)),
@@ -113,16 +113,17 @@ fn type_of_leaf(
     }
 }
 
-/// The type of a name: that of `self`, of the latest variable of this name or else of the attribute.
+/// The type of a name in this rule: that of `self`, of the latest variable of this name or else of the attribute.
 pub(crate) fn type_of_name(
     setting: &TypingSetting<'_, '_>,
     locals: &Scope<'_, Ty>,
+    rule: TypingRule,
     at: Place,
     name: &Name,
 ) -> Result<Ty, CheckError>
     requires sound { IsSound setting.now }
     requires locals { AreTypes setting.now.table.now locals.now }
-    ensures answer { IsAnswer (name_checked (context setting.now) locals.now at name.now) (IsType setting.now.table.now) (λ n. IsPlaced n at) result }
+    ensures answer { IsAnswer (name_checked (context setting.now) locals.now rule at name.now) (IsType setting.now.table.now) (λ n. IsPlaced n at) result }
     ensures fault { IfErr result (StandsAt at) }
 {
     if is_self(name) {
@@ -130,7 +131,7 @@ pub(crate) fn type_of_name(
     }
     match locals.find(name).or(setting.attributes.find(name)) {
         Some(found) => Ok(found),
-        None => Err(CheckError::at(TypeKind::E1, at)),
+        None => Err(CheckError::at(rule, TypeKind::E1, at)),
     }
 }
 
@@ -164,13 +165,13 @@ fn type_of_control<'a>(
             let predicate = type_of(setting, locals, types, *test)?;
             let first = type_of(setting, locals, types, *yes)?;
             let second = type_of(setting, locals, types, *no)?;
-            expect_bool(setting, *test, predicate)?;
+            expect_bool(setting, TypingRule::If, *test, predicate)?;
             Ok(setting.join(first, second))
         }
         Node::While { test, body, .. } => {
             let predicate = type_of(setting, locals, types, *test)?;
             type_of(setting, locals, types, *body)?;
-            expect_bool(setting, *test, predicate)?;
+            expect_bool(setting, TypingRule::While, *test, predicate)?;
             Ok(Ty::Class(OBJECT))
         }
         Node::Block { items, .. } => type_of_last(setting, locals, types, id, items.as_slice()),
@@ -178,18 +179,23 @@ fn type_of_control<'a>(
     }
 }
 
-/// Refuses a predicate that is not Bool.
-fn expect_bool(setting: &TypingSetting<'_, '_>, test: NodeId, found: Ty) -> Result<(), CheckError>
+/// Refuses a predicate that is not Bool, by this rule.
+fn expect_bool(
+    setting: &TypingSetting<'_, '_>,
+    rule: TypingRule,
+    test: NodeId,
+    found: Ty,
+) -> Result<(), CheckError>
     requires below { test.0 < tree_size setting.now.body.now }
     ensures holds { IfOk result (λ u. same_type found bool_type ≡ true) }
-    ensures fails { IfErr result (λ e. (same_type found bool_type ≡ false) × (e ≡ error.Fault (unfit kind.E9 (place_of (tree_at setting.now.body.now test)) found bool_type))) }
+    ensures fails { IfErr result (λ e. (same_type found bool_type ≡ false) × (e ≡ error.Fault (unfit rule kind.E9 (place_of (tree_at setting.now.body.now test)) found bool_type))) }
     ensures places { (n : ℕ) → IsTreeWithin n (tree_at setting.now.body.now test) → IfErr result (IsPlacedError n) }
 {
     if is_class(found, BOOL) {
         return Ok(());
     }
     let at = setting.body.node(test).place();
-    Err(CheckError::unfit(TypeKind::E9, at, found, Ty::Class(BOOL)))
+    Err(CheckError::unfit(rule, TypeKind::E9, at, found, Ty::Class(BOOL)))
 }
 
 /// Whether a type is this class.

@@ -51,10 +51,47 @@ pub enum TypeKind {
     E18,
 }
 
-/// A fault, its place, and the types found and due there.
+/// A typing rule with a premise that can fail (the Cool manual, section 12): the rule of a form of expression, or of a kind of feature.
+#[derive(Clone, Copy)]
+pub enum TypingRule {
+    /// A name.
+    Id,
+    /// An assignment.
+    Assign,
+    /// A dispatch without `@`.
+    Dispatch,
+    /// A dispatch with `@`.
+    StaticDispatch,
+    /// A conditional.
+    If,
+    /// A loop.
+    While,
+    /// A `let` with one variable.
+    Let,
+    /// A `case`.
+    Case,
+    /// `new`.
+    New,
+    /// `not`.
+    Not,
+    /// `~`.
+    Neg,
+    /// `+`, `-`, `*` or `/`.
+    Arith,
+    /// `<`, `<=` or `=`.
+    Compare,
+    /// An attribute with an initial value.
+    Attribute,
+    /// A method.
+    Method,
+}
+
+/// A fault, the rule that is not met, the place, and the types found and due there.
 #[derive(Clone, Copy)]
 pub struct TypeFault {
     pub kind: TypeKind,
+    /// The rule of the expression or feature that has no type, although each part that is checked before has one.
+    pub rule: TypingRule,
     pub at: Place,
     /// The type that was found, if one did not fit: of the value (E3), argument (E6), receiver (E8), predicate (E9), operand (E14, E16), right operand
     /// (E15), initial value (E17) or body (E18). If a dispatch is at fault (E4, E5), the class in which its method is looked for.
@@ -66,11 +103,18 @@ pub struct TypeFault {
 
 impl TypeFault {
     /// The fault that the first type was found where the second one was due.
-    pub(crate) fn unfit(kind: TypeKind, at: Place, found: Ty, due: Ty) -> TypeFault
-        ensures { result ≡ unfit kind at found due }
+    pub(crate) fn unfit(
+        rule: TypingRule,
+        kind: TypeKind,
+        at: Place,
+        found: Ty,
+        due: Ty,
+    ) -> TypeFault
+        ensures { result ≡ unfit rule kind at found due }
     {
         TypeFault {
             kind,
+            rule,
             at,
             found: Some(found),
             due: Some(due),
@@ -88,12 +132,13 @@ pub enum CheckError {
 }
 
 impl CheckError {
-    /// A fault of this kind at this place.
-    pub(crate) fn at(kind: TypeKind, at: Place) -> CheckError
-        ensures { result ≡ error.Fault (record { kind = kind; at = at; found = None; due = None }) }
+    /// A fault of this rule, of this kind and at this place.
+    pub(crate) fn at(rule: TypingRule, kind: TypeKind, at: Place) -> CheckError
+        ensures { result ≡ error.Fault (record { kind = kind; rule = rule; at = at; found = None; due = None }) }
     {
         CheckError::Fault(TypeFault {
             kind,
+            rule,
             at,
             found: None,
             due: None,
@@ -101,11 +146,17 @@ impl CheckError {
     }
 
     /// A fault of a dispatch whose method is looked for in this class.
-    pub(crate) fn in_class(kind: TypeKind, at: Place, class: ClassId) -> CheckError
-        ensures { result ≡ error.Fault (record { kind = kind; at = at; found = Some (IsClass class); due = None }) }
+    pub(crate) fn in_class(
+        rule: TypingRule,
+        kind: TypeKind,
+        at: Place,
+        class: ClassId,
+    ) -> CheckError
+        ensures { result ≡ error.Fault (record { kind = kind; rule = rule; at = at; found = Some (IsClass class); due = None }) }
     {
         CheckError::Fault(TypeFault {
             kind,
+            rule,
             at,
             found: Some(Ty::Class(class)),
             due: None,
@@ -113,10 +164,16 @@ impl CheckError {
     }
 
     /// The fault that the first type was found where the second one was due.
-    pub(crate) fn unfit(kind: TypeKind, at: Place, found: Ty, due: Ty) -> CheckError
-        ensures { result ≡ error.Fault (unfit kind at found due) }
+    pub(crate) fn unfit(
+        rule: TypingRule,
+        kind: TypeKind,
+        at: Place,
+        found: Ty,
+        due: Ty,
+    ) -> CheckError
+        ensures { result ≡ error.Fault (unfit rule kind at found due) }
     {
-        CheckError::Fault(TypeFault::unfit(kind, at, found, due))
+        CheckError::Fault(TypeFault::unfit(rule, kind, at, found, due))
     }
 }
 

@@ -17,7 +17,7 @@ ghost use Rattle.cool_check.specs.TypingSettings.{IsSound, IsSoundClass};
 ghost use Rattle.cool_check.specs.TypingFaults.{feature_checked};
 
 use crate::expression::type_of;
-use crate::fault::{CheckError, TypeKind};
+use crate::fault::{CheckError, TypeKind, TypingRule};
 use crate::typing_setting::TypingSetting;
 use cool_classes::{AttributeRef, ClassId, ClassTable, MethodRef, Ty};
 use cool_pool::Column;
@@ -125,7 +125,13 @@ fn check_method<'a>(
     if setting.conforms(found, declared) {
         Ok(NodeTypes::of(types.into_values()))
     } else {
-        Err(CheckError::unfit(TypeKind::E18, method.at, found, declared))
+        Err(CheckError::unfit(
+            TypingRule::Method,
+            TypeKind::E18,
+            method.at,
+            found,
+            declared,
+        ))
     }
 }
 
@@ -183,6 +189,12 @@ fn check_attribute<'a>(
     if setting.conforms(found, declared) {
         Ok(NodeTypes::of(types.into_values()))
     } else {
-        Err(CheckError::unfit(TypeKind::E17, attribute.at, found, declared))
+        Err(CheckError::unfit(
+            TypingRule::Attribute,
+            TypeKind::E17,
+            attribute.at,
+            found,
+            declared,
+        ))
     }
 }

@@ -16,7 +16,7 @@ mod typer;
 mod typing_setting;
 
 pub use checking::{check, in_order};
-pub use fault::{CheckAllError, CheckError, TypeFault, TypeKind};
+pub use fault::{CheckAllError, CheckError, TypeFault, TypeKind, TypingRule};
 pub use feature::check_feature;
-pub use laws::{law_faultless, law_one_type, law_typed_exactly};
+pub use laws::{law_failing_rule, law_faultless, law_one_type, law_typed_exactly};
 pub use typer::{PlainTyper, Typer};

@@ -18,7 +18,7 @@ ghost use Rattle.cool_rules.specs.Scopes.{AreTypes};
 ghost use Rattle.cool_check.specs.TypingSettings.{IsSound};
 
 use crate::expression::{is_class, is_self, type_of, type_of_name};
-use crate::fault::{CheckError, TypeKind};
+use crate::fault::{CheckError, TypeKind, TypingRule};
 use crate::typing_setting::TypingSetting;
 use cool_classes::{BOOL, ClassId, INT, STRING, Ty};
 use cool_pool::Column;
@@ -54,12 +54,12 @@ pub(crate) fn type_of_unary<'a>(
         }
         Node::Neg { at, value } => {
             let found = type_of(setting, locals, types, *value)?;
-            expect(found, INT, TypeKind::E14, *at)?;
+            expect(found, INT, TypingRule::Neg, TypeKind::E14, *at)?;
             Ok(Ty::Class(INT))
         }
         Node::Not { at, value } => {
             let found = type_of(setting, locals, types, *value)?;
-            expect(found, BOOL, TypeKind::E16, *at)?;
+            expect(found, BOOL, TypingRule::Not, TypeKind::E16, *at)?;
             Ok(Ty::Class(BOOL))
         }
         _ => unreachable!(),
@@ -81,25 +81,31 @@ fn assigned(
     ensures fault { IfErr result (StandsAt at) }
 {
     if is_self(name) {
-        return Err(CheckError::at(TypeKind::E2, at));
+        return Err(CheckError::at(TypingRule::Assign, TypeKind::E2, at));
     }
-    let declared = type_of_name(setting, locals, at, name)?;
+    let declared = type_of_name(setting, locals, TypingRule::Assign, at, name)?;
     if setting.conforms(given, declared) {
         Ok(given)
     } else {
-        Err(CheckError::unfit(TypeKind::E3, at, given, declared))
+        Err(CheckError::unfit(TypingRule::Assign, TypeKind::E3, at, given, declared))
     }
 }
 
 /// Refuses an operand of another class than this with this fault.
-fn expect(found: Ty, class: ClassId, kind: TypeKind, at: Place) -> Result<(), CheckError>
+fn expect(
+    found: Ty,
+    class: ClassId,
+    rule: TypingRule,
+    kind: TypeKind,
+    at: Place,
+) -> Result<(), CheckError>
     ensures holds { IfOk result (λ u. same_type found (IsClass class) ≡ true) }
-    ensures fails { IfErr result (λ e. (same_type found (IsClass class) ≡ false) × (e ≡ error.Fault (unfit kind at found (IsClass class)))) }
+    ensures fails { IfErr result (λ e. (same_type found (IsClass class) ≡ false) × (e ≡ error.Fault (unfit rule kind at found (IsClass class)))) }
 {
     if is_class(found, class) {
         Ok(())
     } else {
-        Err(CheckError::unfit(kind, at, found, Ty::Class(class)))
+        Err(CheckError::unfit(rule, kind, at, found, Ty::Class(class)))
     }
 }
 
@@ -130,8 +136,8 @@ pub(crate) fn type_of_binary<'a>(
         } => {
             let first = type_of(setting, locals, types, *left)?;
             let second = type_of(setting, locals, types, *right)?;
-            expect(first, INT, TypeKind::E14, *at)?;
-            expect(second, INT, TypeKind::E14, *at)?;
+            expect(first, INT, TypingRule::Arith, TypeKind::E14, *at)?;
+            expect(second, INT, TypingRule::Arith, TypeKind::E14, *at)?;
             Ok(Ty::Class(INT))
         }
         Node::Compare {
@@ -155,12 +161,18 @@ fn compared(op: CompareOp, first: Ty, second: Ty, at: Place) -> Result<Ty, Check
 {
     match op {
         CompareOp::Less | CompareOp::LessEqual => {
-            expect(first, INT, TypeKind::E14, at)?;
-            expect(second, INT, TypeKind::E14, at)?;
+            expect(first, INT, TypingRule::Compare, TypeKind::E14, at)?;
+            expect(second, INT, TypingRule::Compare, TypeKind::E14, at)?;
         }
         CompareOp::Equal => {
             if !same_type(first, second) && (has_values(first) || has_values(second)) {
-                return Err(CheckError::unfit(TypeKind::E15, at, second, first));
+                return Err(CheckError::unfit(
+                    TypingRule::Compare,
+                    TypeKind::E15,
+                    at,
+                    second,
+                    first,
+                ));
             }
         }
     }

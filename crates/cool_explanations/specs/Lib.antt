@@ -4,6 +4,7 @@ pub mod Ends
 pub mod Facts
 pub mod Lines
 pub mod Processes
+pub mod Rules
 pub mod Shown
 pub mod SourceLines
 pub mod Texts

@@ -1,6 +1,7 @@
 -- Explanations for programs. FILE is the number of the file among the names, from 0, LINE counts from 1, and START, END and BYTE are bytes, from 0.
 --
 --     fault FILE:LINE:START:END KIND: WORDS    as `check` tells it
+--     rule NAME: PREMISE                       the typing rule that the fault breaks, and the premise that fails
 --     fact WORDS                               what is known of the fault
 --     other FILE:LINE:BYTE                     where the other definition stands of what is defined twice
 --     cure WORDS                               what mends such a fault in general
@@ -21,6 +22,7 @@ use Rattle.cool_mend.specs.declared.explanation.Mend.{Mend}
 use Rattle.cool_mend.specs.declared.explanation.Notice.{Notice}
 use Rattle.cool_explanations.specs.Cures.{cure_words}
 use Rattle.cool_explanations.specs.Facts.{facts}
+use Rattle.cool_explanations.specs.Rules.{rule_line}
 use Rattle.cool_explanations.specs.Shown.{shown}
 use Rattle.cool_explanations.specs.Texts.{file_of}
 
@@ -65,10 +67,11 @@ first_line x = codes "fault " ++ (range_text (place_of x.fault) x.here.end ++ wo
 abbrev pub explanation_lines : List (List ℕ) → Explanation → List ℕ
 explanation_lines files x =
     first_line x
+    ++ (rule_line x.fault
     ++ (flat_map fact_line (facts (file_of files (place_of x.fault).file) x)
     ++ (other_line x.other
     ++ (word_line (codes "cure ") (cure_words x.fault)
-    ++ end_lines x.mend)))
+    ++ end_lines x.mend))))
 
 abbrev pub notice_line : Notice → List ℕ
 notice_line n = codes "notice " ++ (range_text n.at n.end ++ word_line (codes " ") n.words.items)

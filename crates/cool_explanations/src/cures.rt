@@ -15,7 +15,7 @@ pub fn cure_words(fault: &Fault) -> &'static str
     match fault {
         Fault::Lex(fault) => lex_cure(fault.kind),
         Fault::Syntax(_) =>
-            "a `;`, `fi`, `pool` or `esac` missing before it; `~` is minus, `--` a comment",
+            "look for a missing `;`, `fi`, `pool` or `esac` before it; minus is `~`, and `--` begins a comment",
         Fault::Class(fault) => class_cure(fault.kind),
         Fault::Typing(fault) => type_cure(fault.kind),
     }
@@ -26,15 +26,15 @@ fn lex_cure(kind: LexKind) -> &'static str
 {
     match kind {
         LexKind::L1 =>
-            "Cool has no `>`, `!`, `%`, `'`, `[`; on line 1, save without a byte order mark",
+            "Cool has no `>`, `!`, `%`, `'` or `[`; if it is the first character of the file, save without a byte order mark",
         LexKind::L2 =>
-            "close it, or end its line with `\\`, which must be the last byte of the line (no CR)",
-        LexKind::L3 => "remove the byte 0: is the file text?",
-        LexKind::L4 => "join shorter strings by `concat`",
-        LexKind::L5 => "each `(*` wants a `*)`: they nest",
-        LexKind::L6 => "a `*)` too many, or its `(*` stands in a line comment or a string",
-        LexKind::L7 => "no Int is greater; the least one is `~2147483647 - 1`",
-        LexKind::L8 => "part the method into several",
+            "close it with `\"`; to continue on the next line, end the line with `\\`, as its last byte (no CR)",
+        LexKind::L3 => "remove the byte 0, and check that the file is a text",
+        LexKind::L4 => "join shorter strings with `concat`",
+        LexKind::L5 => "write a `*)` for each `(*`: comments nest",
+        LexKind::L6 => "remove the `*)`, or look for its `(*` in a line comment or a string",
+        LexKind::L7 => "the greatest Int is `2147483647`; write the least one as `~2147483647 - 1`",
+        LexKind::L8 => "split the method into several methods",
     }
 }
 
@@ -42,22 +42,25 @@ fn class_cure(kind: ClassKind) -> &'static str
     ensures { result.now ≡ class_cure kind }
 {
     match kind {
-        ClassKind::C1 => "rename one; Object, IO, Int, Bool and String are defined already",
-        ClassKind::C2 => "name a class",
-        ClassKind::C3 => "its file is missing in the call, or the name is misspelt: capitals count",
-        ClassKind::C4 => "have an attribute of that type in place of a parent",
-        ClassKind::C5 => "one of them inherits from Object",
-        ClassKind::C6 => "name the file that has it, too",
-        ClassKind::C7 => "part the program",
-        ClassKind::F1 => "rename one: Cool has no overloading",
-        ClassKind::F2 => "rename it, or use the one that is inherited",
-        ClassKind::F3 => "`self` is always there: choose another name",
-        ClassKind::F4 => "rename one",
-        ClassKind::F5 => "write the class",
-        ClassKind::F6 => "its file is missing in the call, or the name is misspelt",
-        ClassKind::F7 => "below, it keeps the types of formals and result",
-        ClassKind::F8 => "`main()` without formals, in Main itself",
-        ClassKind::F9 => "part the class",
+        ClassKind::C1 =>
+            "rename one of the classes; Object, IO, Int, Bool and String are always defined",
+        ClassKind::C2 => "write the name of a class",
+        ClassKind::C3 =>
+            "add its file to the call, or correct the name: upper and lower case differ",
+        ClassKind::C4 => "declare an attribute of that type instead of inheriting from it",
+        ClassKind::C5 => "let one of the classes inherit from Object",
+        ClassKind::C6 => "add the file that defines class Main to the call",
+        ClassKind::C7 => "split the program into several programs",
+        ClassKind::F1 => "rename one of the methods: Cool has no overloading",
+        ClassKind::F2 => "rename it, or use the inherited attribute",
+        ClassKind::F3 => "choose another name: `self` always names the current object",
+        ClassKind::F4 => "rename one of the formals",
+        ClassKind::F5 => "write the name of a class",
+        ClassKind::F6 => "add its file to the call, or correct the name",
+        ClassKind::F7 =>
+            "declare the same types of formals and the same result type as the class above",
+        ClassKind::F8 => "define `main()` without formals in class Main itself",
+        ClassKind::F9 => "split the class into several classes",
     }
 }
 
@@ -66,25 +69,25 @@ fn type_cure(kind: TypeKind) -> &'static str
 {
     match kind {
         TypeKind::E1 =>
-            "declare it, or mend its spelling; the variable of a `let` is not known in its own value",
-        TypeKind::E2 => "`self` is fixed: use a variable",
-        TypeKind::E3 => "the value is of the variable's class or of one below it",
+            "declare it, or correct its spelling; the initial value of a `let` cannot use the variable of that `let`",
+        TypeKind::E2 => "assign to a variable: `self` never changes",
+        TypeKind::E3 => "assign a value of the variable's class, or of a class below it",
         TypeKind::E4 =>
-            "methods are those of the class that the receiver is declared with; `out_string` wants `inherits IO`",
-        TypeKind::E5 => "count the formals",
-        TypeKind::E6 => "the argument is of the formal's class or of one below it",
-        TypeKind::E7 => "name a class behind `@`",
-        TypeKind::E8 => "the class behind `@` is the receiver's or one above it",
-        TypeKind::E9 => "Int is no truth: `if not x = 0`",
+            "call a method of the class that the receiver is declared with; for `out_string`, write `inherits IO`",
+        TypeKind::E5 => "pass one argument for each formal",
+        TypeKind::E6 => "pass a value of the formal's class, or of a class below it",
+        TypeKind::E7 => "write the name of a class after `@`",
+        TypeKind::E8 => "write the receiver's class, or a class above it, after `@`",
+        TypeKind::E9 => "write a condition of type Bool, for example `not x = 0`",
         TypeKind::E10 => "choose another name",
-        TypeKind::E11 => "its file is missing in the call, or the name is misspelt",
-        TypeKind::E12 => "name a class",
-        TypeKind::E13 => "one branch for each class",
-        TypeKind::E14 => "numbers alone are added and compared by `<`; strings by `concat` and `=`",
-        TypeKind::E15 => "Int, Bool and String are compared with their own type alone",
-        TypeKind::E16 => "compare first: `not x = 0`",
-        TypeKind::E17 => "the value is of the declared class or of one below it",
+        TypeKind::E11 => "add its file to the call, or correct the name",
+        TypeKind::E12 => "write the name of a class",
+        TypeKind::E13 => "keep one branch for each class",
+        TypeKind::E14 => "use `+` and `<` only with numbers; for strings, use `concat` and `=`",
+        TypeKind::E15 => "compare Int, Bool and String only with values of their own type",
+        TypeKind::E16 => "compare first, for example `not x = 0`",
+        TypeKind::E17 => "give a value of the declared class, or of a class below it",
         TypeKind::E18 =>
-            "the last item of a block is its value; an `if` has the type above both parts, a `while` has Object",
+            "return a value of the result type; a block has the value of its last item, and a `while` has type Object",
     }
 }

@@ -14,6 +14,7 @@ mod form;
 mod lines;
 mod note;
 mod process;
+mod rules;
 mod shown;
 mod source_line;
 mod text;

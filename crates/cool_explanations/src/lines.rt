@@ -7,6 +7,7 @@ ghost use Rattle.cool_explanations.specs.Lines.{edit_line, end_lines, escaped, e
 
 use crate::cures::cure_words;
 use crate::facts::facts;
+use crate::rules::rule_line;
 use crate::shown::shown;
 use crate::text::file_of;
 use cool_faults::fault_words;
@@ -63,6 +64,7 @@ fn explanation_lines(
 {
     let file = file_of(files, told.fault.place().file);
     let mut text = first_line(alloc, told)?;
+    text.extend_from_slice(&rule_line(alloc, &told.fault)?)?;
     text.extend_from_slice(&fact_lines(alloc, &facts(alloc, file, told)?)?)?;
     text.extend_from_slice(&other_line(alloc, told.other)?)?;
     text.extend_from_slice(&word_line(alloc, b"cure ", cure_words(&told.fault).as_bytes())?)?;

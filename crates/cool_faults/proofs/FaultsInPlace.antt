@@ -23,6 +23,8 @@ use Rattle.cool_rules.specs.Scopes.{Binding, found}
 use Rattle.cool_rules.specs.Typing.{has_values, object_type, int_type, bool_type}
 use Rattle.cool_check.specs.declared.fault.TypeFault.{TypeFault}
 use Rattle.cool_check.specs.declared.fault.TypeKind.TheVariants.{E6}
+use Rattle.cool_check.specs.declared.fault.TypingRule.{TypingRule}
+use Rattle.cool_check.specs.declared.fault.TypingRule.TheVariants as typing
 use Rattle.cool_check.specs.Contexts.{Context, formal_bindings}
 use Rattle.cool_check.specs.FirstFaults.{Checked, and_then, unfit, is_self, bind, conform, or_unknown, name_checked, assigned, or_no_type, named, static_among, static_class, misfit, resulting, or_misfit, called_with, initialized, bound_type, branch_among, branch_class, joined, compared, checked, all_checked, last_checked, maybe_checked, cases_checked}
 use Rattle.cool_check.specs.TypingFaults.{class_context, feature_checked, initial_checked}
@@ -45,48 +47,48 @@ module _ (P : Place → Type 0) where
   unless_placed false fault r here h = h
 
   module _ (s : Context) where
-    unknown_placed : (o : Option Ty) (at : Place) → P at → Placed (or_unknown o at)
-    unknown_placed None at h = h
-    unknown_placed (Some a) at h = tt
+    unknown_placed : (o : Option Ty) (rule : TypingRule) (at : Place) → P at → Placed (or_unknown o rule at)
+    unknown_placed None rule at h = h
+    unknown_placed (Some a) rule at h = tt
 
-    name_placed : (o : List Binding) (at : Place) (name : List ℕ) → P at → Placed (name_checked s o at name)
-    name_placed o at name h = by (is_self name)
+    name_placed : (o : List Binding) (rule : TypingRule) (at : Place) (name : List ℕ) → P at → Placed (name_checked s o rule at name)
+    name_placed o rule at name h = by (is_self name)
       where
-        by : (b : Bool) → Placed (if b then Ok SelfType else or_unknown (option_or (found o name) (found s.attributes name)) at)
+        by : (b : Bool) → Placed (if b then Ok SelfType else or_unknown (option_or (found o name) (found s.attributes name)) rule at)
         by true = tt
-        by false = unknown_placed (option_or (found o name) (found s.attributes name)) at h
+        by false = unknown_placed (option_or (found o name) (found s.attributes name)) rule at h
 
     assigned_placed : (o : List Binding) (at : Place) (name : List ℕ) (given : Ty) → P at → Placed (assigned s o at name given)
     assigned_placed o at name given h =
-        unless_placed (is_self name) _ _ h (then_placed (name_checked s o at name) _ (name_placed o at name h) (λ declared. where_placed (conform s given declared) _ _ h tt))
+        unless_placed (is_self name) _ _ h (then_placed (name_checked s o typing.Assign at name) _ (name_placed o typing.Assign at name h) (λ declared. where_placed (conform s given declared) _ _ h tt))
 
-    no_type_placed : (o : Option Ty) (at : Place) → P at → Placed (or_no_type o at)
-    no_type_placed None at h = h
-    no_type_placed (Some a) at h = tt
+    no_type_placed : (o : Option Ty) (rule : TypingRule) (at : Place) → P at → Placed (or_no_type o rule at)
+    no_type_placed None rule at h = h
+    no_type_placed (Some a) rule at h = tt
 
-    named_placed : (r : TypeRef) → P r.at → Placed (named s r)
-    named_placed r h = no_type_placed (type_of_name s.table r.name) r.at h
+    named_placed : (rule : TypingRule) (r : TypeRef) → P r.at → Placed (named s rule r)
+    named_placed rule r h = no_type_placed (type_of_name s.table r.name) rule r.at h
 
     static_placed : (at : Place) (receiver : Ty) (o : Option Ty) → P at → Placed (static_among s at receiver o)
     static_placed at receiver None h = h
     static_placed at receiver (Some SelfType) h = h
     static_placed at receiver (Some (IsClass c)) h = where_placed (conform s receiver (IsClass c)) _ _ h tt
 
-    misfit_placed : (fs : List (List ℕ)) (types : List Ty) (ts : Trees) (result : Ty) → AreTreesAt P ts → Placed (or_misfit (misfit s fs types ts) result)
-    misfit_placed [] types ts result h = tt
-    misfit_placed (f ∷ fs) [] ts result h = tt
-    misfit_placed (f ∷ fs) (a ∷ as') Last result h = tt
-    misfit_placed (f ∷ fs) (a ∷ as') (More t ts) result h = by (conform s a (type_meant s.table f)) (misfit_placed fs as' ts result h.1)
+    misfit_placed : (rule : TypingRule) (fs : List (List ℕ)) (types : List Ty) (ts : Trees) (result : Ty) → AreTreesAt P ts → Placed (or_misfit (misfit s rule fs types ts) result)
+    misfit_placed rule [] types ts result h = tt
+    misfit_placed rule (f ∷ fs) [] ts result h = tt
+    misfit_placed rule (f ∷ fs) (a ∷ as') Last result h = tt
+    misfit_placed rule (f ∷ fs) (a ∷ as') (More t ts) result h = by (conform s a (type_meant s.table f)) (misfit_placed rule fs as' ts result h.1)
       where
-        by : (b : Bool) → Placed (or_misfit (misfit s fs as' ts) result) → Placed (or_misfit (if b then misfit s fs as' ts else Some (unfit E6 (place_of t) a (type_meant s.table f))) result)
+        by : (b : Bool) → Placed (or_misfit (misfit s rule fs as' ts) result) → Placed (or_misfit (if b then misfit s rule fs as' ts else Some (unfit rule E6 (place_of t) a (type_meant s.table f))) result)
         by true rest = rest
         by false rest = own_place P t h.0
 
-    called_placed : (at : Place) (class : ClassId) (receiver : Ty) (args : Trees) (types : List Ty) (o : Option MethodRef) → P at → AreTreesAt P args → Placed (called_with s at class receiver args types o)
-    called_placed at class receiver args types None here h = here
-    called_placed at class receiver args types (Some m) here h =
+    called_placed : (rule : TypingRule) (at : Place) (class : ClassId) (receiver : Ty) (args : Trees) (types : List Ty) (o : Option MethodRef) → P at → AreTreesAt P args → Placed (called_with s rule at class receiver args types o)
+    called_placed rule at class receiver args types None here h = here
+    called_placed rule at class receiver args types (Some m) here h =
         let result : Ty = resulting receiver (type_meant s.table (result_of s.table m)) in
-        where_placed (nat_eq (length (formals_of s.table m)) (length types)) _ (or_misfit (misfit s (formals_of s.table m) types args) result) here (misfit_placed (formals_of s.table m) types args result h)
+        where_placed (nat_eq (length (formals_of s.table m)) (length types)) _ (or_misfit (misfit s rule (formals_of s.table m) types args) result) here (misfit_placed rule (formals_of s.table m) types args result h)
 
     initialized_placed : (at : Place) (bound : Ty) (o : Option Ty) → P at → Placed (initialized s at bound o)
     initialized_placed at bound None h = tt
@@ -94,7 +96,7 @@ module _ (P : Place → Type 0) where
 
     bound_placed : (at : Place) (name : List ℕ) (declared : TypeRef) (given : Option Ty) → P at → P declared.at → Placed (bound_type s at name declared given)
     bound_placed at name declared given here h =
-        unless_placed (is_self name) _ _ here (then_placed (named s declared) _ (named_placed declared h) (λ bound. initialized_placed at bound given here))
+        unless_placed (is_self name) _ _ here (then_placed (named s typing.Let declared) _ (named_placed typing.Let declared h) (λ bound. initialized_placed at bound given here))
 
     among_placed : (at : Place) (earlier : List ClassId) (o : Option Ty) → P at → Placed (branch_among at earlier o)
     among_placed at earlier None h = h
@@ -111,13 +113,13 @@ module _ (P : Place → Type 0) where
 
     mutual
       checked_placed : (o : List Binding) (t : Tree) → IsTreeAt P t → Placed (checked s o t)
-      checked_placed o (trees.Id at name) h = name_placed o at name h
+      checked_placed o (trees.Id at name) h = name_placed o typing.Id at name h
       checked_placed o (trees.Assign at name t) h = then_placed (checked s o t) _ (checked_placed o t h.1) (λ a. assigned_placed o at name a h.0)
       checked_placed o (trees.Dispatch at t name ts) h =
-          then_placed (checked s o t) _ (checked_placed o t h.1) (λ a. then_placed (all_checked s o [] ts) _ (all_placed o [] ts h.2) (λ types. called_placed at (class_of s.class a) a ts types _ h.0 h.2))
+          then_placed (checked s o t) _ (checked_placed o t h.1) (λ a. then_placed (all_checked s o [] ts) _ (all_placed o [] ts h.2) (λ types. called_placed typing.Dispatch at (class_of s.class a) a ts types _ h.0 h.2))
       checked_placed o (trees.StaticDispatch at t class name ts) h =
           then_placed (checked s o t) _ (checked_placed o t h.1) (λ a. then_placed (all_checked s o [] ts) _ (all_placed o [] ts h.3) (λ types.
-          then_placed (static_class s class a) _ (static_placed class.at a (type_of_name s.table class.name) h.2) (λ c. called_placed at c a ts types _ h.0 h.3)))
+          then_placed (static_class s class a) _ (static_placed class.at a (type_of_name s.table class.name) h.2) (λ c. called_placed typing.StaticDispatch at c a ts types _ h.0 h.3)))
       checked_placed o (trees.If at t y e) h =
           then_placed (checked s o t) _ (checked_placed o t h.1) (λ a. then_placed (checked s o y) _ (checked_placed o y h.2) (λ b. then_placed (checked s o e) _ (checked_placed o e h.3) (λ c.
           where_placed (same_type a bool_type) _ _ (own_place P t h.1) tt)))
@@ -128,7 +130,7 @@ module _ (P : Place → Type 0) where
           then_placed (maybe_checked s o init) _ (maybe_placed o init h.2) (λ given. then_placed (bound_type s at name declared given) _ (bound_placed at name declared given h.0 h.1)
           (λ bound. checked_placed (bind name bound o) t h.3))
       checked_placed o (trees.Case at t cs) h = then_placed (checked s o t) _ (checked_placed o t h.1) (λ a. cases_placed o [] None cs h.2)
-      checked_placed o (trees.New at class) h = named_placed class h.1
+      checked_placed o (trees.New at class) h = named_placed typing.New class h.1
       checked_placed o (trees.IsVoid at t) h = then_placed (checked s o t) _ (checked_placed o t h.1) (λ a. tt)
       checked_placed o (trees.Arith at op a b) h =
           then_placed (checked s o a) _ (checked_placed o a h.1) (λ x. then_placed (checked s o b) _ (checked_placed o b h.2)

@@ -498,6 +498,7 @@ fn next_of(excerpt: &Excerpt, faults: &[Fault], candidate: &Candidate) -> Option
     at.byte = u32::try_from(byte).ok()?;
     Some(Fault::Typing(TypeFault {
         kind: fault.kind,
+        rule: fault.rule,
         at,
         found: None,
         due: None,

@@ -145,13 +145,13 @@ pub kept_where_found : (tokens : List Token) (r : Checked (Unit {0})) (fault : T
     → (kept : Option KeptFault) × IsKeptOf tokens r kept
     → ((k : ℕ) → k < length tokens → fault.at ≡ place_of_token tokens k → n < length tokens)
     → ((k : ℕ) → k < length tokens → fault.at ≡ place_of_token tokens k → fault.at ≡ place_of_token tokens n)
-    → IsKeptOf tokens r (Some (record { kind = fault.kind; token = n; found = fault.found; due = fault.due }))
+    → IsKeptOf tokens r (Some (record { kind = fault.kind; rule = fault.rule; token = n; found = fault.found; due = fault.due }))
 kept_where_found tokens r fault n is (None, h) within found = absurd (true≢false (ap is_ok (sym h.is ∙ is)))
 kept_where_found tokens r fault n is (Some kept, h) within found =
     let there : fault.at ≡ place_of_token tokens kept.token = ap (place_in fault.at) (sym is ∙ h.is) in
     record {
       within = within kept.token h.within there;
-      is = is ∙ ap (λ (q : Place). Err (record { kind = fault.kind; at = q; found = fault.found; due = fault.due })) (found kept.token h.within there);
+      is = is ∙ ap (λ (q : Place). Err (record { kind = fault.kind; rule = fault.rule; at = q; found = fault.found; due = fault.due })) (found kept.token h.within there);
     }
   where
     place_in : Place → Checked (Unit {0}) → Place

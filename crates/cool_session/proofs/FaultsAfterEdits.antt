@@ -26,6 +26,7 @@ use Rattle.cool_rules.specs.Scopes.{Binding, entered}
 use Rattle.cool_check.specs.declared.fault.TypeFault.{TypeFault}
 use Rattle.cool_check.specs.declared.fault.TypeKind.TheVariants.{E17, E18}
 use Rattle.cool_check.specs.Contexts.{formal_bindings}
+use Rattle.cool_check.specs.declared.fault.TypingRule.TheVariants as typing
 use Rattle.cool_check.specs.FirstFaults.{Checked, checked, conform, unfit}
 use Rattle.cool_check.specs.TypingFaults.{class_context, initial_checked, feature_checked}
 use Rattle.cool_session.specs.Bases.{view}
@@ -61,7 +62,7 @@ module _ (f : Place → Place) (p p' : List TableClass) (same : map view p' ≡ 
       (λ found. test_renamed f (conform (class_context p c) found (type_meant p a.declared.name))
       (conform (class_context p' c) found (type_meant p' b.declared.name)) _ _ (Ok tt) (Ok tt)
       (ap (λ (n : List ℕ). conform (class_context p' c) found (type_meant p' n)) named ∙ declared_conforms found a.declared.name)
-      (λ i. unfit E17 (here i) found (due i)) refl)
+      (λ i. unfit typing.Attribute E17 (here i) found (due i)) refl)
     where
       due : type_meant p' b.declared.name ≡ type_meant p a.declared.name
       due = ap (type_meant p') named ∙ meant_same p p' same a.declared.name
@@ -74,7 +75,7 @@ module _ (f : Place → Place) (p p' : List TableClass) (same : map view p' ≡ 
       ∙ checked_renamed f (class_context p c) (class_context p' c) (contexts_agree p p' same c) m.body (formal_bindings p m.formals))
       (λ found. test_renamed f (conform (class_context p c) found (type_meant p m.result.name))
       (conform (class_context p' c) found (type_meant p' m.result.name)) _ _ (Ok tt) (Ok tt)
-      (declared_conforms found m.result.name) (ap (unfit E18 (f m.at) found) (meant_same p p' same m.result.name)) refl)
+      (declared_conforms found m.result.name) (ap (unfit typing.Method E18 (f m.at) found) (meant_same p p' same m.result.name)) refl)
   feature_check_renamed (Attribute a) =
       initial_renamed a a.init
       (record { name = a.name; at = f a.at; declared = renamed_type f a.declared; init = option_map (renamed_tree f) a.init }) refl refl
@@ -182,8 +183,8 @@ module _ (p : List TableClass) (c : ClassId) (x : Feature) (tokens : List Token)
           → (kept : Option KeptFault) × IsKeptOf tokens (feature_checked p c x) kept
       of_fault fault is (inl (k, within, at)) =
           let there : fault.at ≡ place_of_token tokens k = sym (place_fixed fault is fault.at) ∙ at fault.at in (
-            Some (record { kind = fault.kind; token = k; found = fault.found; due = fault.due }),
-            record { within = within; is = is ∙ ap (λ (q : Place). Err (record { kind = fault.kind; at = q; found = fault.found; due = fault.due })) there },
+            Some (record { kind = fault.kind; rule = fault.rule; token = k; found = fault.found; due = fault.due }),
+            record { within = within; is = is ∙ ap (λ (q : Place). Err (record { kind = fault.kind; rule = fault.rule; at = q; found = fault.found; due = fault.due })) there },
           )
       of_fault fault is (inr none) =
           let first : Place = record { file = 0; line = 0; byte = 0 } in
@@ -202,7 +203,7 @@ result_renamed : (f : Place → Place) (tokens : List Token) (kept : Option Kept
     → renamed_result f (result_kept tokens kept) ≡ result_kept (map (renamed_token f) tokens) kept
 result_renamed f tokens None within = refl
 result_renamed f tokens (Some kept) within =
-    ap (λ (q : Place). Err (record { kind = kept.kind; at = q; found = kept.found; due = kept.due })) (place_renamed f tokens kept.token within)
+    ap (λ (q : Place). Err (record { kind = kept.kind; rule = kept.rule; at = q; found = kept.found; due = kept.due })) (place_renamed f tokens kept.token within)
 
 as_many : (tokens tokens' : List Token) → kinds tokens' ≡ kinds tokens → length tokens' ≡ length tokens
 as_many tokens tokens' same = sym (length-map tokens' (λ t. t.kind)) ∙ (ap length same ∙ length-map tokens (λ t. t.kind))

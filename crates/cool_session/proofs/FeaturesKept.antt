@@ -393,15 +393,15 @@ module _ (runs : List (List Token)) (more : List (Option KeptFault)) (i : ℕ) (
 
   -- after the fault of a feature, and after a feature that has none
   pub fault_next : (now : List TypeFault) (fault : KeptFault) (tokens : List Token) (at : Place) → get_or more i None ≡ Some fault
-      → tokens ≡ get_or runs i [] → at ≡ place_of_token tokens fault.token → now ≡ before ++ record { kind = fault.kind; at = at; found = fault.found; due = fault.due } ∷ []
+      → tokens ≡ get_or runs i [] → at ≡ place_of_token tokens fault.token → now ≡ before ++ record { kind = fault.kind; rule = fault.rule; at = at; found = fault.found; due = fault.due } ∷ []
       → now ++ faults_kept (drop (i + 1) runs) (drop (i + 1) more) ≡ all
   unfolding rest
   fault_next now fault tokens at is here there added =
-      let found : List TypeFault = record { kind = fault.kind; at = at; found = fault.found; due = fault.due } ∷ [] in
+      let found : List TypeFault = record { kind = fault.kind; rule = fault.rule; at = at; found = fault.found; due = fault.due } ∷ [] in
       let place : place_of_token (get_or runs i []) fault.token ≡ at = ap (λ (ts : List Token). place_of_token ts fault.token) (sym here)
       ∙ sym there in
       let one : fault_kept (get_or runs i []) (get_or more i None) ≡ found =
-      ap (fault_kept (get_or runs i [])) is ∙ ap (λ (q : Place). record { kind = fault.kind; at = q; found = fault.found; due = fault.due } ∷ []) place in
+      ap (fault_kept (get_or runs i [])) is ∙ ap (λ (q : Place). record { kind = fault.kind; rule = fault.rule; at = q; found = fault.found; due = fault.due } ∷ []) place in
       let step : faults_kept (drop i runs) (drop i more) ≡ found ++ rest =
       faults_left runs more i None less few ∙ ap (λ (fs : List TypeFault). fs ++ rest) one in
       ap (λ (fs : List TypeFault). fs ++ rest) added

@@ -1,5 +1,5 @@
--- The results stored for features, for a check after edits: the feature is typed, or else the kind of its fault, the number of the token with the fault,
--- and its types.
+-- The results stored for features, for a check after edits: the feature is typed, or else the kind of its fault, the rule that fails, the number of the
+-- token with the fault, and its types.
 use Rattle.std.specs.Prelude.{◌≡◌, refl, ℕ, suc, ◌<◌, List, [], ◌∷◌, ◌++◌, map, length, get_or, Option, Some, None, IfSome, Ok, Err, codes}
 use Rattle.std.specs.List.Sorted.{IsPermutation}
 use Rattle.std.proofs.Common.{arith}
@@ -13,6 +13,7 @@ use Rattle.cool_classes.specs.declared.class_id.ClassId.{ClassId}
 use Rattle.cool_classes.specs.Chains.{Class, class_number}
 use Rattle.cool_check.specs.declared.fault.TypeFault.{TypeFault}
 use Rattle.cool_check.specs.declared.fault.TypeKind.TheVariants.{E1}
+use Rattle.cool_check.specs.declared.fault.TypingRule.TheVariants as typing
 use Rattle.cool_check.specs.FirstFaults.{Checked, refuse}
 use Rattle.cool_check.specs.TypingFaults.{feature_checked}
 use Rattle.cool_check.specs.Faults.{standing_of}
@@ -26,7 +27,7 @@ place_of_token tokens k = get_or (map (λ (t : Token). t.at) tokens) k (record {
 
 -- the fault that is kept, at a place
 abbrev pub fault_at : Place → KeptFault → TypeFault
-fault_at at kept = record { kind = kept.kind; at = at; found = kept.found; due = kept.due }
+fault_at at kept = record { kind = kept.kind; rule = kept.rule; at = at; found = kept.found; due = kept.due }
 
 -- the result of the check of a feature of these tokens, by what is kept of it
 abbrev pub result_kept : List Token → Option KeptFault → Checked (Unit {0})
@@ -85,5 +86,6 @@ pub record AreFaultsOf (found : List TypeFault) (faults : List Fault) : Type 0 w
   pub order : AreInOrder standing_of types
 
 -- Worked example: of `x;` where x is not in scope, E1 at the token 0 is kept.
-fault_at_x : (p q : Place) → IsKeptOf (object (codes "x") p ∷ symbol sign.Semi q ∷ []) (refuse E1 p) (Some (record { kind = E1; token = 0; found = None; due = None }))
+fault_at_x : (p q : Place)
+    → IsKeptOf (object (codes "x") p ∷ symbol sign.Semi q ∷ []) (refuse typing.Id E1 p) (Some (record { kind = E1; rule = typing.Id; token = 0; found = None; due = None }))
 fault_at_x p q = record { within = omega arith; is = refl }

@@ -5,14 +5,15 @@ ghost use Rattle.std.specs.List.{AllByRecursion};
 ghost use Rattle.std.proofs.Props.{props};
 ghost use Rattle.cool_session.specs.KeptChecks.{HasFewTokens, IsBase};
 
-use cool_check::TypeKind;
+use cool_check::{TypeKind, TypingRule};
 use cool_classes::Ty;
 use cool_faults::Untyped;
 
-/// A fault of a feature: its kind, the position of its token among those of the feature, and the types that were found and due.
+/// A fault of a feature: its kind, the rule that fails, the position of its token among those of the feature, and the types that were found and due.
 #[derive(Clone, Copy)]
 pub(crate) struct KeptFault {
     pub(crate) kind: TypeKind,
+    pub(crate) rule: TypingRule,
     pub(crate) token: u32,
     pub(crate) found: Option<Ty>,
     pub(crate) due: Option<Ty>,

@@ -52,6 +52,7 @@ fn kept_faults(
                 let tokens = tokens_in(lexed, runs[i]);
                 faults.push(TypeFault {
                     kind: fault.kind,
+                    rule: fault.rule,
                     at: tokens[fault.token as usize].at,
                     found: fault.found,
                     due: fault.due,

@@ -34,6 +34,7 @@ pub(crate) fn typed<K: Typer>(
         Ok(()) => Ok(None),
         Err(CheckError::Fault(fault)) => Ok(Some(KeptFault {
             kind: fault.kind,
+            rule: fault.rule,
             token: position(tokens, fault.at),
             found: fault.found,
             due: fault.due,

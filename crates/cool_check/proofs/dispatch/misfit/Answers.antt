@@ -25,6 +25,6 @@ loop-index-preserved c =
     let within = c.loop-index-test.true in
     let same = c.requires.formals in
     let each = c.requires.arguments.each in
-    misfit_later (context c.args.setting.now) (formals_of p c.args.method) c.args.given.now (all_trees t) c.args.args.now c.loop-index.index _ _ _ (omega arith) (omega arith) within
+    misfit_later (context c.args.setting.now) c.args.rule (formals_of p c.args.method) c.args.given.now (all_trees t) c.args.args.now c.loop-index.index _ _ _ (omega arith) (omega arith) within
     (sym c.conforms.ensures ∙ c.if-not-conforms.false) c.formal-formal.ensures.formal
     ∙ c.loop-index.invariant

@@ -9,5 +9,5 @@ use Rattle.cool_check.proofs.dispatch.misfit.Given as goal
 
 abbrev pub invariant-loop-index : goal.invariant-loop-index
 invariant-loop-index l =
-    misfit (context l.setting) (drop l.index (formals_of l.setting.table.now l.method)) (drop l.index l.given) (of_list (map (at_id (all_trees l.setting.body.now)) (drop l.index l.args)))
-    ≡ misfit (context l.setting) (formals_of l.setting.table.now l.method) l.given (of_list (map (at_id (all_trees l.setting.body.now)) l.args))
+    misfit (context l.setting) l.rule (drop l.index (formals_of l.setting.table.now l.method)) (drop l.index l.given) (of_list (map (at_id (all_trees l.setting.body.now)) (drop l.index l.args)))
+    ≡ misfit (context l.setting) l.rule (formals_of l.setting.table.now l.method) l.given (of_list (map (at_id (all_trees l.setting.body.now)) l.args))
