@@ -26,8 +26,9 @@ pub fn law_declared_type()
     ensures { (p : List Class) → IsDeclaredRightly p }
 {}
 
-/// The marks of a typed feature tell each use of a variable with the type that the rules give it, and of each call, where its receiver is seen,
-/// the method that they find.
+/// The marks of a typed feature tell each use of a variable with the type that the rules give it and the place of its definition, which is the latest one in
+/// scope; and of each call, where its receiver is seen, the method that they find. So a renaming at the marks of one definition changes the uses of that
+/// variable, and no others.
 pub fn law_uses_told()
     ensures { (p : List Class) → IsWholeTable p → IsLawful p → AreUsesTold p }
 {}
