@@ -19,6 +19,7 @@ mod PlacedFaultLists
 mod PlacesOfTrees
 mod RisingFaults
 mod RowsOfFiles
+mod ShownTexts
 mod SlicesParsed
 mod SortedFaults
 pub mod SyntaxFaults

@@ -11,6 +11,7 @@ mod findings;
 mod laws;
 mod lexing;
 mod parsing;
+mod shown_bytes;
 mod text;
 mod typing;
 mod untyped_files;
@@ -22,6 +23,7 @@ pub use laws::{
     law_one_verdict_at_least, law_rows,
 };
 pub use lexing::lex_files;
+pub use shown_bytes::shown;
 pub use text::{fault_text, fault_words};
 pub use typing::of_typing;
 pub use untyped_files::class_phase;
