@@ -14,6 +14,6 @@ one_more before bytes text whole index left due byte rest within due_is byte_is 
     let due_here : due ≡ obeyed_from left (first ∷ others) = due_is ∙ ap (obeyed_from left) cut in
     let shown_at : ℕ → List ℕ = λ n. shown_first n first ∷ shown_from (n - 1) others in
     let tail : byte ∷ shown_from rest others ≡ shown_from left (first ∷ others) =
-        ap (λ (b : ℕ). b ∷ shown_from rest others) byte_is ∙ ap (λ (n : ℕ). shown_first due first ∷ shown_from n others) rest_is ∙ ap shown_at due_here in
+    ap (λ (b : ℕ). b ∷ shown_from rest others) byte_is ∙ ap (λ (n : ℕ). shown_first due first ∷ shown_from n others) rest_is ∙ ap shown_at due_here in
     ap (λ (l : List ℕ). l ++ shown_from rest others) bytes_are ∙ append_assoc before (byte ∷ []) (shown_from rest others)
     ∙ ap (λ (l : List ℕ). before ++ l) (tail ∙ ap (shown_from left) (sym cut)) ∙ so_far

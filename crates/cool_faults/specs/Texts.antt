@@ -1,4 +1,4 @@
--- The lines that are written for faults: `NAME:LINE: KIND: WORDS`.
+-- The lines that are written for faults: `NAME:LINE: KIND: WORDS`. `shown` replaces the bytes of NAME that a terminal obeys.
 use Rattle.std.specs.Prelude.{ℕ, List, [], ◌++◌, codes, decimal, get_or}
 use Rattle.cool_syntax.specs.declared.lexical.LexKind.{LexKind}
 use Rattle.cool_syntax.specs.declared.lexical.LexKind.TheVariants.{L1, L2, L3, L4, L5, L6, L7, L8}
@@ -8,6 +8,7 @@ use Rattle.cool_check.specs.declared.fault.TypeKind.{TypeKind}
 use Rattle.cool_check.specs.declared.fault.TypeKind.TheVariants.{E1, E2, E3, E4, E5, E6, E7, E8, E9, E10, E11, E12, E13, E14, E15, E16, E17, E18}
 use Rattle.cool_faults.specs.declared.fault.Fault.{Fault}
 use Rattle.cool_faults.specs.declared.fault.Fault.TheVariants.{Lex, Syntax, Class, Typing}
+use Rattle.cool_faults.specs.Shown.{shown}
 use Rattle.cool_faults.specs.Verdicts.{place_of}
 
 -- a kind, and its message
@@ -68,4 +69,4 @@ fault_words (Typing f) = type_words f.kind
 -- the line of a fault, by the names of the files
 abbrev pub fault_line : List (List ℕ) → Fault → List ℕ
 fault_line names f =
-    get_or names (place_of f).file [] ++ (codes ":" ++ (decimal (place_of f).line ++ (codes ": " ++ (fault_words f ++ codes "\n"))))
+    shown (get_or names (place_of f).file []) ++ (codes ":" ++ (decimal (place_of f).line ++ (codes ": " ++ (fault_words f ++ codes "\n"))))

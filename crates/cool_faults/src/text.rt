@@ -5,21 +5,23 @@ ghost use Rattle.cool_faults.specs.Verdicts.{place_of};
 ghost use Rattle.cool_faults.specs.Texts.{class_words, fault_line, fault_words, lex_words, type_words};
 
 use crate::fault::Fault;
+use crate::shown_bytes::shown;
 use cool_check::TypeKind;
 use cool_classes::ClassKind;
 use cool_lexer::LexKind;
 use std::alloc::{AllocError, Global};
 
-/// The line of a fault with its newline: `NAME:LINE: KIND: WORDS`. The names are those of the files, in the order of their numbers. Returns `Err` only if
-/// memory runs out.
+/// The line of a fault with its newline: `NAME:LINE: KIND: WORDS`. The names are those of the files, in the order of their numbers; `shown` replaces the bytes
+/// of NAME that a terminal obeys. Returns `Err` only if memory runs out.
 pub fn fault_text(alloc: Global, names: &[String], fault: &Fault) -> Result<Vec<u8>, AllocError>
     requires named { (place_of fault.now).file < length names.now }
     ensures line { IfOk result (λ line. line.items ≡ fault_line (map string_bytes names.now) fault.now) }
 {
-    let name = names[fault.place().file as usize].as_str();
+    let mut text = shown(alloc, names[fault.place().file as usize].as_bytes())?;
     let line = fault.place().line;
     let words = fault_words(fault);
-    Ok(format!(in alloc; "{name}:{line}: {words}\n")?.into_bytes())
+    text.extend_from_slice(format!(in alloc; ":{line}: {words}\n")?.as_bytes())?;
+    Ok(text)
 }
 
 /// The kind of a fault, and its message.
