@@ -2,8 +2,9 @@
 use Rattle.std.specs.Prelude.{ℕ, suc, ◌+◌, ◌-◌, List, [], ◌∷◌, ◌++◌, length, get_or, take, drop, codes, min, Bool, nat_eq, nat_le, if◌then◌else◌}
 use Rattle.std.specs.List.{concat, count_by, list_all}
 use Rattle.std.specs.Str.{bytes_eq}
+use Rattle.cool_faults.specs.Shown.{shown}
 use Rattle.cool_mend.specs.declared.edit.Edit.{Edit}
-use Rattle.cool_explanations.specs.Shown.{part, shown}
+use Rattle.cool_explanations.specs.Shown.{part}
 use Rattle.cool_explanations.specs.SourceLines.{first_line, last_line, number}
 
 -- the lines of bytes that go on a line, without their newlines

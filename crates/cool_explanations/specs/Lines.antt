@@ -13,6 +13,7 @@
 use Rattle.std.specs.Prelude.{◌≡◌, refl, ℕ, List, [], ◌∷◌, ◌++◌, codes, decimal, max, nat_eq, Option, Some, None, if◌then◌else◌}
 use Rattle.std.specs.List.{flat_map}
 use Rattle.cool_syntax.specs.declared.place.Place.{Place}
+use Rattle.cool_faults.specs.Shown.{shown}
 use Rattle.cool_faults.specs.Texts.{fault_words}
 use Rattle.cool_faults.specs.Verdicts.{place_of}
 use Rattle.cool_mend.specs.declared.edit.Edit.{Edit}
@@ -23,7 +24,6 @@ use Rattle.cool_mend.specs.declared.explanation.Notice.{Notice}
 use Rattle.cool_explanations.specs.Cures.{cure_words}
 use Rattle.cool_explanations.specs.Facts.{facts}
 use Rattle.cool_explanations.specs.Rules.{rule_line}
-use Rattle.cool_explanations.specs.Shown.{shown}
 use Rattle.cool_explanations.specs.Texts.{file_of}
 
 -- a place, and where the range ends that begins there

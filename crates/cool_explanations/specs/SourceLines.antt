@@ -2,7 +2,8 @@
 use Rattle.std.specs.Prelude.{◌≡◌, refl, ℕ, ◌+◌, ◌-◌, List, [], ◌∷◌, ◌++◌, length, take, drop, codes, decimal, replicate, Bool, ◌&&◌, nat_eq, nat_le, nat_lt, if◌then◌else◌}
 use Rattle.std.specs.List.{flat_map}
 use Rattle.std.specs.Fmt as decimals
-use Rattle.cool_explanations.specs.Shown.{cut_back, cut_front, shown}
+use Rattle.cool_faults.specs.Shown.{shown}
+use Rattle.cool_explanations.specs.Shown.{cut_back, cut_front}
 
 -- the number of a line, with blanks in front to five letters
 abbrev pub number : ℕ → List ℕ
@@ -43,21 +44,23 @@ marks bytes = codes "^" ++ flat_map mark_of (drop 1 bytes)
 -- a line of this number, of three parts, the second of which is marked
 abbrev pub source_text : ℕ → List ℕ → List ℕ → List ℕ → List ℕ
 source_text line front range back =
-    number line ++ (codes " | " ++ (shown front ++ (shown range ++ (shown back ++ (codes "\n      | " ++ (blanks front ++ (marks range ++ codes "\n")))))))
+    number line ++ (codes " | " ++ (front ++ (range ++ (back ++ (codes "\n      | " ++ (blanks front ++ (marks range ++ codes "\n")))))))
 
 -- how much of each part of a line of so many bytes is shown
 abbrev pub most_of : ℕ → ℕ
 most_of size = if nat_le size 160 then 160 else 50
 
--- the line of this number in which the range from start to end stands, as far as it goes on that line
+-- The line of this number in which the range from start to end stands, as far as it goes on that line. `shown` gets the whole line, so that no cut and no
+-- end of the range hides the first byte of a character from it.
 abbrev pub source_line : List ℕ → ℕ → ℕ → ℕ → List ℕ
 source_line file line start end =
     let front = last_line (take start file) in
-    let rest = first_line (drop start file) in
-    let most = most_of (length front + length rest) in
-    source_text line (cut_front most front) (cut_back most (take (end - start) rest)) (cut_back most (drop (end - start) rest))
+    let all = shown (front ++ first_line (drop start file)) in
+    let rest = drop (length front) all in
+    let most = most_of (length all) in
+    source_text line (cut_front most (take (length front) all)) (cut_back most (take (end - start) rest)) (cut_back most (drop (end - start) rest))
 
 -- Worked example: the second line of a file.
 example : source_line (codes "a\n b <- cd;\ne") 2 8 10 ≡ codes "    2 |  b <- cd;\n      |       ^^\n"
-unfolding decimals.digits
+unfolding decimals.digits shown
 example = refl

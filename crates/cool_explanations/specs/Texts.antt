@@ -4,6 +4,7 @@ use Rattle.std.specs.Prelude.{ℕ, List, [], ◌++◌, codes, decimal, get_or, O
 use Rattle.std.specs.List.{flat_map}
 use Rattle.cool_syntax.specs.declared.place.Place.{Place}
 use Rattle.cool_faults.specs.declared.fault.Fault.{Fault}
+use Rattle.cool_faults.specs.Shown.{shown}
 use Rattle.cool_faults.specs.Texts.{fault_line}
 use Rattle.cool_faults.specs.Verdicts.{place_of}
 use Rattle.cool_mend.specs.declared.explanation.Explanation.{Explanation}
@@ -11,7 +12,6 @@ use Rattle.cool_mend.specs.declared.explanation.Mend.{Mend}
 use Rattle.cool_explanations.specs.Changes.{changed_text}
 use Rattle.cool_explanations.specs.Cures.{cure_words}
 use Rattle.cool_explanations.specs.Facts.{facts}
-use Rattle.cool_explanations.specs.Shown.{shown}
 use Rattle.cool_explanations.specs.SourceLines.{source_line}
 
 -- the item of this number, or nothing

@@ -5,8 +5,9 @@ ghost use Rattle.std.specs.List.{concat};
 ghost use Rattle.cool_faults.specs.Files.{bytes_of};
 ghost use Rattle.cool_explanations.specs.Changes.{all_but_last, changed, changed_lines, changed_text, changes, changes_before_end, is_blank, last_of, line_number, lines, numbered, numbered_lines, shortened};
 
-use crate::shown::{from, part, shown, up_to};
+use crate::shown::{from, part, up_to};
 use crate::source_line::{first_line, last_line, number};
+use cool_faults::shown;
 use cool_mend::Edit;
 use std::alloc::{AllocError, Global};
 

@@ -8,9 +8,8 @@ ghost use Rattle.cool_explanations.specs.Lines.{edit_line, end_lines, escaped, e
 use crate::cures::cure_words;
 use crate::facts::facts;
 use crate::rules::rule_line;
-use crate::shown::shown;
 use crate::text::file_of;
-use cool_faults::fault_words;
+use cool_faults::{fault_words, shown};
 use cool_mend::{Edit, Explained, Explanation, Mend, Notice};
 use cool_syntax::Place;
 use std::alloc::{AllocError, Global};

@@ -1,27 +1,9 @@
-//! Bytes as they are shown.
+//! Parts of texts: a range, and the front or the end of a text that is too long to be shown.
 
 ghost use Rattle.std.specs.Prelude.{◌≡◌, IfOk, drop, take};
-ghost use Rattle.cool_explanations.specs.Shown.{cut_back, cut_front, part, quoted, shown, shown_byte};
+ghost use Rattle.cool_explanations.specs.Shown.{cut_back, cut_front, part, quoted};
 
 use std::alloc::{AllocError, Global};
-
-/// Bytes as they are shown: a carriage return is a blank, and another control byte but tab a question mark. Returns `Err` only if memory runs out.
-pub(crate) fn shown(alloc: Global, bytes: &[u8]) -> Result<Vec<u8>, AllocError>
-    ensures { IfOk result (λ text. text.items ≡ shown bytes.now) }
-{
-    bytes.iter().map(|byte| shown_byte(*byte)).collect(alloc)
-}
-
-fn shown_byte(byte: u8) -> u8
-    ensures { result ≡ shown_byte byte }
-{
-    match byte {
-        b'\t' => byte,
-        b'\r' => b' ',
-        _ if byte.is_ascii_control() => b'?',
-        _ => byte,
-    }
-}
 
 /// The first bytes, as many as this or all.
 pub(crate) fn up_to(bytes: &[u8], end: usize) -> &[u8]

@@ -4,7 +4,8 @@ ghost use Rattle.std.specs.Prelude.{◌≡◌, ◌≤◌, IfOk, length, take, dr
 ghost use Rattle.std.specs.List.{flat_map};
 ghost use Rattle.cool_explanations.specs.SourceLines.{blank_of, blanks, first_line, is_inner, last_line, mark_of, marks, most_of, number, source_line, source_text};
 
-use crate::shown::{cut_back, cut_front, from, shown, up_to};
+use crate::shown::{cut_back, cut_front, from, up_to};
+use cool_faults::shown;
 use std::alloc::{AllocError, Global};
 
 /// The most bytes of a line that is shown whole.
@@ -24,13 +25,16 @@ pub(crate) fn source_line(
     ensures { IfOk result (λ text. text.items ≡ source_line file.now line start end) }
 {
     let front = last_line(up_to(file, start));
-    let rest = first_line(from(file, start));
+    let mut all = Vec::from_slice(alloc, front)?;
+    all.extend_from_slice(first_line(from(file, start)))?;
+    let all = shown(alloc, &all)?;
+    let rest = from(&all, front.len());
     let size = end.saturating_sub(start);
-    let most = most_of(front.len() + rest.len());
+    let most = most_of(all.len());
     source_text(
         alloc,
         line,
-        &cut_front(alloc, most, front)?,
+        &cut_front(alloc, most, up_to(&all, front.len()))?,
         &cut_back(alloc, most, up_to(rest, size))?,
         &cut_back(alloc, most, from(rest, size))?,
     )
@@ -59,9 +63,9 @@ fn source_text(
 {
     let mut text = number(alloc, line as usize)?;
     text.extend_from_slice(b" | ")?;
-    text.extend_from_slice(&shown(alloc, front)?)?;
-    text.extend_from_slice(&shown(alloc, range)?)?;
-    text.extend_from_slice(&shown(alloc, back)?)?;
+    text.extend_from_slice(front)?;
+    text.extend_from_slice(range)?;
+    text.extend_from_slice(back)?;
     text.extend_from_slice(b"\n      | ")?;
     text.extend_from_slice(&blanks(alloc, front)?)?;
     text.extend_from_slice(&marks(alloc, range)?)?;

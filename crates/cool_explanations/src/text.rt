@@ -10,9 +10,8 @@ ghost use Rattle.cool_explanations.specs.Texts.{cure_text, explanation_text, fil
 use crate::changes::changed_text;
 use crate::cures::cure_words;
 use crate::facts::facts;
-use crate::shown::shown;
 use crate::source_line::source_line;
-use cool_faults::fault_text;
+use cool_faults::{fault_text, shown};
 use cool_mend::{Explanation, Mend};
 use cool_syntax::Place;
 use std::alloc::{AllocError, Global};
