@@ -94,7 +94,7 @@ const COOL_RULES = [
 "fault": {
 "kind": "C1",
 "words": "class defined twice",
-"mend": "rename one; Object, IO, Int, Bool and String are defined already",
+"mend": "rename one of the classes; Object, IO, Int, Bool and String are always defined",
 "case": "check-C1-smallest",
 "files": [
 {
@@ -241,7 +241,7 @@ const COOL_RULES = [
 "fault": {
 "kind": "C2",
 "words": "SELF_TYPE names no class",
-"mend": "name a class",
+"mend": "write the name of a class",
 "case": "check-C2-smallest",
 "files": [
 {
@@ -340,7 +340,7 @@ const COOL_RULES = [
 "fault": {
 "kind": "C3",
 "words": "unknown parent",
-"mend": "its file is missing in the call, or the name is misspelt: capitals count",
+"mend": "add its file to the call, or correct the name: upper and lower case differ",
 "case": "check-C3-smallest",
 "files": [
 {
@@ -451,7 +451,7 @@ const COOL_RULES = [
 "fault": {
 "kind": "C4",
 "words": "parent cannot be inherited",
-"mend": "have an attribute of that type in place of a parent",
+"mend": "declare an attribute of that type instead of inheriting from it",
 "case": "check-C4-smallest",
 "files": [
 {
@@ -530,7 +530,7 @@ const COOL_RULES = [
 "fault": {
 "kind": "C5",
 "words": "inheritance cycle",
-"mend": "one of them inherits from Object",
+"mend": "let one of the classes inherit from Object",
 "case": "check-C5-smallest",
 "files": [
 {
@@ -581,7 +581,7 @@ const COOL_RULES = [
 "fault": {
 "kind": "C6",
 "words": "no class Main",
-"mend": "name the file that has it, too",
+"mend": "add the file that defines class Main to the call",
 "case": "check-C6-smallest",
 "files": [
 {
@@ -640,7 +640,7 @@ const COOL_RULES = [
 "fault": {
 "kind": "C7",
 "words": "too many classes",
-"mend": "part the program",
+"mend": "split the program into several programs",
 "case": "check-C7-smallest",
 "files": null,
 "says": "p.cl:1001: C7: too many classes"
@@ -1681,7 +1681,7 @@ const COOL_RULES = [
 "fault": {
 "kind": "F1",
 "words": "method defined twice",
-"mend": "rename one: Cool has no overloading",
+"mend": "rename one of the methods: Cool has no overloading",
 "case": "check-F1-smallest",
 "files": [
 {
@@ -1904,7 +1904,7 @@ const COOL_RULES = [
 "fault": {
 "kind": "F2",
 "words": "attribute defined twice",
-"mend": "rename it, or use the one that is inherited",
+"mend": "rename it, or use the inherited attribute",
 "case": "check-F2-smallest",
 "files": [
 {
@@ -2075,7 +2075,7 @@ const COOL_RULES = [
 "fault": {
 "kind": "F3",
 "words": "self cannot be declared",
-"mend": "`self` is always there: choose another name",
+"mend": "choose another name: `self` always names the current object",
 "case": "check-F3-smallest",
 "files": [
 {
@@ -2222,7 +2222,7 @@ const COOL_RULES = [
 "fault": {
 "kind": "F4",
 "words": "formal defined twice",
-"mend": "rename one",
+"mend": "rename one of the formals",
 "case": "check-F4-smallest",
 "files": [
 {
@@ -2333,7 +2333,7 @@ const COOL_RULES = [
 "fault": {
 "kind": "F5",
 "words": "formal of type SELF_TYPE",
-"mend": "write the class",
+"mend": "write the name of a class",
 "case": "check-F5-smallest",
 "files": [
 {
@@ -2580,7 +2580,7 @@ const COOL_RULES = [
 "fault": {
 "kind": "F6",
 "words": "unknown type",
-"mend": "its file is missing in the call, or the name is misspelt",
+"mend": "add its file to the call, or correct the name",
 "case": "check-F6-smallest",
 "files": [
 {
@@ -2687,7 +2687,7 @@ const COOL_RULES = [
 "fault": {
 "kind": "F7",
 "words": "signature differs",
-"mend": "below, it keeps the types of formals and result",
+"mend": "declare the same types of formals and the same result type as the class above",
 "case": "check-F7-smallest",
 "files": [
 {
@@ -2954,7 +2954,7 @@ const COOL_RULES = [
 "fault": {
 "kind": "F8",
 "words": "no method main",
-"mend": "`main()` without formals, in Main itself",
+"mend": "define `main()` without formals in class Main itself",
 "case": "check-F8-smallest",
 "files": [
 {
@@ -3045,7 +3045,7 @@ const COOL_RULES = [
 "fault": {
 "kind": "F9",
 "words": "too many features",
-"mend": "part the class",
+"mend": "split the class into several classes",
 "case": "check-F9-smallest",
 "files": null,
 "says": "p.cl:1: F9: too many features"
@@ -3056,7 +3056,7 @@ const COOL_RULES = [
 {
 "kind": "E17",
 "words": "initial value does not conform",
-"mend": "the value is of the declared class or of one below it",
+"mend": "give a value of the declared class, or of a class below it",
 "case": "check-E17-smallest",
 "files": [
 {
@@ -3069,7 +3069,7 @@ const COOL_RULES = [
 {
 "kind": "E18",
 "words": "body does not conform",
-"mend": "the last item of a block is its value; an `if` has the type above both parts, a `while` has Object",
+"mend": "return a value of the result type; a block has the value of its last item, and a `while` has type Object",
 "case": "check-E18-smallest",
 "files": [
 {
@@ -3744,7 +3744,7 @@ const COOL_RULES = [
 {
 "kind": "E1",
 "words": "unknown name",
-"mend": "declare it, or mend its spelling; the variable of a `let` is not known in its own value",
+"mend": "declare it, or correct its spelling; the initial value of a `let` cannot use the variable of that `let`",
 "case": "check-E1-smallest",
 "files": [
 {
@@ -4133,7 +4133,7 @@ const COOL_RULES = [
 {
 "kind": "E1",
 "words": "unknown name",
-"mend": "declare it, or mend its spelling; the variable of a `let` is not known in its own value",
+"mend": "declare it, or correct its spelling; the initial value of a `let` cannot use the variable of that `let`",
 "case": null,
 "files": [
 {
@@ -4146,7 +4146,7 @@ const COOL_RULES = [
 {
 "kind": "E2",
 "words": "self cannot be assigned",
-"mend": "`self` is fixed: use a variable",
+"mend": "assign to a variable: `self` never changes",
 "case": "check-E2-smallest",
 "files": [
 {
@@ -4159,7 +4159,7 @@ const COOL_RULES = [
 {
 "kind": "E3",
 "words": "assigned value does not conform",
-"mend": "the value is of the variable's class or of one below it",
+"mend": "assign a value of the variable's class, or of a class below it",
 "case": "check-E3-smallest",
 "files": [
 {
@@ -5279,7 +5279,7 @@ const COOL_RULES = [
 {
 "kind": "E4",
 "words": "unknown method",
-"mend": "methods are those of the class that the receiver is declared with; `out_string` wants `inherits IO`",
+"mend": "call a method of the class that the receiver is declared with; for `out_string`, write `inherits IO`",
 "case": "check-E4-smallest",
 "files": [
 {
@@ -5292,7 +5292,7 @@ const COOL_RULES = [
 {
 "kind": "E5",
 "words": "wrong number of arguments",
-"mend": "count the formals",
+"mend": "pass one argument for each formal",
 "case": "check-E5-smallest",
 "files": [
 {
@@ -5305,7 +5305,7 @@ const COOL_RULES = [
 {
 "kind": "E6",
 "words": "argument does not conform",
-"mend": "the argument is of the formal's class or of one below it",
+"mend": "pass a value of the formal's class, or of a class below it",
 "case": "check-E6-smallest",
 "files": [
 {
@@ -6540,7 +6540,7 @@ const COOL_RULES = [
 {
 "kind": "E4",
 "words": "unknown method",
-"mend": "methods are those of the class that the receiver is declared with; `out_string` wants `inherits IO`",
+"mend": "call a method of the class that the receiver is declared with; for `out_string`, write `inherits IO`",
 "case": null,
 "files": [
 {
@@ -6553,7 +6553,7 @@ const COOL_RULES = [
 {
 "kind": "E5",
 "words": "wrong number of arguments",
-"mend": "count the formals",
+"mend": "pass one argument for each formal",
 "case": null,
 "files": [
 {
@@ -6566,7 +6566,7 @@ const COOL_RULES = [
 {
 "kind": "E6",
 "words": "argument does not conform",
-"mend": "the argument is of the formal's class or of one below it",
+"mend": "pass a value of the formal's class, or of a class below it",
 "case": null,
 "files": [
 {
@@ -6579,7 +6579,7 @@ const COOL_RULES = [
 {
 "kind": "E7",
 "words": "SELF_TYPE after @",
-"mend": "name a class behind `@`",
+"mend": "write the name of a class after `@`",
 "case": "check-E7-smallest",
 "files": [
 {
@@ -6592,7 +6592,7 @@ const COOL_RULES = [
 {
 "kind": "E8",
 "words": "receiver does not conform",
-"mend": "the class behind `@` is the receiver's or one above it",
+"mend": "write the receiver's class, or a class above it, after `@`",
 "case": "check-E8-smallest",
 "files": [
 {
@@ -6605,7 +6605,7 @@ const COOL_RULES = [
 {
 "kind": "E11",
 "words": "unknown type",
-"mend": "its file is missing in the call, or the name is misspelt",
+"mend": "add its file to the call, or correct the name",
 "case": null,
 "files": [
 {
@@ -7291,7 +7291,7 @@ const COOL_RULES = [
 {
 "kind": "E9",
 "words": "predicate is not Bool",
-"mend": "Int is no truth: `if not x = 0`",
+"mend": "write a condition of type Bool, for example `not x = 0`",
 "case": "check-E9-smallest",
 "files": [
 {
@@ -7880,7 +7880,7 @@ const COOL_RULES = [
 {
 "kind": "E9",
 "words": "predicate is not Bool",
-"mend": "Int is no truth: `if not x = 0`",
+"mend": "write a condition of type Bool, for example `not x = 0`",
 "case": null,
 "files": [
 {
@@ -9218,7 +9218,7 @@ const COOL_RULES = [
 {
 "kind": "E11",
 "words": "unknown type",
-"mend": "its file is missing in the call, or the name is misspelt",
+"mend": "add its file to the call, or correct the name",
 "case": null,
 "files": [
 {
@@ -9231,7 +9231,7 @@ const COOL_RULES = [
 {
 "kind": "E17",
 "words": "initial value does not conform",
-"mend": "the value is of the declared class or of one below it",
+"mend": "give a value of the declared class, or of a class below it",
 "case": "check-E17-smallest",
 "files": [
 {
@@ -10106,7 +10106,7 @@ const COOL_RULES = [
 {
 "kind": "E11",
 "words": "unknown type",
-"mend": "its file is missing in the call, or the name is misspelt",
+"mend": "add its file to the call, or correct the name",
 "case": null,
 "files": [
 {
@@ -10119,7 +10119,7 @@ const COOL_RULES = [
 {
 "kind": "E12",
 "words": "SELF_TYPE in a branch",
-"mend": "name a class",
+"mend": "write the name of a class",
 "case": "check-E12-smallest",
 "files": [
 {
@@ -10132,7 +10132,7 @@ const COOL_RULES = [
 {
 "kind": "E13",
 "words": "branch type twice",
-"mend": "one branch for each class",
+"mend": "keep one branch for each class",
 "case": "check-E13-smallest",
 "files": [
 {
@@ -10898,7 +10898,7 @@ const COOL_RULES = [
 {
 "kind": "E11",
 "words": "unknown type",
-"mend": "its file is missing in the call, or the name is misspelt",
+"mend": "add its file to the call, or correct the name",
 "case": "check-E11-smallest",
 "files": [
 {
@@ -13058,7 +13058,7 @@ const COOL_RULES = [
 {
 "kind": "E14",
 "words": "operand is not Int",
-"mend": "numbers alone are added and compared by `<`; strings by `concat` and `=`",
+"mend": "use `+` and `<` only with numbers; for strings, use `concat` and `=`",
 "case": "check-E14-smallest",
 "files": [
 {
@@ -14297,7 +14297,7 @@ const COOL_RULES = [
 {
 "kind": "E14",
 "words": "operand is not Int",
-"mend": "numbers alone are added and compared by `<`; strings by `concat` and `=`",
+"mend": "use `+` and `<` only with numbers; for strings, use `concat` and `=`",
 "case": null,
 "files": [
 {
@@ -14310,7 +14310,7 @@ const COOL_RULES = [
 {
 "kind": "E15",
 "words": "unequal types",
-"mend": "Int, Bool and String are compared with their own type alone",
+"mend": "compare Int, Bool and String only with values of their own type",
 "case": "check-E15-smallest",
 "files": [
 {
@@ -14678,7 +14678,7 @@ const COOL_RULES = [
 {
 "kind": "E14",
 "words": "operand is not Int",
-"mend": "numbers alone are added and compared by `<`; strings by `concat` and `=`",
+"mend": "use `+` and `<` only with numbers; for strings, use `concat` and `=`",
 "case": null,
 "files": [
 {
@@ -14921,7 +14921,7 @@ const COOL_RULES = [
 {
 "kind": "E16",
 "words": "operand is not Bool",
-"mend": "compare first: `not x = 0`",
+"mend": "compare first, for example `not x = 0`",
 "case": "check-E16-smallest",
 "files": [
 {
@@ -18298,7 +18298,7 @@ const COOL_RULES = [
 {
 "kind": "L1",
 "words": "unknown character",
-"mend": "Cool has no `>`, `!`, `%`, `'`, `[`; on line 1, save without a byte order mark",
+"mend": "Cool has no `>`, `!`, `%`, `'` or `[`; if it is the first character of the file, save without a byte order mark",
 "case": "check-L1-smallest",
 "files": [
 {
@@ -18311,7 +18311,7 @@ const COOL_RULES = [
 {
 "kind": "L2",
 "words": "string not closed",
-"mend": "close it, or end its line with `\\`, which must be the last byte of the line (no CR)",
+"mend": "close it on this line; to continue on the next line, end the line with `\\`, as its last byte (no CR)",
 "case": "check-L2-smallest",
 "files": [
 {
@@ -18324,7 +18324,7 @@ const COOL_RULES = [
 {
 "kind": "L3",
 "words": "null byte in string",
-"mend": "remove the byte 0: is the file text?",
+"mend": "remove the byte 0, and check that the file is a text",
 "case": "check-L3-smallest",
 "files": [
 {
@@ -18337,7 +18337,7 @@ const COOL_RULES = [
 {
 "kind": "L4",
 "words": "string too long",
-"mend": "join shorter strings by `concat`",
+"mend": "join shorter strings with `concat`",
 "case": "check-L4-smallest",
 "files": null,
 "says": "p.cl:1: L4: string too long"
@@ -18345,7 +18345,7 @@ const COOL_RULES = [
 {
 "kind": "L5",
 "words": "comment not closed",
-"mend": "each `(*` wants a `*)`: they nest",
+"mend": "write a `*)` for each `(*`: comments nest",
 "case": "check-L5-smallest",
 "files": [
 {
@@ -18358,7 +18358,7 @@ const COOL_RULES = [
 {
 "kind": "L6",
 "words": "comment not opened",
-"mend": "a `*)` too many, or its `(*` stands in a line comment or a string",
+"mend": "remove the `*)`, or look for its `(*` in a line comment or a string",
 "case": "check-L6-smallest",
 "files": [
 {
@@ -18371,7 +18371,7 @@ const COOL_RULES = [
 {
 "kind": "L7",
 "words": "integer too large",
-"mend": "no Int is greater; the least one is `~2147483647 - 1`",
+"mend": "the greatest Int is `2147483647`; write the least one as `~2147483647 - 1`",
 "case": "check-L7-smallest",
 "files": [
 {
@@ -18384,7 +18384,7 @@ const COOL_RULES = [
 {
 "kind": "L8",
 "words": "feature too long",
-"mend": "part the method into several",
+"mend": "split the method into several methods",
 "case": "check-L8-smallest",
 "files": null,
 "says": "p.cl:1: L8: feature too long"
@@ -19258,7 +19258,7 @@ const COOL_RULES = [
 {
 "kind": "S1",
 "words": "unexpected token",
-"mend": "a `;`, `fi`, `pool` or `esac` missing before it; `~` is minus, `--` a comment",
+"mend": "look for a missing `;`, `fi`, `pool` or `esac` before it; minus is `~`, and `--` begins a comment",
 "case": "check-S1-smallest",
 "files": [
 {

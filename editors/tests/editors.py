@@ -15,7 +15,8 @@ from .names import editor
 
 GREETED = r'greeted 0 "who? Anx\b \b\r\nhi An\r\nCOOL program successfully executed\r\n"'
 SHOWN = TOLD + ": found Bool, and due is Int"
-FACTS = "- found Bool, and due is Int  To mend it: give a value of the declared class, or of a class below it.  Tried, as an edit (code action): `1` for `true`."
+FACTS = ("- found Bool, and due is Int  To mend it: give a value of the declared class, or of a class below it.  "
+         "Tried, as an edit (code action): `1` for `true`.")
 PREMISE = "T ≤ T₁"
 MENDED = 'mended:   s : String <- "ä𝒙"; t : Int <- 1;'
 SECONDS = 120

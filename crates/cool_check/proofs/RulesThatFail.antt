@@ -179,7 +179,7 @@ module _ (s : Context) (whole : IsWholeTable s.table) (within : s.class.0 < leng
   abbrev Reason : List Binding → Tree → TypeFault → Type 0
   Reason scope e fault = Stops scope e fault ⊎ FailsAmong (parts s.table scope e) fault
 
-  -- what a check of an expression gives by its reasons
+  -- the result of a check of an expression, by its reasons
   by_reason : (e : Tree) (o : List Binding) (r : Checked Ty) → Decides r (λ t. HasType s.table s.class (o ++ s.attributes) e t) → Gives Any (Reason (o ++ s.attributes) e) r
       → Gives (λ t. HasType s.table s.class (o ++ s.attributes) e t) (FailsAt (o ++ s.attributes) e) r
   by_reason e o (Ok t) d h = d.0
@@ -224,7 +224,7 @@ module _ (s : Context) (whole : IsWholeTable s.table) (within : s.class.0 < leng
   CaseReason scope cs fault =
       ((fault.rule ≡ typing.Case) × Contains (premises typing.Case) fault.kind × AreTypedBranches s.table s.class scope fault.at cs) ⊎ FailsAmong (branches_in s.table scope cs) fault
 
-  -- what a check of an expression gives, and what it gives of a larger one whose first or second part the expression is
+  -- the result of a check of an expression, and of an expression whose first or second part it is
   whole_of : (e : Tree) (o : List Binding) → AreTypes s.table o → Comes Any (Reason (o ++ s.attributes) e) (checked s o e)
       → Comes (λ t. HasType s.table s.class (o ++ s.attributes) e t) (FailsAt (o ++ s.attributes) e) (checked s o e)
   whole_of e o types h = record { given = by_reason e o (checked s o e) (checked_decides s whole within typed e o types).decided h.given }

@@ -11,7 +11,7 @@ use Rattle.cool_faults.specs.declared.fault.Fault.TheVariants.{Lex, Syntax, Clas
 
 abbrev pub lex_cure : LexKind → List ℕ
 lex_cure L1 = codes "Cool has no `>`, `!`, `%`, `'` or `[`; if it is the first character of the file, save without a byte order mark"
-lex_cure L2 = codes "close it with `\"`; to continue on the next line, end the line with `\\`, as its last byte (no CR)"
+lex_cure L2 = codes "close it on this line; to continue on the next line, end the line with `\\`, as its last byte (no CR)"
 lex_cure L3 = codes "remove the byte 0, and check that the file is a text"
 lex_cure L4 = codes "join shorter strings with `concat`"
 lex_cure L5 = codes "write a `*)` for each `(*`: comments nest"

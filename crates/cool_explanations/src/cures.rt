@@ -28,7 +28,7 @@ fn lex_cure(kind: LexKind) -> &'static str
         LexKind::L1 =>
             "Cool has no `>`, `!`, `%`, `'` or `[`; if it is the first character of the file, save without a byte order mark",
         LexKind::L2 =>
-            "close it with `\"`; to continue on the next line, end the line with `\\`, as its last byte (no CR)",
+            "close it on this line; to continue on the next line, end the line with `\\`, as its last byte (no CR)",
         LexKind::L3 => "remove the byte 0, and check that the file is a text",
         LexKind::L4 => "join shorter strings with `concat`",
         LexKind::L5 => "write a `*)` for each `(*`: comments nest",
