@@ -2,7 +2,7 @@
 use Rattle.std.proofs.Common.{◌≡◌, ◌≢◌, ℕ, zero, suc, ◌+◌, ◌<◌, true, List, [], ◌∷◌, ◌++◌, length, get_or, drop, map, refl, sym, ◌∙◌, ap, subst, append_assoc, append-nil, arith}
 use Rattle.std.proofs.lemmas.List.{at_drop_more}
 use Rattle.std.specs.{Prelude.{codes, decimal}, Global.{Vec}, List.{concat, AllByRecursion}}
-use Rattle.cool_faults.specs.{declared.fault.Fault.{Fault}, Texts.{fault_words, fault_line}, Verdicts.{place_of, IsRefused}}
+use Rattle.cool_faults.specs.{declared.fault.Fault.{Fault}, Shown.{shown}, Texts.{fault_words, fault_line}, Verdicts.{place_of, IsRefused}}
 use Rattle.cool_ports.specs.SinkPuts.{PutFront}
 use Rattle.cool_syntax.specs.TokenFacts.{IsPlaced}
 use Rattle.mips_image.specs.{declared.image_error.ImageError.{ImageError}, declared.image_error.ImageError.TheVariants.{Memory, I1, I2, I3, I4, I5}}
@@ -49,17 +49,17 @@ trap_line trap =
     (ends_after (codes ", pc 0x") _ (ends_after (digits trap.pc) (codes "\n") feed)))))
 
 pub image_line : (name : List ℕ) (fault : ImageError) → fault ≢ Memory → ends_line (image_note name fault) ≡ true
-image_line name I1 other = ends_after name _ (ends_after (codes ": I1: wrong magic") (codes "\n") feed)
-image_line name I2 other = ends_after name _ (ends_after (codes ": I2: unknown version") (codes "\n") feed)
-image_line name I3 other = ends_after name _ (ends_after (codes ": I3: too short") (codes "\n") feed)
-image_line name I4 other = ends_after name _ (ends_after (codes ": I4: sizes out of range") (codes "\n") feed)
-image_line name I5 other = ends_after name _ (ends_after (codes ": I5: bytes after the end") (codes "\n") feed)
+image_line name I1 other = ends_after (shown name) _ (ends_after (codes ": I1: wrong magic") (codes "\n") feed)
+image_line name I2 other = ends_after (shown name) _ (ends_after (codes ": I2: unknown version") (codes "\n") feed)
+image_line name I3 other = ends_after (shown name) _ (ends_after (codes ": I3: too short") (codes "\n") feed)
+image_line name I4 other = ends_after (shown name) _ (ends_after (codes ": I4: sizes out of range") (codes "\n") feed)
+image_line name I5 other = ends_after (shown name) _ (ends_after (codes ": I5: bytes after the end") (codes "\n") feed)
 image_line name Memory other = absurd (other refl)
 
 -- the lines of faults do
 pub fault_lines : (names : List (List ℕ)) (faults : List Fault) → AreLines (map (fault_line names) faults)
 fault_lines names [] = tt
-fault_lines names (fault ∷ faults) = (placed_line (get_or names (place_of fault).file []) (decimal (place_of fault).line) (fault_words fault), fault_lines names faults)
+fault_lines names (fault ∷ faults) = (placed_line (shown (get_or names (place_of fault).file [])) (decimal (place_of fault).line) (fault_words fault), fault_lines names faults)
 
 -- The puts to a sink
 

@@ -1,7 +1,7 @@
 -- The lines of refusals: one line for each fault, or one line with the reason.
 use Rattle.std.proofs.Common.{◌≡◌, ◌≢◌, ◌∙◌, ℕ, true, List, [], ◌++◌, Some, inl, inr, refl, sym, ap, subst, arith}
 use Rattle.std.specs.{Prelude.{Result, Ok, Err, IfErr, codes}, List.{concat}}
-use Rattle.cool_faults.specs.{declared.fault.Fault.{Fault}, Verdicts.{IsRefused}}
+use Rattle.cool_faults.specs.{declared.fault.Fault.{Fault}, Shown.{shown}, Verdicts.{IsRefused}}
 use Rattle.cool_ports.specs.declared.shelf.ShelfFault.{ShelfFault}
 use Rattle.cool_ports.specs.declared.shelf.ShelfFault.TheVariants as faults
 use Rattle.cool_syntax.specs.declared.TheConstants.{MOST_SOURCE_BYTES}
@@ -39,10 +39,10 @@ has_lines P Memory h = tt
 pub stop_told : (shelf : ShelfUse) (most : ℕ) (names : List (List ℕ)) (name : List ℕ) (fault : ShelfFault) (refusal : Refusal)
     → IsStopAt shelf names most name fault → ((note : List ℕ) → fault_note name fault ≡ Some note → IsLine statuses.FileFault note refusal) → IsTold (IsDueUnread shelf most names) refusal
 stop_told shelf most names name faults.Missing refusal (contents, read, cause) line =
-    line_told (IsDueUnread shelf most names) statuses.FileFault (missing_note name) refusal (file_line name (codes ": missing"))
+    line_told (IsDueUnread shelf most names) statuses.FileFault (missing_note name) refusal (file_line (shown name) (codes ": missing"))
     (refl, missing name contents read cause) (line (missing_note name) refl)
 stop_told shelf most names name faults.Failed refusal (contents, read, cause) line =
-    line_told (IsDueUnread shelf most names) statuses.FileFault (unread_note name) refusal (file_line name (codes ": read failed"))
+    line_told (IsDueUnread shelf most names) statuses.FileFault (unread_note name) refusal (file_line (shown name) (codes ": read failed"))
     (refl, unread name contents read cause) (line (unread_note name) refl)
 stop_told shelf most names name faults.TooLarge refusal (contents, read, cause) line =
     line_told (IsDueUnread shelf most names) statuses.FileFault too_large_note refusal (ends_after (codes "cool: files too large") (codes "\n") feed)

@@ -1,7 +1,7 @@
--- The texts of the notes.
+-- The texts of the notes. `shown` replaces the bytes of a name that a terminal obeys.
 use Rattle.std.specs.{Prelude.{◌≡◌, refl, ℕ, List, [], ◌++◌, map, codes, decimal}, List.{concat}}
 use Rattle.std.specs.Fmt as decimals
-use Rattle.cool_faults.specs.{declared.fault.Fault.{Fault}, Texts.{fault_line}}
+use Rattle.cool_faults.specs.{declared.fault.Fault.{Fault}, Shown.{shown}, Texts.{fault_line}}
 use Rattle.mips_isa.specs.{declared.trap.Trap.{Trap}, declared.trap.TrapKind.{TrapKind}}
 use Rattle.mips_isa.specs.{declared.trap.TrapKind.TheVariants.{BadAddress, Unaligned, Overflow, NoInstruction, BadCall}, declared.asm_fault.AsmKind.{AsmKind}}
 use Rattle.mips_isa.specs.{declared.asm_fault.AsmKind.TheVariants.{A1, A2, A3, A4, A5, A6, A7, A8, A9}, declared.asm_fault.AsmFault.{AsmFault}}
@@ -17,10 +17,10 @@ abbrev pub usage_note : List ℕ
 usage_note = codes "cool: bad command line\n"
 
 abbrev pub missing_note : List ℕ → List ℕ
-missing_note name = codes "cool: " ++ (name ++ codes ": missing\n")
+missing_note name = codes "cool: " ++ (shown name ++ codes ": missing\n")
 
 abbrev pub unread_note : List ℕ → List ℕ
-unread_note name = codes "cool: " ++ (name ++ codes ": read failed\n")
+unread_note name = codes "cool: " ++ (shown name ++ codes ": read failed\n")
 
 abbrev pub too_many_note : List ℕ
 too_many_note = codes "cool: too many files\n"
@@ -50,7 +50,7 @@ image_fault I5 = codes "I5: bytes after the end\n"
 image_fault Memory = []
 
 abbrev pub image_note : List ℕ → ImageError → List ℕ
-image_note name fault = name ++ (codes ": " ++ image_fault fault)
+image_note name fault = shown name ++ (codes ": " ++ image_fault fault)
 
 -- a fault of assembly
 abbrev pub asm_words : AsmKind → List ℕ
@@ -65,7 +65,7 @@ asm_words A8 = codes "A8: wrong segment"
 asm_words A9 = codes "A9: segment too large"
 
 abbrev pub asm_note : List ℕ → AsmFault → List ℕ
-asm_note name fault = name ++ (codes ":" ++ (decimal fault.line ++ (codes ": " ++ (asm_words fault.kind ++ codes "\n"))))
+asm_note name fault = shown name ++ (codes ":" ++ (decimal fault.line ++ (codes ": " ++ (asm_words fault.kind ++ codes "\n"))))
 
 -- the first fault of a script
 abbrev pub script_words : ScriptKind → List ℕ
@@ -73,11 +73,11 @@ script_words B1 = codes "B1: bad script line"
 script_words B2 = codes "B2: unknown label"
 
 abbrev pub script_note : List ℕ → ScriptFault → List ℕ
-script_note name fault = name ++ (codes ":" ++ (decimal fault.line ++ (codes ": " ++ (script_words fault.kind ++ codes "\n"))))
+script_note name fault = shown name ++ (codes ":" ++ (decimal fault.line ++ (codes ": " ++ (script_words fault.kind ++ codes "\n"))))
 
 -- a worked example
 label_in_line_3 : script_note (codes "steps.txt") (record { kind = B2; line = 3 }) ≡ codes "steps.txt:3: B2: unknown label\n"
-unfolding decimals.digits
+unfolding decimals.digits shown
 label_in_line_3 = refl
 
 -- the command of a session with this number, and what is wrong with it

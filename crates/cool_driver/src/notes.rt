@@ -1,6 +1,7 @@
 //! The notes: their texts, and how they are written.
 
 ghost use Rattle.std.specs.Prelude.{◌≡◌, ◌≢◌, ◌+◌, ◌≤◌, [], ◌∷◌, ◌++◌, length, true, IfOk, Some, string_bytes};
+ghost use Rattle.cool_faults.specs.Shown.{shown};
 ghost use Rattle.cool_driver.specs.Calls.{sink_use};
 ghost use Rattle.cool_driver.specs.Contents.{texts};
 ghost use Rattle.cool_driver.specs.Notes.{asm_note, asm_words, image_note, script_note, script_words, command_note, trap_words, trap_note};
@@ -9,6 +10,7 @@ ghost use Rattle.cool_driver.specs.Telling.{AreLines, Noted, PutsLines, ends_lin
 
 use crate::status::Status;
 use arrayvec::ArrayString;
+use cool_faults::shown;
 use cool_ports::{Failed, ShelfFault, Sink};
 use mips_image::ImageError;
 use mips_isa::{AsmFault, AsmKind, Trap, TrapKind};
@@ -91,24 +93,39 @@ fn trap_words(kind: TrapKind) -> &'static str
 }
 
 /// The note of a file or a script that was not read.
-pub fn file_note(alloc: Global, name: &str, fault: ShelfFault) -> Result<String, AllocError>
-    ensures { IfOk result (λ note. fault_note name.now fault ≡ Some (string_bytes note)) }
+pub fn file_note(alloc: Global, name: &str, fault: ShelfFault) -> Result<Vec<u8>, AllocError>
+    ensures { IfOk result (λ note. fault_note name.now fault ≡ Some note.items) }
 {
     match fault {
-        ShelfFault::Missing => format!(in alloc; "cool: {name}: missing\n"),
-        ShelfFault::Failed => format!(in alloc; "cool: {name}: read failed\n"),
-        ShelfFault::TooLarge => String::from_str(alloc, "cool: files too large\n"),
+        ShelfFault::Missing => named_note(alloc, b"cool: ", name, b": missing\n"),
+        ShelfFault::Failed => named_note(alloc, b"cool: ", name, b": read failed\n"),
+        ShelfFault::TooLarge => Vec::from_slice(alloc, b"cool: files too large\n"),
         ShelfFault::Memory => Err(AllocError),
     }
 }
 
+/// A note that has a file name between other words; `shown` replaces the bytes of the name that a terminal obeys. Returns `Err` only if memory runs out.
+fn named_note(alloc: Global, front: &[u8], name: &str, back: &[u8]) -> Result<Vec<u8>, AllocError>
+    ensures { IfOk result (λ note. note.items ≡ front.now ++ (shown name.now ++ back.now)) }
+{
+    let mut note = Vec::from_slice(alloc, front)?;
+    note.extend_from_slice(&shown(alloc, name.as_bytes())?)?;
+    note.extend_from_slice(back)?;
+    Ok(note)
+}
+
 /// The note of a text with a fault.
-pub fn asm_note(alloc: Global, name: &str, fault: AsmFault) -> Result<String, AllocError>
-    ensures { IfOk result (λ note. string_bytes note ≡ asm_note name.now fault) }
+pub fn asm_note(alloc: Global, name: &str, fault: AsmFault) -> Result<Vec<u8>, AllocError>
+    ensures { IfOk result (λ note. note.items ≡ asm_note name.now fault) }
 {
     let line = fault.line;
     let words = asm_words(fault.kind);
-    format!(in alloc; "{name}:{line}: {words}\n")
+    named_note(
+        alloc,
+        b"",
+        name,
+        format!(in alloc; ":{line}: {words}\n")?.as_bytes(),
+    )
 }
 
 /// The kind of a fault of assembly, and what it says.
@@ -129,12 +146,17 @@ fn asm_words(kind: AsmKind) -> &'static str
 }
 
 /// The note of a script with a fault.
-pub fn script_note(alloc: Global, name: &str, fault: ScriptFault) -> Result<String, AllocError>
-    ensures { IfOk result (λ note. string_bytes note ≡ script_note name.now fault) }
+pub fn script_note(alloc: Global, name: &str, fault: ScriptFault) -> Result<Vec<u8>, AllocError>
+    ensures { IfOk result (λ note. note.items ≡ script_note name.now fault) }
 {
     let line = fault.line;
     let words = script_words(fault.kind);
-    format!(in alloc; "{name}:{line}: {words}\n")
+    named_note(
+        alloc,
+        b"",
+        name,
+        format!(in alloc; ":{line}: {words}\n")?.as_bytes(),
+    )
 }
 
 /// The kind of a fault of a script, and what it says.
@@ -155,16 +177,16 @@ pub fn command_note(alloc: Global, number: u64, words: &str) -> Result<String, A
 }
 
 /// The note of a file that is no image.
-pub fn image_note(alloc: Global, name: &str, fault: ImageError) -> Result<String, AllocError>
-    ensures note { IfOk result (λ note. string_bytes note ≡ image_note name.now fault) }
+pub fn image_note(alloc: Global, name: &str, fault: ImageError) -> Result<Vec<u8>, AllocError>
+    ensures note { IfOk result (λ note. note.items ≡ image_note name.now fault) }
     ensures fault { IfOk result (λ _. fault ≢ ImageError.Memory) }
 {
     match fault {
         ImageError::Memory => Err(AllocError),
-        ImageError::I1 => format!(in alloc; "{name}: I1: wrong magic\n"),
-        ImageError::I2 => format!(in alloc; "{name}: I2: unknown version\n"),
-        ImageError::I3 => format!(in alloc; "{name}: I3: too short\n"),
-        ImageError::I4 => format!(in alloc; "{name}: I4: sizes out of range\n"),
-        ImageError::I5 => format!(in alloc; "{name}: I5: bytes after the end\n"),
+        ImageError::I1 => named_note(alloc, b"", name, b": I1: wrong magic\n"),
+        ImageError::I2 => named_note(alloc, b"", name, b": I2: unknown version\n"),
+        ImageError::I3 => named_note(alloc, b"", name, b": I3: too short\n"),
+        ImageError::I4 => named_note(alloc, b"", name, b": I4: sizes out of range\n"),
+        ImageError::I5 => named_note(alloc, b"", name, b": I5: bytes after the end\n"),
     }
 }

@@ -72,7 +72,7 @@ pub fn refuse_unread(alloc: Global, name: &str, fault: ShelfFault) -> Refusal
     ensures { (note : List ℕ) → fault_note name.now fault ≡ Some note → IsLine Status.FileFault note result }
 {
     match file_note(alloc, name, fault) {
-        Ok(note) => refuse_by_line(alloc, Status::FileFault, note.as_bytes()),
+        Ok(note) => refuse_by_line(alloc, Status::FileFault, &note),
         Err(AllocError) => Refusal::Memory,
     }
 }

@@ -19,7 +19,7 @@ use Rattle.cool_driver.proofs.StatusesOfRuns.{IsOneOf, end_status, good_status}
 use Rattle.std.proofs.Common.{Err, IfErr, IfOk, List, Ok, Option, Result, Some, [], ap, arith, inl, inr, length, refl, subst, sym, ℕ, ◌∙◌, ◌≡◌, ◌≢◌, ◌⊎◌}
 use Rattle.cool_classes.specs.Chains.{Class}
 use Rattle.cool_emit.specs.Programs.{program_lines}
-use Rattle.cool_faults.specs.{Verdicts.{IsAccepted, IsFaultList}, declared.fault.Fault.{Fault}}
+use Rattle.cool_faults.specs.{Shown.{shown}, Verdicts.{IsAccepted, IsFaultList}, declared.fault.Fault.{Fault}}
 use Rattle.cool_ports.proofs.GettingBytes.{appended-appended, appended-nil}
 use Rattle.cool_ports.specs.{Counts.{Rose}, ShelfFiles.{FileMap}, SinkBytes.{appended}, declared.shelf.ShelfFault.{ShelfFault}}
 use Rattle.cool_simulation.specs.Accord.{Means}
@@ -46,9 +46,9 @@ pub script_told : (shelf : ShelfUse) (script : List ℕ) (fault : ShelfFault) (r
     → IsCause shelf.files shelf.faults_before shelf.faults_after script MOST_SCRIPT_BYTES fault
     → ((note : List ℕ) → fault_note script fault ≡ Some note → IsLine Status.FileFault note refusal) → IsTold (IsDueUnscripted shelf script) refusal
 script_told shelf script ShelfFault.Missing refusal asked cause line =
-    line_told (IsDueUnscripted shelf script) Status.FileFault (missing_note script) refusal (file_line script (codes ": missing")) (refl, ScriptIsUnread.missing asked cause) (line (missing_note script) refl)
+    line_told (IsDueUnscripted shelf script) Status.FileFault (missing_note script) refusal (file_line (shown script) (codes ": missing")) (refl, ScriptIsUnread.missing asked cause) (line (missing_note script) refl)
 script_told shelf script ShelfFault.Failed refusal asked cause line =
-    line_told (IsDueUnscripted shelf script) Status.FileFault (unread_note script) refusal (file_line script (codes ": read failed")) (refl, ScriptIsUnread.unread asked cause) (line (unread_note script) refl)
+    line_told (IsDueUnscripted shelf script) Status.FileFault (unread_note script) refusal (file_line (shown script) (codes ": read failed")) (refl, ScriptIsUnread.unread asked cause) (line (unread_note script) refl)
 script_told shelf script ShelfFault.TooLarge refusal asked cause line =
     line_told (IsDueUnscripted shelf script) Status.FileFault too_large_note refusal (ends_after (codes "cool: files too large") (codes "\n") feed) (refl, ScriptIsUnread.too_large asked cause) (line too_large_note refl)
 script_told shelf script ShelfFault.Memory refusal asked cause line = absurd cause

@@ -174,7 +174,7 @@ fn script_program(
         }),
         Err(ScriptError::Fault(fault)) => {
             let note = script_note(alloc, script, fault)?;
-            Err(refuse_by_line(alloc, Status::Unfit, note.as_bytes()))
+            Err(refuse_by_line(alloc, Status::Unfit, &note))
         }
         Err(ScriptError::Memory) => Err(Refusal::Memory),
     }

@@ -88,7 +88,7 @@ fn load_image(alloc: Global, name: &str, bytes: &[u8]) -> Result<Image, Refusal>
         Ok(stored) => Ok(stored.image),
         Err(fault) => {
             let note = image_note(alloc, name, fault)?;
-            Err(refuse_by_line(alloc, Status::Unfit, note.as_bytes()))
+            Err(refuse_by_line(alloc, Status::Unfit, &note))
         }
     }
 }
@@ -104,7 +104,7 @@ fn load_text(alloc: Global, name: &str, bytes: &[u8]) -> Result<Image, Refusal>
         Ok(image) => Ok(image),
         Err(AsmError::Fault(fault)) => {
             let note = asm_note(alloc, name, fault)?;
-            Err(refuse_by_line(alloc, Status::Unfit, note.as_bytes()))
+            Err(refuse_by_line(alloc, Status::Unfit, &note))
         }
         Err(AsmError::Memory) => Err(Refusal::Memory),
     }

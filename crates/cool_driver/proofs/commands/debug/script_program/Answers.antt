@@ -1,5 +1,6 @@
 use Rattle.std.proofs.{Common.{ap, arith, length, refl, subst, sym, ◌∙◌}, lemmas.List.{length-map}}
 use Rattle.cool_emit.proofs.SoundLinesAssemble.{few_lines, in_range, no_fault}
+use Rattle.cool_faults.specs.Shown.{shown}
 use Rattle.cool_words.specs.Plans.{words_of}
 use Rattle.mips_isa.specs.{Assembly.{fault_of, image_of}, ImageBounds.{ImageParts}, Lines.{line_of, lines_of}}
 use Rattle.spim_debug.specs.Debugging.{IsScriptFor}
@@ -69,7 +70,7 @@ returns-in-Err-Fault-clause-refused c =
     let fault = c.in-Err-Fault.fault in
     let names = words_of c.args.names.now in
     let said = said_for _ c.args.program.now names c.args.bytes.now (ap lines_of c.deref.ensures.value ∙ c.in_ok-lines.ensures.lines) in
-    let note = c.as_bytes.ensures.value ∙ c.in_ok-note-in-Err-Fault.ensures in
+    let note = c.deref-in-Err-Fault.ensures.value ∙ c.in_ok-note-in-Err-Fault.ensures in
     line_told (IsDueToScript c.args.script.now c.args.bytes.now names c.args.program.now) Status.Unfit (script_note c.args.script.now fault)
-    c.refuse_by_line.result (placed_line c.args.script.now (decimal fault.line) (script_words fault.kind))
+    c.refuse_by_line.result (placed_line (shown c.args.script.now) (decimal fault.line) (script_words fault.kind))
     (fault, said ∙ (rw c.in-Err-Fault.field-0-is at c.in-Err-Fault.ensures.exact), refl, refl) (rw note at c.refuse_by_line.ensures)

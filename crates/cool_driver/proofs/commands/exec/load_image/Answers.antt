@@ -15,4 +15,4 @@ returns-in_ok-note-in-Err-clause-refused c =
     let fault = c.in-Err.fault in
     line_told (IsDueToBytes c.args.name.now c.args.bytes.now) Status.Unfit (image_note c.args.name.now fault) c.refuse_by_line.result
     (image_line c.args.name.now fault c.in_ok-note-in-Err.ensures.fault) (refl, inl (fault, refl, c.requires, search rules))
-    (rw (c.as_bytes.ensures.value ∙ c.in_ok-note-in-Err.ensures.note) at c.refuse_by_line.ensures)
+    (rw (c.deref.ensures.value ∙ c.in_ok-note-in-Err.ensures.note) at c.refuse_by_line.ensures)
