@@ -87,8 +87,8 @@ def code_of_no_program(room, words):
         ("no names", [], 2, "bad command line"),
         ("an option", ["-x"], 2, "bad command line"),
         ("a long name", ["a" * 4097], 2, "bad command line"),
-        ("a name that is no option", ["--", "-x"], 10, "files not read"),
-        ("a folder", [room], 10, "files not read"),
+        ("a name that is no option", ["--", "-x"], 10, "-x: missing"),
+        ("a folder", [room], 10, "%s: read failed" % room),
     ):
         told = asked(editor(), *names)
         expect(said, (told.returncode, told.stdout, told.stderr), (status, "", "cool_editor: %s\n" % note))

@@ -1,5 +1,3 @@
-mod AnswersWritten
-mod FreshDevices
 mod LinesChanged
 mod LinesOfBytes
 mod WordsAsked

@@ -3,7 +3,7 @@
 //!
 //! Input: arguments, files and writers. Output: the explanations of `cool_mend` as `specs/Texts.antt` and `specs/Lines.antt` write them, or a status.
 //! `perform` is everything that the program `cool_explain` does if its arguments are text, and its clause is the promise over the system's files and
-//! streams (`specs/Processes.antt`).
+//! streams (`specs/Ends.antt`, and `specs/Ends.antt` of `cool_sources`).
 #![tactic(auto)]
 
 mod changes;
@@ -19,7 +19,6 @@ mod shown;
 mod source_line;
 mod text;
 
-pub use explaining::explain_names;
 pub use form::Form;
 pub use note::BAD_COMMAND_LINE;
-pub use process::{Process, explain_over_system, perform};
+pub use process::perform;

@@ -3,5 +3,11 @@
 /// The note on words that are no command line, or name no file.
 pub const BAD_COMMAND_LINE: &[u8] = b"cool_explain: bad command line\n";
 
-/// The note on files that are too many, or of which one was not read.
-pub const FILES_NOT_READ: &[u8] = b"cool_explain: files not read\n";
+/// The name of the program in its notes.
+pub const PROGRAM: &[u8] = b"cool_explain";
+
+/// The note on too many files.
+pub const TOO_MANY_FILES: &[u8] = b"cool_explain: too many files\n";
+
+/// The note on files that are too large.
+pub const FILES_TOO_LARGE: &[u8] = b"cool_explain: files too large\n";

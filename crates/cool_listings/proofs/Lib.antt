@@ -1,4 +1,3 @@
-mod FreshDevices
 mod ShortNames
 mod TreesOfTokens
 mod PiecesOfFiles

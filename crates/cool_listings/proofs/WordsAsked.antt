@@ -1,11 +1,13 @@
 -- The call that is read from arguments has the form and the names that the arguments ask for, so it ends as they say.
-use Rattle.std.proofs.Common.{◌≡◌, ◌⊎◌, inl, inr, ℕ, List, [], ◌∷◌, Bool, true, false, Option, Some, None, refl, sym, subst}
-use Rattle.std.specs.Prelude.{String}
-use Rattle.std.specs.Global.{Global}
+use Rattle.std.proofs.Common.{◌≡◌, ◌⊎◌, inl, inr, ℕ, List, [], Bool, true, false, Option, Some, None, refl, sym, subst}
+use Rattle.cool_ports.specs.ShelfFiles.{AskedFront}
 use Rattle.cool_sources.specs.CommandLine.{IsCall, call_of, words_of}
+use Rattle.cool_sources.specs.Devices.{ShelfUse, SinkUse}
+use Rattle.cool_sources.specs.Ends.{HasEnded}
 use Rattle.cool_sources.specs.declared.command_line.Call.{Call}
 use Rattle.cool_sources.specs.declared.status.Status.{Status}
-use Rattle.cool_listings.specs.Processes.{HasEnded, call_asked, form_of, names_of, option_of, other_form}
+use Rattle.cool_listings.specs.Ends.{spec_of}
+use Rattle.cool_listings.specs.Processes.{call_asked, form_of, names_of, option_of, other_form}
 use Rattle.cool_listings.specs.declared.form.Form.{Form}
 use Rattle.cool_listings.specs.declared.form.Form.TheVariants.{Marks}
 
@@ -24,18 +26,17 @@ pub call_read : (words : List (List ℕ)) (other : Form) (option : List ℕ) (ca
 call_read words other option call chosen is h =
     subst (λ (form : Form). IsCall (call_of (option_of form) words) call) chosen (subst (λ (bytes : List ℕ). IsCall (call_of bytes words) call) is h)
 
--- no word is there where its bytes are none
-pub no_words : (words : List (String Global)) → words_of words ≡ [] → words ≡ []
-no_words [] e = refl
-no_words (w ∷ words) e = absurd cc
-
 -- and no call
 pub asked_by_none : (other : Form) (asked : Option (Bool × List (List ℕ))) → IsCall asked None → (form_of other asked ≡ Marks) × (names_of asked ≡ [])
 asked_by_none other None h = (refl, refl)
 asked_by_none other (Some call) h = absurd h
 
--- a process ends as it does for an equal form and equal names
-pub ended_so : (form other : Form) (names words asked gave : List (List ℕ)) (status : Status) (held : Option (List ℕ)) (puts : List (List ℕ)) (noted : Option (List ℕ)) → form ≡ other → names ≡ words
-    → HasEnded other words asked gave status held puts noted → HasEnded form names asked gave status held puts noted
-ended_so form other names words asked gave status held puts noted e f h =
-    subst (λ (x : Form). HasEnded x names asked gave status held puts noted) (sym e) (subst (λ (ws : List (List ℕ)). HasEnded other ws asked gave status held puts noted) (sym f) h)
+-- a call of an equal form and equal names ends so
+pub ended_so : (form other : Form) (names words : List (List ℕ)) (shelf : ShelfUse) (out notes : SinkUse) (status : Status) → form ≡ other → names ≡ words
+    → HasEnded (spec_of other) shelf words out notes status → HasEnded (spec_of form) shelf names out notes status
+ended_so form other names words shelf out notes status e f h =
+    subst (λ (x : Form). HasEnded (spec_of x) shelf names out notes status) (sym e)
+    (subst (λ (ws : List (List ℕ)). HasEnded (spec_of other) shelf ws out notes status) (sym f) h)
+
+pub asked_so : (names words asked : List (List ℕ)) → names ≡ words → AskedFront words [] asked → AskedFront names [] asked
+asked_so names words asked f h = subst (λ (ws : List (List ℕ)). AskedFront ws [] asked) (sym f) h

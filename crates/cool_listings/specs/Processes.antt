@@ -1,50 +1,10 @@
--- The end of a process: its form and files, as its arguments ask for them, the names that its shelf was asked for, the files that the shelf gave, and
--- the bytes that its output took, all from the start on.
-use Rattle.std.specs.Prelude.{◌≡◌, ◌≢◌, ◌⊎◌, refl, ℕ, List, [], ◌∷◌, Option, Some, None, Bool, true, false, codes, if◌then◌else◌}
+-- The form and the files that arguments ask for: the form that the first argument names, if it is an option, and otherwise the marks. Arguments that
+-- are not a valid command line ask for the marks of no file.
+use Rattle.std.specs.Prelude.{◌≡◌, refl, ℕ, List, [], ◌∷◌, Option, Some, None, Bool, true, false, codes, if◌then◌else◌}
 use Rattle.std.specs.Str.{bytes_eq}
-use Rattle.cool_ports.specs.ShelfFiles.{AskedFront}
-use Rattle.cool_ports.specs.SinkBytes.{GotPrefix}
 use Rattle.cool_sources.specs.CommandLine.{call_of}
-use Rattle.cool_sources.specs.GivenFiles.{GaveAll, WereUnread}
-use Rattle.cool_sources.specs.declared.status.Status.{Status}
-use Rattle.cool_sources.specs.declared.status.Status.TheVariants.{Done, Refused, Usage, WriteFault, FileFault}
-use Rattle.cool_listings.specs.Ends.{HaveNone, IsNoCall, IsWritten, note_of}
 use Rattle.cool_listings.specs.declared.form.Form.{Form}
 use Rattle.cool_listings.specs.declared.form.Form.TheVariants.{Marks, Code, Tokens, Trees}
-
--- The shelf gave all files, and the output took what is written in this form of what it gave, and nothing else.
-pub record HasListed (form : Form) (names asked gave : List (List ℕ)) (held : Option (List ℕ)) : Type 0 where
-  pub all : GaveAll names asked gave
-  pub text : List ℕ
-  pub is : IsWritten form names gave text
-  pub written : held ≡ Some text
-
--- It gave all, and nothing is written of what it gave.
-pub record HasRefused (form : Form) (names asked gave : List (List ℕ)) : Type 0 where
-  pub all : GaveAll names asked gave
-  pub none : HaveNone form gave
-
--- It gave all, and the output took a prefix of what is written of it.
-pub record WasCutShort (form : Form) (names asked gave : List (List ℕ)) (held : Option (List ℕ)) : Type 0 where
-  pub all : GaveAll names asked gave
-  pub text : List ℕ
-  pub is : IsWritten form names gave text
-  pub got : GotPrefix (Some []) text held
-
--- The end of a process that is asked for a form of the files of these names, by its status.
-pub record HasEnded (form : Form) (names asked gave : List (List ℕ)) (status : Status) (held : Option (List ℕ)) (puts : List (List ℕ)) (noted : Option (List ℕ)) : Type 0 where
-  pub listed : status ≡ Done → HasListed form names asked gave held
-  pub refused : status ≡ Refused → HasRefused form names asked gave
-  pub usage : status ≡ Usage → IsNoCall form names
-  pub no_name : names ≡ [] → (status ≡ Usage) ⊎ (status ≡ WriteFault)
-  pub file_fault : status ≡ FileFault → WereUnread names asked gave
-  pub write_fault : status ≡ WriteFault → WasCutShort form names asked gave held ⊎ (puts ≡ [])
-  pub nothing : status ≢ Done → status ≢ WriteFault → puts ≡ []
-  pub front : AskedFront names [] asked
-  pub note : status ≢ WriteFault → noted ≡ Some (note_of form status)
-
--- The files of these arguments and the form of their output: the form that the first argument names, if it is an option, and otherwise the marks.
--- Arguments that are not a valid command line ask for the marks of no file.
 
 -- the option that chooses a form; the marks have none
 abbrev pub option_of : Form → List ℕ

@@ -4,7 +4,7 @@
 //! Input: arguments, files and writers. Output: a line for each mark of `cool_names`, as `specs/Lines.antt` defines it, the table of code of `cool_emit`,
 //! the tokens as `specs/TokenLines.antt` defines their lines, the trees as `specs/TreeLines.antt` does, or a status (`specs/Ends.antt`). `perform` is
 //! everything that the program `cool_editor` does if its arguments are text, and its clause is the promise over the system's files and streams
-//! (`specs/Processes.antt`).
+//! (`specs/Ends.antt` of `cool_sources`).
 #![tactic(auto)]
 
 mod answer;
@@ -19,6 +19,5 @@ mod tokens;
 mod trees;
 
 pub use form::Form;
-pub use listing::list_names;
 pub use note::BAD_COMMAND_LINE;
-pub use process::{Process, list_over_system, perform};
+pub use process::perform;

@@ -9,5 +9,11 @@ pub const NO_CLASS_TABLE: &[u8] = b"cool_editor: no class table\n";
 /// The note of files that are no program.
 pub const NO_PROGRAM: &[u8] = b"cool_editor: not a program\n";
 
-/// The note of too many files, and of a file that was not read.
-pub const FILES_NOT_READ: &[u8] = b"cool_editor: files not read\n";
+/// The name of the program in its notes.
+pub const PROGRAM: &[u8] = b"cool_editor";
+
+/// The note on too many files.
+pub const TOO_MANY_FILES: &[u8] = b"cool_editor: too many files\n";
+
+/// The note on files that are too large.
+pub const FILES_TOO_LARGE: &[u8] = b"cool_editor: files too large\n";

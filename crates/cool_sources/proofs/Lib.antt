@@ -1,3 +1,4 @@
+mod FreshDevices
 pub mod FilesRead
-pub mod FreshShelves
-pub mod NotesTold
+mod OutcomesDue
+mod OutcomesWritten

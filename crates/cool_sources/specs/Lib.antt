@@ -1,5 +1,7 @@
 pub mod CommandLine
 pub mod Devices
-pub mod GivenFiles
+pub mod Ends
+pub mod Notes
 pub mod Reading
 pub mod Statuses
+pub mod Tasks

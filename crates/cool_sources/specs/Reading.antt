@@ -1,12 +1,9 @@
--- The reasons why files are not read: they are too many, or the shelf refuses one of them.
-use Rattle.std.specs.Prelude.{◌≡◌, ℕ, ◌-◌, ◌<◌, ◌≤◌, ◌⊎◌, List, [], ◌∷◌, ◌++◌, length, Option}
-use Rattle.cool_syntax.specs.declared.TheConstants.{MOST_FILES, MOST_SOURCE_BYTES}
+-- The reasons why the shelf refuses a file, and the file at which reading stops.
+use Rattle.std.specs.Prelude.{◌≡◌, ℕ, ◌-◌, ◌<◌, ◌≤◌, List, [], ◌∷◌, ◌++◌, length, Option}
 use Rattle.cool_faults.specs.Files.{total}
 use Rattle.cool_ports.specs.Counts.{Rose}
 use Rattle.cool_ports.specs.ShelfFiles.{FileMap, IsMissing, IsLonger, AreHeld}
-use Rattle.cool_sources.specs.Devices.{ShelfUse, IsUnused}
-use Rattle.cool_sources.specs.declared.status.Status.{Status}
-use Rattle.cool_sources.specs.declared.status.Status.TheVariants as statuses
+use Rattle.cool_sources.specs.Devices.{ShelfUse}
 use Rattle.cool_sources.specs.declared.reading.ReadError.{ReadError}
 use Rattle.cool_sources.specs.declared.reading.ReadError.TheVariants.{Memory, Refused}
 use Rattle.cool_ports.specs.declared.shelf.ShelfFault.{ShelfFault}
@@ -35,20 +32,3 @@ pub record IsRefusedAt (shelf : ShelfUse) (names : List (List ℕ)) (most : ℕ)
 abbrev pub IsStop : ShelfUse → List (List ℕ) → ℕ → ReadError → Type 0
 IsStop shelf names most Memory = Unit {0}
 IsStop shelf names most (Refused name fault) = IsRefusedAt shelf names most name.now fault
-
--- the shelf refuses one of the files
-abbrev pub IsRefused : ShelfUse → List (List ℕ) → ℕ → Type 0
-IsRefused shelf names most = (name : List ℕ) × (fault : ShelfFault) × IsRefusedAt shelf names most name fault
-
--- the files of these names are too many, and none was asked for, or one of them was refused
-abbrev pub AreUnread : ShelfUse → List (List ℕ) → Type 0
-AreUnread shelf names = ((MOST_FILES < length names) × IsUnused shelf) ⊎ ((length names ≤ MOST_FILES) × IsRefused shelf names MOST_SOURCE_BYTES)
-
--- why there is nothing to write of the files of these names
-abbrev pub IsUntold : ShelfUse → List (List ℕ) → Status → Type 0
-IsUntold shelf names statuses.Usage = (names ≡ []) × IsUnused shelf
-IsUntold shelf names statuses.FileFault = AreUnread shelf names
-IsUntold shelf names statuses.Memory = Unit {0}
-IsUntold shelf names statuses.Done = ⊥
-IsUntold shelf names statuses.Refused = ⊥
-IsUntold shelf names statuses.WriteFault = ⊥

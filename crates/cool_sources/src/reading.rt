@@ -1,17 +1,14 @@
 //! Reading the source files of a call.
 
-ghost use Rattle.std.specs.Prelude.{◌≡◌, ◌≤◌, ◌<◌, ◌^◌, ◌⊎◌, length, map, string_bytes, IfOk, IfErr, OnOk, OnErr};
+ghost use Rattle.std.specs.Prelude.{◌≡◌, ◌≤◌, ◌<◌, ◌^◌, length, map, string_bytes, IfOk, IfErr, OnOk, OnErr};
 ghost use Rattle.std.specs.List.{AllByRecursion};
-ghost use Rattle.cool_syntax.specs.declared.TheConstants.{MOST_SOURCE_BYTES};
 ghost use Rattle.cool_faults.specs.Files.{bytes_of, total};
 ghost use Rattle.cool_sources.specs.Devices.{shelf_use, AreRead};
-ghost use Rattle.cool_sources.specs.Reading.{IsRefused, IsStop};
+ghost use Rattle.cool_sources.specs.Reading.{IsStop};
 ghost use Rattle.cool_ports.specs.ShelfFiles.{AskedFront};
 ghost use Rattle.lists.specs.Bytes.{AreBytes};
 
-use crate::status::Status;
 use cool_ports::{Shelf, ShelfFault};
-use cool_syntax::MOST_SOURCE_BYTES;
 use std::alloc::{AllocError, AllocFailed, Global};
 
 /// Why not all files were read.
@@ -88,29 +85,4 @@ pub fn byte_count(bytes: &[u8]) -> u64
     ensures bytes { AreBytes bytes.now }
 {
     bytes.len() as u64
-}
-
-/// The bytes of the source files of these names, in order; together they have at most 1,048,576. `Err` says that memory is wanting, or that
-/// one was not read.
-pub fn read_sources<F: Shelf>(
-    alloc: Global,
-    names: &[String],
-    files: &mut F,
-) -> Result<Vec<Vec<u8>>, Status>
-    ensures read { IfOk result (λ contents.
-        AreRead (shelf_use F.files F.faults F.asked F.gave files.old files.new) (map string_bytes names.now) (bytes_of contents.items)) }
-    ensures within { IfOk result (λ contents. total (bytes_of contents.items) ≤ MOST_SOURCE_BYTES) }
-    ensures each { IfOk result (λ contents. length contents.items ≡ length names.now) }
-    ensures calm { OnOk result (F.faults files.new ≡ F.faults files.old) }
-    ensures stop { IfErr result (λ status. (status ≡ Status.Memory)
-        ⊎ ((status ≡ Status.FileFault) × IsRefused (shelf_use F.files F.faults F.asked F.gave files.old files.new) (map string_bytes names.now) MOST_SOURCE_BYTES)) }
-    ensures kept { F.files files.new ≡ F.files files.old }
-    ensures no_less { F.faults files.old ≤ F.faults files.new }
-    ensures asked { OnErr result (AskedFront (map string_bytes names.now) (F.asked files.old) (F.asked files.new)) }
-{
-    match read_files(alloc, names, MOST_SOURCE_BYTES, files) {
-        Ok(contents) => Ok(contents),
-        Err(ReadError::Refused(_, _)) => Err(Status::FileFault),
-        Err(ReadError::Memory) => Err(Status::Memory),
-    }
 }

@@ -64,7 +64,7 @@ pub fn tell<E: Sink>(notes: &mut E, status: Status, note: &[u8]) -> Status
     ensures note { result ≢ Status.WriteFault → E.held notes.new ≡ appended (E.held notes.old) note.now }
     ensures no_fault { result ≢ Status.WriteFault → E.faults notes.new ≡ E.faults notes.old }
     ensures write_fault { result ≡ Status.WriteFault → Rose (E.faults notes.old) (E.faults notes.new) }
-    ensures prefix { E.faults notes.old < E.faults notes.new → GotPrefix (E.held notes.old) note.now (E.held notes.new) }
+    ensures prefix { result ≡ Status.WriteFault → GotPrefix (E.held notes.old) note.now (E.held notes.new) }
     ensures no_less { E.faults notes.old ≤ E.faults notes.new }
     ensures put { E.puts notes.new ≡ E.puts notes.old ++ note.now ∷ [] }
 {

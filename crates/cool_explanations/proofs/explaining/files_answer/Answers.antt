@@ -1,5 +1,5 @@
--- `files_answer` returns the text of the result of `explain`, and says whether this result contains a fault.
-use Rattle.std.proofs.Common.{List, subst}
+-- The text is that of the result of `explain`.
+use Rattle.std.proofs.Common.{List, refl, subst}
 use Rattle.cool_mend.specs.declared.explanation.Explanation.{Explanation}
 use Rattle.cool_explanations.specs.Ends.{HasFaults}
 use Rattle.cool_explanations.proofs.explaining.files_answer.Goals as goal
@@ -10,4 +10,5 @@ returns c = record {
   is = record { explained = c.in_ok-told.ensures.explained; noticed = c.in_ok-told.ensures.noticed; quiet = c.in_ok-told.ensures.quiet };
   faults = subst (λ (all : List Explanation). HasFaults c.has_faults.result all) c.deref.ensures.value c.has_faults.ensures;
   text = c.in_ok-form_text.ensures;
+  no_note = refl;
 }

@@ -1,9 +1,9 @@
--- `perform` calls `explain_over_system` with the form and the names that `form_asked` and `names_asked` of `Processes.antt` find in the arguments.
-use Rattle.std.proofs.Common.{◌≡◌, ◌⊎◌, inl, inr, true, false, ap}
+-- The call is the one that the words ask for.
+use Rattle.std.proofs.Common.{◌≡◌, ◌⊎◌, inl, inr, true, false}
 use Rattle.std.specs.Prelude.{codes}
 use Rattle.cool_sources.specs.CommandLine.{call_of, words_of}
 use Rattle.cool_explanations.specs.declared.form.Form.TheVariants.{Lines, Text}
-use Rattle.cool_explanations.proofs.WordsAsked.{call_asked, ended_so, no_words, none_asked}
+use Rattle.cool_explanations.proofs.WordsAsked.{asked_so, call_asked, ended_so, none_asked}
 use Rattle.cool_explanations.proofs.process.perform.Goals.{then-call, else-call}
 use Rattle.cool_explanations.proofs.process.perform.Goals as goal
 
@@ -15,11 +15,11 @@ returns-after-call g c =
       | else-call w ↦ inr (w.if-call.false, w.form-is)
     ] in
     let is = call_asked (call_of (codes "--lines") (words_of c.args.words.now)) c.in-Some.call c.if-call.form c.in-Some.ensures chosen in
-    let all = c.explain_over_system.ensures in
-    record { ended = ended_so _ _ _ _ _ _ _ _ _ _ is.0 is.1 (record { accepted = all.accepted; refused = all.refused; usage = λ e. ap words_of (all.usage e); no_name = λ e. all.no_name (no_words _ e); file_fault = all.file_fault; write_fault = all.write_fault; nothing = all.nothing; front = all.asked; note = all.note }) }
+    let all = c.perform_over_system.ensures in
+    record { ended = ended_so _ _ _ _ _ _ _ _ is.0 is.1 all.ended; asked = asked_so _ _ _ is.1 all.asked }
 
 pub returns-in-None : goal.returns-in-None
 returns-in-None g c =
     let is = none_asked (call_of (codes "--lines") (words_of c.args.words.now)) c.in-None.ensures in
-    let all = c.explain_over_system-in-None.ensures in
-    record { ended = ended_so _ _ _ _ _ _ _ _ _ _ is.0 is.1 (record { accepted = all.accepted; refused = all.refused; usage = λ e. ap words_of (all.usage e); no_name = λ e. all.no_name (no_words _ e); file_fault = all.file_fault; write_fault = all.write_fault; nothing = all.nothing; front = all.asked; note = all.note }) }
+    let all = c.perform_over_system-in-None.ensures in
+    record { ended = ended_so _ _ _ _ _ _ _ _ is.0 is.1 all.ended; asked = asked_so _ _ _ is.1 all.asked }
