@@ -86,7 +86,7 @@ const COOL_RULES = [
 ]
 ],
 "file": "crates/cool_classes/specs/ClassRows.antt",
-"line": 40,
+"line": 41,
 "source": "twice : (k : ℕ) (d : ClassDef) → IsClassAt ds k d → d.name ≢ self_type → IsNamedBefore ds k d.name → IsClassFault ds C1 d.at",
 "error": false
 }
@@ -165,7 +165,7 @@ const COOL_RULES = [
 ]
 ],
 "file": "crates/cool_classes/specs/ClassRows.antt",
-"line": 42,
+"line": 43,
 "source": "named_self_type : (k : ℕ) (d : ClassDef) → IsClassAt ds k d → d.name ≡ self_type → IsClassFault ds C2 d.at",
 "error": false
 },
@@ -233,7 +233,7 @@ const COOL_RULES = [
 ]
 ],
 "file": "crates/cool_classes/specs/ClassRows.antt",
-"line": 43,
+"line": 44,
 "source": "parent_self_type : (k : ℕ) (r : TypeRef) → HasParent ds k r → r.name ≡ self_type → IsClassFault ds C2 r.at",
 "error": false
 }
@@ -332,7 +332,7 @@ const COOL_RULES = [
 ]
 ],
 "file": "crates/cool_classes/specs/ClassRows.antt",
-"line": 45,
+"line": 46,
 "source": "no_parent : (k : ℕ) (r : TypeRef) → HasParent ds k r → r.name ≢ self_type → IsUnnamed ds r.name → IsClassFault ds C3 r.at",
 "error": false
 }
@@ -443,7 +443,7 @@ const COOL_RULES = [
 ]
 ],
 "file": "crates/cool_classes/specs/ClassRows.antt",
-"line": 47,
+"line": 48,
 "source": "barred_parent : (k : ℕ) (r : TypeRef) → HasParent ds k r → IsBarredName r.name → IsClassFault ds C4 r.at",
 "error": false
 }
@@ -522,7 +522,7 @@ const COOL_RULES = [
 ]
 ],
 "file": "crates/cool_classes/specs/ClassRows.antt",
-"line": 49,
+"line": 50,
 "source": "cycle : (k : ℕ) (d : ClassDef) → IsClassAt ds k d → IsOnCycle (parents_meant (names_with_basic ds) ds) k → IsClassFault ds C5 d.at",
 "error": false
 }
@@ -573,7 +573,7 @@ const COOL_RULES = [
 ]
 ],
 "file": "crates/cool_classes/specs/ClassRows.antt",
-"line": 51,
+"line": 52,
 "source": "no_main : IsUnnamed ds (codes \"Main\") → IsClassFault ds C6 (record { file = 0; line = 1; byte = 0 })",
 "error": false
 }
@@ -632,7 +632,7 @@ const COOL_RULES = [
 ]
 ],
 "file": "crates/cool_classes/specs/ClassRows.antt",
-"line": 53,
+"line": 54,
 "source": "too_many : (d : ClassDef) → IsClassAt ds MOST_CLASSES d → IsClassFault ds C7 d.at",
 "error": false
 }
@@ -681,7 +681,7 @@ const COOL_RULES = [
 ]
 ],
 "file": "crates/cool_rules/specs/Conformance.antt",
-"line": 26,
+"line": 27,
 "source": "Conforms p c SelfType SelfType = Unit {0}",
 "error": false
 },
@@ -729,7 +729,7 @@ const COOL_RULES = [
 ]
 ],
 "file": "crates/cool_rules/specs/Conformance.antt",
-"line": 27,
+"line": 28,
 "source": "Conforms p c SelfType (IsClass b) = Below p c b",
 "error": false
 },
@@ -777,7 +777,7 @@ const COOL_RULES = [
 ]
 ],
 "file": "crates/cool_rules/specs/Conformance.antt",
-"line": 29,
+"line": 30,
 "source": "Conforms p c (IsClass a) (IsClass b) = Below p a b",
 "error": false
 },
@@ -1072,7 +1072,7 @@ const COOL_RULES = [
 ]
 ],
 "file": "crates/cool_rules/specs/Conformance.antt",
-"line": 32,
+"line": 33,
 "source": "pub record IsJoinOfTypes (p : List Class) (c : ClassId) (a b join : Ty) : Type 0 where\n  pub left : Conforms p c a join\n  pub right : Conforms p c b join\n  pub least : (other : Ty) → Conforms p c a other → Conforms p c b other → Conforms p c join other",
 "error": false
 },
@@ -1338,7 +1338,7 @@ const COOL_RULES = [
 ]
 ],
 "file": "crates/cool_rules/specs/Typing.antt",
-"line": 176,
+"line": 177,
 "source": "IsTypedFeature p c (Method m) = FitsDeclared p c (formals_in_scope p m.formals) m.body m.result.name",
 "error": false
 },
@@ -1394,7 +1394,7 @@ const COOL_RULES = [
 ]
 ],
 "file": "crates/cool_rules/specs/Typing.antt",
-"line": 177,
+"line": 178,
 "source": "IsTypedFeature p c (Attribute a) = IsTypedInit p c a.declared.name a.init",
 "error": false
 },
@@ -1565,7 +1565,7 @@ const COOL_RULES = [
 ]
 ],
 "file": "crates/cool_rules/specs/Typing.antt",
-"line": 177,
+"line": 178,
 "source": "IsTypedFeature p c (Attribute a) = IsTypedInit p c a.declared.name a.init",
 "error": false
 },
@@ -3142,7 +3142,7 @@ const COOL_RULES = [
 ]
 ],
 "file": "crates/cool_rules/specs/Typing.antt",
-"line": 102,
+"line": 103,
 "source": "HasType p c scope (trees.Int at n) type = type ≡ int_type",
 "error": false
 },
@@ -3189,7 +3189,7 @@ const COOL_RULES = [
 ]
 ],
 "file": "crates/cool_rules/specs/Typing.antt",
-"line": 103,
+"line": 104,
 "source": "HasType p c scope (trees.Str at bytes) type = type ≡ string_type",
 "error": false
 },
@@ -3236,7 +3236,7 @@ const COOL_RULES = [
 ]
 ],
 "file": "crates/cool_rules/specs/Typing.antt",
-"line": 104,
+"line": 105,
 "source": "HasType p c scope (trees.Bool at b) type = type ≡ bool_type",
 "error": false
 }
@@ -3465,7 +3465,7 @@ const COOL_RULES = [
 ]
 ],
 "file": "crates/cool_rules/specs/Typing.antt",
-"line": 101,
+"line": 102,
 "source": "HasType p c scope (trees.Id at name) type = type_in_scope scope name ≡ Some type",
 "error": false
 },
@@ -3556,7 +3556,7 @@ const COOL_RULES = [
 ]
 ],
 "file": "crates/cool_rules/specs/Typing.antt",
-"line": 101,
+"line": 102,
 "source": "HasType p c scope (trees.Id at name) type = type_in_scope scope name ≡ Some type",
 "error": false
 }
@@ -3939,7 +3939,7 @@ const COOL_RULES = [
 ]
 ],
 "file": "crates/cool_rules/specs/Typing.antt",
-"line": 105,
+"line": 106,
 "source": "HasType p c scope (trees.Assign at name e) type =\n    (declared : Ty) × IsNotSelf name × HasType p c scope e type × (found scope name ≡ Some declared) × Conforms p c type declared",
 "error": false
 }
@@ -4440,7 +4440,7 @@ const COOL_RULES = [
 ]
 ],
 "file": "crates/cool_rules/specs/Typing.antt",
-"line": 107,
+"line": 108,
 "source": "HasType p c scope (trees.Dispatch at e name es) type =\n    (receiver : Ty) × (given : List Ty) × HasType p c scope e receiver × HaveTypes p c scope es given × IsCall p c (class_of c receiver) name receiver given type",
 "error": false
 }
@@ -5637,7 +5637,7 @@ const COOL_RULES = [
 ]
 ],
 "file": "crates/cool_rules/specs/Typing.antt",
-"line": 109,
+"line": 110,
 "source": "HasType p c scope (trees.StaticDispatch at e class name es) type =\n    (receiver : Ty) × (given : List Ty) × (k : ClassId) × HasType p c scope e receiver × HaveTypes p c scope es given × Denotes p class.name (IsClass k)\n    × Conforms p c receiver (IsClass k) × IsCall p c k name receiver given type",
 "error": false
 }
@@ -6874,7 +6874,7 @@ const COOL_RULES = [
 ]
 ],
 "file": "crates/cool_rules/specs/Typing.antt",
-"line": 112,
+"line": 113,
 "source": "HasType p c scope (trees.If at test first second) type =\n    (t : Ty) × (u : Ty) × HasType p c scope test bool_type × HasType p c scope first t × HasType p c scope second u × IsJoinOfTypes p c t u type",
 "error": false
 }
@@ -7472,7 +7472,7 @@ const COOL_RULES = [
 ]
 ],
 "file": "crates/cool_rules/specs/Typing.antt",
-"line": 114,
+"line": 115,
 "source": "HasType p c scope (trees.While at test body) type = (t : Ty) × HasType p c scope test bool_type × HasType p c scope body t × (type ≡ object_type)",
 "error": false
 }
@@ -8050,7 +8050,7 @@ const COOL_RULES = [
 ]
 ],
 "file": "crates/cool_rules/specs/Typing.antt",
-"line": 115,
+"line": 116,
 "source": "HasType p c scope (trees.Block at es) type = HaveItems p c scope object_type es type",
 "error": false
 }
@@ -8432,7 +8432,7 @@ const COOL_RULES = [
 ]
 ],
 "file": "crates/cool_rules/specs/Typing.antt",
-"line": 116,
+"line": 117,
 "source": "HasType p c scope (trees.Let at name declared init e) type =\n    (bound : Ty) × IsNotSelf name × Denotes p declared.name bound × HasInit p c scope bound init × HasType p c (with_name name bound scope) e type",
 "error": false
 },
@@ -8701,7 +8701,7 @@ const COOL_RULES = [
 ]
 ],
 "file": "crates/cool_rules/specs/Typing.antt",
-"line": 116,
+"line": 117,
 "source": "HasType p c scope (trees.Let at name declared init e) type =\n    (bound : Ty) × IsNotSelf name × Denotes p declared.name bound × HasInit p c scope bound init × HasType p c (with_name name bound scope) e type",
 "error": false
 }
@@ -9452,7 +9452,7 @@ const COOL_RULES = [
 ]
 ],
 "file": "crates/cool_rules/specs/Typing.antt",
-"line": 118,
+"line": 119,
 "source": "HasType p c scope (trees.Case at e cs) type =\n    (t : Ty) × (ts : List Ty) × HasType p c scope e t × HaveBranches p c scope cs ts × AreDifferent (branch_types cs) × IsJoinOfBranches p c ts type",
 "error": false
 }
@@ -10229,7 +10229,7 @@ const COOL_RULES = [
 ]
 ],
 "file": "crates/cool_rules/specs/Typing.antt",
-"line": 120,
+"line": 121,
 "source": "HasType p c scope (trees.New at class) type = Denotes p class.name type",
 "error": false
 }
@@ -11012,7 +11012,7 @@ const COOL_RULES = [
 ]
 ],
 "file": "crates/cool_rules/specs/Typing.antt",
-"line": 121,
+"line": 122,
 "source": "HasType p c scope (trees.IsVoid at e) type = (t : Ty) × HasType p c scope e t × (type ≡ bool_type)",
 "error": false
 }
@@ -11295,7 +11295,7 @@ const COOL_RULES = [
 ]
 ],
 "file": "crates/cool_rules/specs/Typing.antt",
-"line": 124,
+"line": 125,
 "source": "HasType p c scope (trees.Arith at op a b) type = HasType p c scope a int_type × HasType p c scope b int_type × (type ≡ int_type)",
 "error": false
 }
@@ -13228,7 +13228,7 @@ const COOL_RULES = [
 ]
 ],
 "file": "crates/cool_rules/specs/Typing.antt",
-"line": 125,
+"line": 126,
 "source": "HasType p c scope (trees.Compare at op a b) type =\n    (t : Ty) × (u : Ty) × HasType p c scope a t × HasType p c scope b u × AreComparable op t u × (type ≡ bool_type)",
 "error": false
 },
@@ -13378,7 +13378,7 @@ const COOL_RULES = [
 ]
 ],
 "file": "crates/cool_rules/specs/Typing.antt",
-"line": 125,
+"line": 126,
 "source": "HasType p c scope (trees.Compare at op a b) type =\n    (t : Ty) × (u : Ty) × HasType p c scope a t × HasType p c scope b u × AreComparable op t u × (type ≡ bool_type)",
 "error": false
 },
@@ -13528,7 +13528,7 @@ const COOL_RULES = [
 ]
 ],
 "file": "crates/cool_rules/specs/Typing.antt",
-"line": 125,
+"line": 126,
 "source": "HasType p c scope (trees.Compare at op a b) type =\n    (t : Ty) × (u : Ty) × HasType p c scope a t × HasType p c scope b u × AreComparable op t u × (type ≡ bool_type)",
 "error": false
 },
@@ -13750,7 +13750,7 @@ const COOL_RULES = [
 ]
 ],
 "file": "crates/cool_rules/specs/Typing.antt",
-"line": 125,
+"line": 126,
 "source": "HasType p c scope (trees.Compare at op a b) type =\n    (t : Ty) × (u : Ty) × HasType p c scope a t × HasType p c scope b u × AreComparable op t u × (type ≡ bool_type)",
 "error": false
 }
@@ -14423,7 +14423,7 @@ const COOL_RULES = [
 ]
 ],
 "file": "crates/cool_rules/specs/Typing.antt",
-"line": 123,
+"line": 124,
 "source": "HasType p c scope (trees.Neg at e) type = HasType p c scope e int_type × (type ≡ int_type)",
 "error": false
 }
@@ -14795,7 +14795,7 @@ const COOL_RULES = [
 ]
 ],
 "file": "crates/cool_rules/specs/Typing.antt",
-"line": 122,
+"line": 123,
 "source": "HasType p c scope (trees.Not at e) type = HasType p c scope e bool_type × (type ≡ bool_type)",
 "error": false
 }
@@ -14972,7 +14972,7 @@ const COOL_RULES = [
 ]
 ],
 "file": "crates/cool_rules/specs/Typing.antt",
-"line": 130,
+"line": 131,
 "source": "HaveTypes p c scope Last [] = Unit {0}",
 "error": false
 },
@@ -15120,7 +15120,7 @@ const COOL_RULES = [
 ]
 ],
 "file": "crates/cool_rules/specs/Typing.antt",
-"line": 133,
+"line": 134,
 "source": "HaveTypes p c scope (More e es) (t ∷ ts) = HasType p c scope e t × HaveTypes p c scope es ts",
 "error": false
 },
@@ -15167,7 +15167,7 @@ const COOL_RULES = [
 ]
 ],
 "file": "crates/cool_rules/specs/Typing.antt",
-"line": 137,
+"line": 138,
 "source": "HaveItems p c scope before Last type = type ≡ before",
 "error": false
 },
@@ -15323,7 +15323,7 @@ const COOL_RULES = [
 ]
 ],
 "file": "crates/cool_rules/specs/Typing.antt",
-"line": 138,
+"line": 139,
 "source": "HaveItems p c scope before (More e es) type = (t : Ty) × HasType p c scope e t × HaveItems p c scope t es type",
 "error": false
 },
@@ -15358,7 +15358,7 @@ const COOL_RULES = [
 ]
 ],
 "file": "crates/cool_rules/specs/Typing.antt",
-"line": 147,
+"line": 148,
 "source": "HaveBranches p c scope NoCase [] = Unit {0}",
 "error": false
 },
@@ -15597,7 +15597,7 @@ const COOL_RULES = [
 ]
 ],
 "file": "crates/cool_rules/specs/Typing.antt",
-"line": 150,
+"line": 151,
 "source": "HaveBranches p c scope (CaseOf at name declared e cs) (t ∷ ts) =\n    ((d : ClassId) × IsNotSelf name × Denotes p declared.name (IsClass d) × HasType p c (with_name name (IsClass d) scope) e t) × HaveBranches p c scope cs ts",
 "error": false
 },
@@ -16539,7 +16539,7 @@ const COOL_RULES = [
 ]
 ],
 "file": "crates/cool_meaning/specs/BasicMethods.antt",
-"line": 122,
+"line": 123,
 "source": "basic p Abort at v vs = do\n  c ← given (class_of v)\n  stop (Aborted c)",
 "error": true
 }
@@ -16627,7 +16627,7 @@ const COOL_RULES = [
 ]
 ],
 "file": "crates/cool_meaning/specs/BasicMethods.antt",
-"line": 125,
+"line": 126,
 "source": "basic p TypeName at v vs = do\n  c ← given (class_of v)\n  give (Str (name_of p c))",
 "error": false
 }
@@ -16694,7 +16694,7 @@ const COOL_RULES = [
 ]
 ],
 "file": "crates/cool_meaning/specs/BasicMethods.antt",
-"line": 128,
+"line": 129,
 "source": "basic p Copy at v vs = copy p v",
 "error": false
 },
@@ -16749,7 +16749,7 @@ const COOL_RULES = [
 ]
 ],
 "file": "crates/cool_meaning/specs/BasicMethods.antt",
-"line": 128,
+"line": 129,
 "source": "basic p Copy at v vs = copy p v",
 "error": false
 },
@@ -16804,7 +16804,7 @@ const COOL_RULES = [
 ]
 ],
 "file": "crates/cool_meaning/specs/BasicMethods.antt",
-"line": 128,
+"line": 129,
 "source": "basic p Copy at v vs = copy p v",
 "error": false
 },
@@ -17004,7 +17004,7 @@ const COOL_RULES = [
 ]
 ],
 "file": "crates/cool_meaning/specs/BasicMethods.antt",
-"line": 128,
+"line": 129,
 "source": "basic p Copy at v vs = copy p v",
 "error": false
 }
@@ -17098,7 +17098,7 @@ const COOL_RULES = [
 ]
 ],
 "file": "crates/cool_meaning/specs/BasicMethods.antt",
-"line": 129,
+"line": 130,
 "source": "basic p OutString at v vs = do\n  w ← one vs\n  bytes ← as_string w\n  working (length bytes) (print bytes)\n  give v",
 "error": false
 }
@@ -17196,7 +17196,7 @@ const COOL_RULES = [
 ]
 ],
 "file": "crates/cool_meaning/specs/BasicMethods.antt",
-"line": 134,
+"line": 135,
 "source": "basic p OutInt at v vs = do\n  w ← one vs\n  n ← as_number w\n  print (signed_decimal n)\n  give v",
 "error": false
 }
@@ -17300,7 +17300,7 @@ const COOL_RULES = [
 ]
 ],
 "file": "crates/cool_meaning/specs/BasicMethods.antt",
-"line": 139,
+"line": 140,
 "source": "basic p InString at v vs = do\n  bytes ← take_line\n  new_string bytes",
 "error": false
 }
@@ -17404,7 +17404,7 @@ const COOL_RULES = [
 ]
 ],
 "file": "crates/cool_meaning/specs/BasicMethods.antt",
-"line": 142,
+"line": 143,
 "source": "basic p InInt at v vs = do\n  bytes ← take_line\n  new_number (number_of bytes)",
 "error": false
 }
@@ -17471,7 +17471,7 @@ const COOL_RULES = [
 ]
 ],
 "file": "crates/cool_meaning/specs/BasicMethods.antt",
-"line": 145,
+"line": 146,
 "source": "basic p Length at v vs = do\n  bytes ← as_string v\n  new_number (signed (length bytes))",
 "error": false
 }
@@ -17548,7 +17548,7 @@ const COOL_RULES = [
 ]
 ],
 "file": "crates/cool_meaning/specs/BasicMethods.antt",
-"line": 148,
+"line": 149,
 "source": "basic p Concat at v vs = do\n  bytes ← as_string v\n  w ← one vs\n  more ← as_string w\n  new_string (bytes ++ more)",
 "error": false
 }
@@ -17651,7 +17651,7 @@ const COOL_RULES = [
 ]
 ],
 "file": "crates/cool_meaning/specs/BasicMethods.antt",
-"line": 153,
+"line": 154,
 "source": "basic p Substr at v vs = do\n  bytes ← as_string v\n  ws ← two vs\n  i ← as_number ws.0\n  l ← as_number ws.1\n  substring at (part bytes i l)",
 "error": true
 },
@@ -17747,7 +17747,7 @@ const COOL_RULES = [
 ]
 ],
 "file": "crates/cool_meaning/specs/BasicMethods.antt",
-"line": 153,
+"line": 154,
 "source": "basic p Substr at v vs = do\n  bytes ← as_string v\n  ws ← two vs\n  i ← as_number ws.0\n  l ← as_number ws.1\n  substring at (part bytes i l)",
 "error": false
 }
@@ -19251,7 +19251,7 @@ const COOL_RULES = [
 ]
 ],
 "file": "crates/cool_syntax/specs/Shapes.antt",
-"line": 11
+"line": 12
 }
 ],
 "faults": [
@@ -19303,7 +19303,7 @@ const COOL_RULES = [
 "words": "Each argument conforms to its formal, and there are as many",
 "name": "AreArguments",
 "file": "crates/cool_rules/specs/Typing.antt",
-"line": 58,
+"line": 59,
 "source": "AreArguments p c [] [] = Unit {0}\nAreArguments p c [] (formal ∷ formals) = ⊥\nAreArguments p c (t ∷ ts) [] = ⊥\nAreArguments p c (t ∷ ts) (formal ∷ formals) = ((u : Ty) × Denotes p formal u × Conforms p c t u) × AreArguments p c ts formals"
 },
 {
@@ -19341,7 +19341,7 @@ const COOL_RULES = [
 "words": "The first class on the chain of this one that has a method of the name has this one",
 "name": "IsImplementation",
 "file": "crates/cool_rules/specs/Typing.antt",
-"line": 54,
+"line": 55,
 "source": "IsImplementation p c f m = (ds : List ClassId) × IsChain p (Some c) ds × (implementation p ds f ≡ Some m)"
 },
 {
@@ -19371,7 +19371,7 @@ const COOL_RULES = [
 "words": "",
 "name": "IsJoinOfBranches",
 "file": "crates/cool_rules/specs/Typing.antt",
-"line": 89,
+"line": 90,
 "source": "IsJoinOfBranches p c [] join = join ≡ object_type\nIsJoinOfBranches p c (t ∷ ts) join = IsJoinOfAll p c (t ∷ ts) join"
 },
 {
@@ -19393,7 +19393,7 @@ const COOL_RULES = [
 "words": "",
 "name": "IsNotSelf",
 "file": "crates/cool_rules/specs/Typing.antt",
-"line": 47,
+"line": 48,
 "source": "IsNotSelf name = bytes_eq name (codes \"self\") ≡ false"
 },
 {
@@ -19411,7 +19411,7 @@ const COOL_RULES = [
 "words": "",
 "name": "attributes_in_scope",
 "file": "crates/cool_rules/specs/Typing.antt",
-"line": 158,
+"line": 159,
 "source": "attributes_in_scope p rs = map (attribute_binding p) rs"
 },
 {
@@ -19455,7 +19455,7 @@ const COOL_RULES = [
 "words": "The names of the types of branches",
 "name": "branch_types",
 "file": "crates/cool_rules/specs/Typing.antt",
-"line": 94,
+"line": 95,
 "source": "branch_types NoCase = []\nbranch_types (CaseOf at name declared t cs) = declared.name ∷ branch_types cs"
 },
 {
@@ -19485,7 +19485,7 @@ const COOL_RULES = [
 "words": "The class that a type stands for in a class",
 "name": "class_of",
 "file": "crates/cool_rules/specs/Conformance.antt",
-"line": 20,
+"line": 21,
 "source": "class_of c (IsClass a) = a\nclass_of c SelfType = c"
 },
 {
@@ -19503,7 +19503,7 @@ const COOL_RULES = [
 "words": "",
 "name": "formals_in_scope",
 "file": "crates/cool_rules/specs/Typing.antt",
-"line": 155,
+"line": 156,
 "source": "formals_in_scope p fs = map (formal_binding p) fs"
 },
 {
@@ -19651,7 +19651,7 @@ const COOL_RULES = [
 "words": "The type of a call whose method declares a result",
 "name": "result_on",
 "file": "crates/cool_rules/specs/Typing.antt",
-"line": 65,
+"line": 66,
 "source": "result_on receiver (IsClass c) = IsClass c\nresult_on receiver SelfType = receiver"
 },
 {
@@ -19685,7 +19685,7 @@ const COOL_RULES = [
 "words": "",
 "name": "with_name",
 "file": "crates/cool_rules/specs/Typing.antt",
-"line": 50,
+"line": 51,
 "source": "with_name name type scope = record { name = name; value = type } ∷ scope"
 },
 {
@@ -19803,7 +19803,7 @@ const COOL_RULES = [
 "words": "The class of an object; void has none",
 "name": "class_of",
 "file": "crates/cool_meaning/specs/Values.antt",
-"line": 15,
+"line": 16,
 "source": "class_of Void = None\nclass_of (Int n) = Some (class_number 2)\nclass_of (Bool b) = Some (class_number 3)\nclass_of (Str bytes) = Some (class_number 4)\nclass_of (Obj c i ls) = Some c"
 },
 {
@@ -19825,7 +19825,7 @@ const COOL_RULES = [
 "words": "The value that a variable of a type begins with",
 "name": "default_of",
 "file": "crates/cool_meaning/specs/Values.antt",
-"line": 23,
+"line": 24,
 "source": "default_of type =\n    if bytes_eq type (codes \"Int\") then Int (pos 0)\n    else (if bytes_eq type (codes \"Bool\") then Bool false\n    else (if bytes_eq type (codes \"String\") then Str [] else Void))"
 },
 {
@@ -19983,7 +19983,7 @@ const COOL_RULES = [
 "words": "",
 "name": "line_of",
 "file": "crates/cool_meaning/specs/BasicMethods.antt",
-"line": 99,
+"line": 100,
 "source": "line_of [] = record { bytes = []; rest = [] }\nline_of (b ∷ rest) =\n    if b == 0 then line_of rest\n    else (if b == 10 then record { bytes = []; rest = rest }\n    else record { bytes = b ∷ (line_of rest).bytes; rest = (line_of rest).rest })"
 },
 {
@@ -20009,7 +20009,7 @@ const COOL_RULES = [
 "words": "The location of a name",
 "name": "location_of",
 "file": "crates/cool_meaning/specs/Values.antt",
-"line": 49,
+"line": 50,
 "source": "location_of [] name = None\nlocation_of (b ∷ bs) name = if bytes_eq b.name name then Some b.location else location_of bs name"
 },
 {
@@ -20125,7 +20125,7 @@ const COOL_RULES = [
 "words": "So many bytes from a position, where the string has them",
 "name": "part",
 "file": "crates/cool_meaning/specs/BasicMethods.antt",
-"line": 111,
+"line": 112,
 "source": "part bytes (pos i) (pos l) = if nat_le (i + l) (length bytes) then Some (take l (drop i bytes)) else None\npart bytes (pos i) (negsuc l) = None\npart bytes (negsuc i) l = None"
 },
 {

@@ -1,4 +1,4 @@
--- The number of bytes of the text of `big_program`.
+-- Lemmas on the number of bytes of the text of `big_program`: of its lines of each kind, of its class Main, and of the whole.
 use Rattle.std.proofs.Common.{◌≡◌, ℕ, zero, suc, ◌+◌, ◌*◌, List, ◌++◌, length, flat_map, codes, refl, arith}
 use Rattle.std.specs.List.{range_with_len}
 use Rattle.std.proofs.lemmas.List.{length-append}

@@ -1,6 +1,6 @@
--- The text of a large valid program, from a number n: a chain of n + 1 classes, of which all but the first define a method anew, and a
--- class Main, which calls each of these methods once. For each i from 1 to n it writes 2001 + 2 * i and a newline. The syntax is that of
--- the Cool manual, section 11.
+-- `big_text` is the text of a large valid program, from a number n, in the syntax of the Cool manual, section 11. It has a chain of n + 1 classes, of which
+-- all but the first redefine a method, and a class Main, which calls each of these methods once. For each i from 1 to n the program writes 2001 + 2 * i and a
+-- newline.
 use Rattle.std.specs.Prelude.{◌≡◌, ℕ, ◌+◌, ◌-◌, ◌/◌, ◌%◌, List, [], ◌∷◌, ◌++◌, length, flat_map, codes, refl}
 use Rattle.std.specs.List.{range_with_len}
 use Rattle.cool_big.specs.declared.line.Line.{Line}
@@ -22,7 +22,7 @@ root_text = codes "class K0000 inherits IO { a : Int <- 1; f(x : Int) : Int { x 
 abbrev pub class_text : ℕ → List ℕ
 class_text i = numbered (codes "class K") i ++ (numbered (codes " inherits K") (i - 1) ++ codes " { f(x : Int) : Int { x * 2 + a }; };\n")
 
--- the method of Main that writes what the class of i makes of 1000 + i
+-- the method of Main that calls the method f of the class of i with 1000 + i, and writes the result
 abbrev pub method_text : ℕ → List ℕ
 method_text i =
     numbered (codes "  m") i ++ (numbered (codes "() : Object { out_int((new K") i

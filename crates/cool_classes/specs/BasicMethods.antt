@@ -1,5 +1,5 @@
--- The tables of the methods of the basic classes, as the code has them: they agree with `basic_methods`, `basic_formals` and `basic_result` of
--- `Features.antt`.
+-- `named_methods` and `IsSignature` relate the code's tables of the methods of the basic classes to `basic_methods`, `basic_formals` and `basic_result` of
+-- Features.antt.
 use Rattle.std.specs.Prelude.{◌≡◌, ◌<◌, ◌≤◌, List, map, length}
 use Rattle.std.specs.List.{AllByRecursion}
 use Rattle.cool_classes.specs.declared.basic_methods.BasicSignature.{BasicSignature}
@@ -14,7 +14,7 @@ use Rattle.cool_classes.specs.Tables.{basic_classes}
 abbrev pub named_methods : List row.NamedMethod → List NamedMethod
 named_methods = map (λ (m : row.NamedMethod). record { name = m.0.now; method = m.1 })
 
--- a signature is that of a basic method; a basic method has two formals at most
+-- the code's signature is that of the basic method, which has at most two formals
 pub record IsSignature (method : BasicMethod) (found : BasicSignature) : Type 0 where
   pub formals : map (name_of basic_classes) found.formals.now ≡ basic_formals method
   pub basic : AllByRecursion (λ (c : ClassId). c.0 < 5) found.formals.now

@@ -1,5 +1,5 @@
--- The expressions of features, which are the bodies of methods and the initial values of attributes (the Cool manual, sections 5 and 6),
--- and tables with another expression or another feature in the place of one.
+-- `body_at` is the expression of a feature: the body of a method or the initial value of an attribute (the Cool manual, sections 5 and 6). `with_body_at`
+-- replaces it in a class table, and `with_feature_at` replaces a whole feature.
 use Rattle.std.specs.Prelude.{ℕ, zero, suc, List, [], ◌∷◌, slice_get, Option, Some, None, option_map, codes, ◌≡◌, refl}
 use Rattle.cool_syntax.specs.declared.file_tree.Feature.{Feature}
 use Rattle.cool_syntax.specs.declared.file_tree.Feature.TheVariants.{Method, Attribute}

@@ -1,4 +1,5 @@
--- The faults of classes by the rows of the Cool manual's rules (section 3) and of the limit on classes: which fault each violation has, and its place.
+-- `IsClassFault` has a row for each rule of classes (the Cool manual, section 3) and for the limit on their number: which fault a violation has, and its
+-- place. `HasRows` says that an error has exactly these faults, or exactly those of the features.
 use Rattle.std.specs.Prelude.{◌≡◌, ◌≢◌, ◌⊎◌, ℕ, ◌+◌, List, ◌++◌, take, slice_get, Contains, Some, codes}
 use Rattle.cool_syntax.specs.declared.place.Place.{Place}
 use Rattle.cool_syntax.specs.declared.type_ref.TypeRef.{TypeRef}
@@ -59,7 +60,7 @@ IsFaultFrom p k stand kind at = (i : ℕ) × (here : Place) × (slice_get stand 
 abbrev pub IsTableFault : List ClassDef → ClassKind → Place → Type 0
 IsTableFault ds = IsFaultFrom (classes_meant ds) 5 (places ds)
 
--- an error is out of memory, or has exactly the faults of the rows of classes, or else those of the rows of features
+-- an error is out of memory, or has exactly the faults of the rows of classes, or exactly those of the rows of features
 abbrev pub HasRows : List ClassDef → TableError → Type 0
 HasRows ds error.Memory = Unit {0}
 HasRows ds (error.Faults faults) = AreRows (IsClassFault ds) faults ⊎ AreRows (IsTableFault ds) faults

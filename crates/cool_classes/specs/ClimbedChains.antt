@@ -3,13 +3,13 @@ use Rattle.std.specs.Prelude.{◌≡◌, ℕ, zero, suc, List, [], ◌∷◌, le
 use Rattle.cool_classes.specs.declared.class_id.ClassId.{ClassId}
 use Rattle.cool_classes.specs.Chains.{Class, class_number, parent_of, three}
 
--- the classes from one up, as far as so many steps go
+-- the classes from one up, at most `n` of them
 unfoldable pub climbed : ℕ → List Class → Option ClassId → List ClassId
 climbed zero p o = []
 climbed (suc n) p None = []
 climbed (suc n) p (Some c) = c ∷ climbed n p (parent_of p c)
 
--- the classes above a class, which are no more than there are
+-- the classes above a class, of which there are at most as many as the table has
 unfoldable pub above : List Class → ClassId → List ClassId
 above p c = climbed (length p) p (parent_of p c)
 

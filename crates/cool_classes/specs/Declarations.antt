@@ -1,4 +1,4 @@
--- The declarations of features: names and types, without places, bodies and initial values.
+-- `DeclareSame` says that two features declare the same names and types, and `AreAlike` that two classes differ at most in bodies, initial values and places.
 use Rattle.std.specs.Prelude.{◌≡◌, refl, ℕ, List, [], ◌∷◌, map, codes, Option, Some, None}
 use Rattle.cool_syntax.specs.declared.file_tree.Feature.{Feature}
 use Rattle.cool_syntax.specs.declared.file_tree.Feature.TheVariants.{Method, Attribute}

@@ -1,5 +1,5 @@
--- The table that definitions make: each class after the basic ones is a definition, in the order of files and text (the Cool manual,
--- sections 3 and 11).
+-- `IsTableOf` says which class table the definitions of a program make: after the basic classes, one class for each definition, in the order of files and
+-- text (the Cool manual, sections 3 and 11).
 use Rattle.std.specs.Prelude.{◌≡◌, ◌-◌, ◌<◌, ◌^◌, List, [], ◌∷◌, ◌++◌, length, drop, Option, Some, None}
 use Rattle.std.specs.List.{AllByRecursion}
 use Rattle.cool_syntax.specs.declared.type_ref.TypeRef.{TypeRef}
@@ -15,7 +15,7 @@ abbrev pub definitions : List FileTree → List ClassDef
 definitions [] = []
 definitions (file ∷ files) = file.classes ++ definitions files
 
--- so few that numbers of 32 bits name each class, each feature and each formal
+-- the definitions are so few that a 32-bit number can name each class, each feature of a class and each formal of a method
 abbrev pub HasFewFormals : Feature → Type 0
 HasFewFormals (Method m) = length m.formals < 2 ^ 32
 HasFewFormals (Attribute a) = Unit {0}

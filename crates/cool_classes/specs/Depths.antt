@@ -1,4 +1,4 @@
--- The number of classes above each class, from the parents of all (the Cool manual, section 3).
+-- `HasDepth` says how many classes are above a class, and `AreDepths` that a list has this number for each definition (the Cool manual, section 3).
 use Rattle.std.specs.Prelude.{◌≡◌, ℕ, zero, suc, ◌+◌, ◌<◌, List, [], ◌∷◌, map, length, get_or, Option, Some, None, refl}
 use Rattle.cool_classes.specs.declared.class_id.ClassId.{ClassId}
 use Rattle.cool_classes.specs.Chains.{class_number}

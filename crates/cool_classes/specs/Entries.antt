@@ -1,4 +1,5 @@
--- The entries of a table seen as classes, with the number of classes above each.
+-- `as_class` converts an entry of the code's class table, which also stores the number of classes above the class, to a class of the definitions. `AreWhole`
+-- says that entries are a complete table, and that these numbers are right.
 use Rattle.std.specs.Prelude.{◌≡◌, ℕ, List, [], map, get_or, Option, Some, None, refl}
 use Rattle.cool_syntax.specs.declared.file_tree.Feature.{Feature}
 use Rattle.cool_syntax.specs.Tree.{Tree}
@@ -14,7 +15,7 @@ as_class e = record { name = e.name; parent = e.parent; features = e.features }
 abbrev pub classes : List Entry → List Class
 classes es = map as_class es
 
--- an entry with the feature at an index changed, with another expression in its place, and with another feature in its place
+-- an entry with the feature at an index changed: by a function, to one with another expression, and to another feature
 abbrev pub entry_changed : ℕ → (Feature → Feature) → Entry → Entry
 entry_changed k f e = record e { features = changed_at k f e.features }
 
@@ -35,7 +36,7 @@ pub record AreWhole (es : List Entry) : Type 0 where
   pub table : IsTable (classes es)
   pub grounded : IsGrounded (classes es) (depth_at es)
 
--- the depth of a basic class: none stands deeper than right below Object
+-- the depth of a basic class: 0 for Object, and 1 for the others, which inherit from Object
 abbrev pub basic_depth : Option ClassId → ℕ
 basic_depth None = 0
 basic_depth (Some object) = 1

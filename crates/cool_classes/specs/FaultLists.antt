@@ -1,4 +1,5 @@
--- The faults of classes and of features as lists: of which kinds they are, in which order and in which files.
+-- `IsFaultList` says that a list of faults is not empty, is in order, and has only faults of classes or only faults of features. `rank` is the order of the
+-- kinds of faults.
 use Rattle.std.specs.Prelude.{◌≢◌, ◌⊎◌, ℕ, ◌<◌, List, []}
 use Rattle.std.specs.List.{AllByRecursion}
 use Rattle.std.specs.List.Sorted.{IsPermutation}
@@ -44,12 +45,12 @@ pub record IsFaultList (faults : List ClassFault) : Type 0 where
   pub phase : AllByRecursion IsOfClasses faults ⊎ AllByRecursion IsOfFeatures faults
   pub order : AreInOrder standing_of faults
 
--- an error is out of memory or such a list
+-- an error is out of memory or has a list of faults
 abbrev pub IsRefusal : TableError → Type 0
 IsRefusal Memory = Unit {0}
 IsRefusal (Faults faults) = IsFaultList faults
 
--- the faults stand in one of so many files
+-- each fault is in one of so many files
 abbrev pub IsPlacedRefusal : ℕ → TableError → Type 0
 IsPlacedRefusal files Memory = Unit {0}
 IsPlacedRefusal files (Faults faults) = AllByRecursion (λ f. IsPlaced files f.at) faults

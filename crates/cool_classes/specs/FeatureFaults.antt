@@ -1,4 +1,5 @@
--- The faults of the features of a class, feature by feature (the Cool manual, sections 5, 6 and 8, and the limits of this compiler).
+-- `class_faults` lists the faults of a class: feature by feature, then its method main, then its limits (the Cool manual, sections 5, 6 and 8, and the limits
+-- of this compiler).
 use Rattle.std.specs.Prelude.{ℕ, ◌+◌, List, [], ◌∷◌, ◌++◌, map, length, slice_get, Option, Some, None, is_some, Bool, true, false, not, ◌&&◌, ◌||◌, nat_lt, codes, bytes_eq, if◌then◌else◌}
 use Rattle.cool_syntax.specs.declared.place.Place.{Place}
 use Rattle.cool_syntax.specs.declared.type_ref.TypeRef.{TypeRef}
@@ -26,7 +27,7 @@ noted b kind at = if b then record { kind = kind; at = at } ∷ [] else []
 abbrev pub is_class : List Class → List ℕ → Bool
 is_class p name = is_some (first_index 0 (map (λ (c : Class). Some c.name) p) name)
 
--- F6
+-- F6 for a type that is no class and not SELF_TYPE
 abbrev pub type_faults : List Class → TypeRef → List ClassFault
 type_faults p r = noted (not (bytes_eq r.name self_type || is_class p r.name)) F6 r.at
 

@@ -1,4 +1,4 @@
--- The faults of features by the rows of the Cool manual's rules (sections 5, 6 and 8) and of the limits: which fault each violation has, and its place.
+-- `IsFeatureFault` has a row for each rule of features (the Cool manual, sections 5, 6 and 8) and for each limit: which fault a violation has, and its place.
 use Rattle.std.specs.Prelude.{◌≡◌, ◌≢◌, ◌⊎◌, ℕ, ◌<◌, List, [], ◌∷◌, length, slice_get, Contains, Some, codes}
 use Rattle.std.specs.List.{AllByRecursion}
 use Rattle.cool_syntax.specs.declared.place.Place.{Place}
@@ -36,7 +36,7 @@ IsNoType p name = (name ≢ self_type) × ((c : ClassId) → c.0 < length p → 
 abbrev pub HasOtherSignature : List Class → MethodDef → MethodRef → Type 0
 HasOtherSignature p m q = (declared_types m.formals ≢ formals_of p q) ⊎ (m.result.name ≢ result_of p q)
 
--- a fault of a class, whose name stands here, below these classes
+-- a fault of the class `c`, whose name is at the place `here`, and whose ancestors are `ds`
 pub data IsFeatureFault (p : List Class) (c : ClassId) (ds : List ClassId) (here : Place) : ClassKind → Place → Type 0 where
   -- an earlier method of the class has the name
   method_twice : (i j : ℕ) (m n : MethodDef) → IsMethodAt p c i m → j < i → IsMethodAt p c j n → n.name ≡ m.name → IsFeatureFault p c ds here F1 m.at
@@ -64,7 +64,7 @@ pub data IsFeatureFault (p : List Class) (c : ClassId) (ds : List ClassId) (here
   attributes_over : MOST_ATTRIBUTES < length (attributes_of p (c ∷ ds)) → IsFeatureFault p c ds here F9 here
   methods_over : MOST_METHODS < length (methods_of p (c ∷ ds)) → IsFeatureFault p c ds here F9 here
 
--- these are exactly the faults of a row
+-- the list has exactly the faults of the rows
 pub record AreRows (IsRow : ClassKind → Place → Type 0) (faults : List ClassFault) : Type 0 where
   pub only : AllByRecursion (λ (f : ClassFault). IsRow f.kind f.at) faults
   pub all : (kind : ClassKind) (at : Place) → IsRow kind at → Contains faults (record { kind = kind; at = at })

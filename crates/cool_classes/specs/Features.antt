@@ -138,7 +138,7 @@ IsMethod None = ⊥
 IsMethod (Some (Method m)) = Unit {0}
 IsMethod (Some (Attribute a)) = ⊥
 
--- there is such a method
+-- the table has this method
 abbrev pub HasMethod : List Class → MethodRef → Type 0
 HasMethod p (Basic b) = Unit {0}
 HasMethod p (User c k) = (c.0 < length p) × IsMethod (slice_get (features_of p c) k)
@@ -148,7 +148,7 @@ IsAttribute None = ⊥
 IsAttribute (Some (Method m)) = ⊥
 IsAttribute (Some (Attribute a)) = Unit {0}
 
--- there is such an attribute; its name, and its type as the source names it
+-- The table has this attribute. Next: its name, and its type as the source names it.
 abbrev pub HasAttribute : List Class → AttributeRef → Type 0
 HasAttribute p a = (a.owner.0 < length p) × IsAttribute (slice_get (features_of p a.owner) a.index)
 

@@ -1,4 +1,5 @@
--- Names in a row, in which some items have none: the index at which each name stands first.
+-- `first_index` is the index of the first item that has a name in a list in which some items have none. `FindsFirst` says that a map finds this index for
+-- every name.
 use Rattle.std.specs.Prelude.{◌≡◌, ℕ, ◌+◌, List, [], ◌∷◌, map, Option, Some, None, Bool, false, nat_eq, codes, bytes_eq, if◌then◌else◌, refl}
 use Rattle.std.specs.Map.{lookup}
 use Rattle.std.specs.Global.{Vec}
@@ -24,7 +25,7 @@ abbrev pub is_index : ℕ → Option ℕ → Bool
 is_index k None = false
 is_index k (Some j) = nat_eq j k
 
--- the entries of a map, whose keys are names of its own
+-- the entries of a map, with each key as the list of its bytes
 abbrev pub shown_names : List (Vec ℕ × ℕ) → List (List ℕ × ℕ)
 shown_names = map (λ entry. (entry.0.items, entry.1))
 

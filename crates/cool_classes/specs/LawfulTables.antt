@@ -1,5 +1,5 @@
--- The rules of classes on which typing and running depend: from which classes others inherit, which methods may be defined anew, that no name stands twice,
--- and that there is a method main (the Cool manual, sections 3 to 6).
+-- `IsLawful` says that a class table keeps the rules on which typing and running depend: on parents, redefined methods, unique names, and the method main
+-- (the Cool manual, sections 3 to 6).
 use Rattle.std.specs.Prelude.{◌≡◌, ◌≢◌, ℕ, ◌<◌, List, [], ◌∷◌, map, length, Some, codes}
 use Rattle.std.specs.List.{AllByRecursion}
 use Rattle.cool_syntax.specs.declared.file_tree.Feature.{Feature}

@@ -1,4 +1,5 @@
--- The limits of a table: the number of classes, and the numbers of attributes and methods of a class with those that it inherits.
+-- `KeepsLimits` says that a class table keeps this compiler's limits: on the number of classes, and on the attributes and methods of a class, inherited ones
+-- included.
 use Rattle.std.specs.Prelude.{◌≡◌, ◌≢◌, ℕ, ◌+◌, ◌≤◌, ◌<◌, List, [], ◌∷◌, length, Some, None, refl}
 use Rattle.std.specs.List.{AllByRecursion}
 use Rattle.cool_classes.specs.declared.TheConstants.{MOST_CLASSES, MOST_ATTRIBUTES, MOST_METHODS}
@@ -7,7 +8,7 @@ use Rattle.cool_classes.specs.Chains.{Class, IsChain}
 use Rattle.cool_classes.specs.Features.{implementation, attributes_of}
 use Rattle.lists.specs.Different.{AreDifferent}
 
--- the classes of a chain have a method of this name
+-- a class of the chain has a method of this name
 abbrev pub IsImplemented : List Class → List ClassId → List ℕ → Type 0
 IsImplemented p ds name = implementation p ds name ≢ None
 

@@ -1,4 +1,5 @@
--- A class with the classes above it, and sums over them.
+-- `IsLineage` says that the code's list of the classes above a class is right. `AreCounts` says the same of the code's numbers of attributes and methods that
+-- each class adds to those above it.
 use Rattle.std.specs.Prelude.{◌≡◌, ℕ, ◌+◌, ◌<◌, List, [], ◌∷◌, length, get_or}
 use Rattle.std.specs.List.{AllByRecursion}
 use Rattle.cool_classes.specs.declared.class_id.ClassId.{ClassId}

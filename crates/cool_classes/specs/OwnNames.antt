@@ -1,4 +1,4 @@
--- The names of the features of classes, each with the first feature of that name.
+-- `AreOwn` and `AreNamed` say that the code's maps find the first method and the first attribute of a name in a class, and the first class of a name.
 use Rattle.std.specs.Prelude.{◌≡◌, ℕ, ◌<◌, List, map, length, get_or, Some}
 use Rattle.cool_syntax.specs.declared.file_tree.Feature.{Feature}
 use Rattle.std.specs.Global.{Vec}

@@ -1,4 +1,5 @@
--- Entries of a table after its classes were checked, and before their features are: everything of a whole table except the types of features.
+-- `AreResolved` says that the classes of a table are checked and their features not yet. The table lacks only the properties of `AreGood`: the types of
+-- features are types, and the limits are kept.
 use Rattle.std.specs.Prelude.{◌≡◌, ◌≢◌, ℕ, ◌+◌, ◌<◌, ◌≤◌, ◌^◌, List, length, take}
 use Rattle.std.specs.List.{AllByRecursion}
 use Rattle.cool_syntax.specs.declared.place.Place.{Place}
@@ -14,7 +15,7 @@ use Rattle.cool_classes.specs.Entries.{classes, depth_at}
 use Rattle.cool_classes.specs.Limits.{KeepsLimits}
 use Rattle.cool_classes.specs.Names.{self_type}
 
--- The classes are settled.
+-- The classes have no fault: their names, parents, depths and number are right.
 pub record AreResolved (es : List Entry) : Type 0 where
   pub basic : take 5 (classes es) ≡ basic_classes
   pub grounded : IsGrounded (classes es) (depth_at es)
@@ -29,7 +30,7 @@ pub record AreGood (p : List Class) : Type 0 where
   pub types : (c : ClassId) → c.0 < length p → AllByRecursion (IsTyped p) (features_of p c)
   pub limits : KeepsLimits p
 
--- the features of all classes, and the names of the classes after the basic ones, stand in so many files
+-- the places in the features of all classes, and of the names of the classes after the basic ones, are in so many files
 abbrev pub ArePlaced : ℕ → List Entry → List Place → Type 0
 ArePlaced files es places =
     ((c : ClassId) → c.0 < length (classes es) → AllByRecursion (IsFeatureWithin files) (features_of (classes es) c))

@@ -1,4 +1,5 @@
--- Definitions whose classes have no fault, and the entries of a table that they make (the Cool manual, section 3).
+-- `AreSettled` says that the classes of definitions have no fault, and that these are their depths (the Cool manual, section 3). `entries_of` are the entries
+-- of the class table that the definitions make.
 use Rattle.std.specs.Prelude.{◌≡◌, ◌≢◌, ℕ, ◌≤◌, ◌<◌, List, [], ◌∷◌, ◌++◌, map, take, length, get_or, Option, Some, None, IsSome}
 use Rattle.std.specs.List.{AllByRecursion}
 use Rattle.cool_syntax.specs.declared.place.Place.{Place}
@@ -74,12 +75,12 @@ entries_meant names (d ∷ ds) (o ∷ os) =
 abbrev pub entries_of : List ClassDef → List (Option ℕ) → List Entry
 entries_of definitions depths = basic_entries ++ entries_meant (names_with_basic definitions) definitions depths
 
--- the faults with one of this kind at this place after them, where there is one
+-- the faults, followed by a fault of this kind at this place, if there is one
 abbrev pub with_fault : Option ClassKind → Place → List ClassFault → List ClassFault
 with_fault None at faults = faults
 with_fault (Some kind) at faults = faults ++ record { kind = kind; at = at } ∷ []
 
--- Faults were added: faults of classes, and placed where the files are as the first argument says.
+-- Only faults of classes were added, at places in files whose number keeps the condition `AreFilesOf`.
 pub record AddsFaults (AreFilesOf : ℕ → Type 0) (before after : List ClassFault) : Type 0 where
   pub kept : after ≡ [] → before ≡ []
   pub phase : AllByRecursion IsOfClasses before → AllByRecursion IsOfClasses after

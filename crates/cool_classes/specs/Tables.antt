@@ -1,4 +1,5 @@
--- Whole tables: which lists of classes are the table of a program (the Cool manual, sections 3 to 8).
+-- `IsTable` says which lists of classes are the class table of a program, and `IsWholeTable` adds that every chain of parents ends at Object (the Cool
+-- manual, sections 3 to 8).
 use Rattle.std.specs.Prelude.{◌≡◌, ◌≢◌, ℕ, ◌+◌, ◌<◌, ◌^◌, List, [], ◌∷◌, length, take, Option, Some, None, codes}
 use Rattle.std.specs.List.{AllByRecursion}
 use Rattle.cool_syntax.specs.declared.file_tree.Feature.{Feature}
@@ -28,7 +29,7 @@ IsClassName p name = (c : ClassId) × (c.0 < length p) × (name_of p c ≡ name)
 abbrev pub IsTypeName : List Class → List ℕ → Type 0
 IsTypeName p name = (t : Ty) × Denotes p name t
 
--- the types of a feature are types; that of a formal is a class
+-- the type names of a feature are classes or SELF_TYPE, and those of its formals are classes
 abbrev pub IsTyped : List Class → Feature → Type 0
 IsTyped p (Method m) = (length m.formals < 2 ^ 32) × AllByRecursion (λ (f : Formal). IsClassName p f.declared.name) m.formals × IsTypeName p m.result.name
 IsTyped p (Attribute a) = IsTypeName p a.declared.name
@@ -50,7 +51,7 @@ pub record IsGrounded (p : List Class) (depth : ClassId → ℕ) : Type 0 where
   pub above : (c q : ClassId) → c.0 < length p → parent_of p c ≡ Some q → (q.0 < length p) × (depth c ≡ depth q + 1)
   pub top : (c : ClassId) → c.0 < length p → parent_of p c ≡ None → (c ≡ class_number 0) × (depth c ≡ 0)
 
--- a whole table, whose chains all come to Object
+-- a whole table: a table in which every chain of parents ends at Object
 pub record IsWholeTable (p : List Class) : Type 0 where
   pub table : IsTable p
   pub depth : ClassId → ℕ

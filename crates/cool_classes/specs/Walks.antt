@@ -1,4 +1,5 @@
--- Walks from definitions up to the classes above them, which find depths and cycles.
+-- Invariants of the walks from each definition up to its ancestors, by which the code computes depths and finds cycles: `IsClimb` for one walk, `AreWalked`
+-- for all walks so far.
 use Rattle.std.specs.Prelude.{◌≡◌, ◌≢◌, ◌⊎◌, ℕ, ◌+◌, ◌<◌, ◌≤◌, List, [], ◌∷◌, length, get_or, slice_set, Contains, Option, Some, None, IsSome, is_none, nat_eq, if◌then◌else◌, refl}
 use Rattle.std.specs.List.{AllByRecursion, count_by}
 use Rattle.cool_classes.specs.declared.class_id.ClassId.{ClassId}
@@ -26,7 +27,7 @@ abbrev pub LeadsTo : List ClassId → List ℕ → ℕ → Type 0
 LeadsTo parents [] c = Unit {0}
 LeadsTo parents (k ∷ ks) c = (q : ClassId) × (get_or (parents_with_basic parents) (k + 5) None ≡ Some q) × (q.0 ≡ c) × LeadsTo parents ks (k + 5)
 
--- the end of a climb
+-- the end of a climb: at a class of known depth, at a definition that this climb has passed, or at one that an earlier climb passed
 abbrev pub IsAbove : List ClassId → List (Option ℕ) → List (Option ℕ) → ℕ → List (Option ℕ) → List ℕ → Above → Type 0
 IsAbove parents known before start after path (Known d) =
     (c : ℕ) × LeadsTo parents path c × (((k : ℕ) × (c ≡ k + 5) × (get_or known k None ≡ Some d)) ⊎ ((d < 2) × HasDepth (parents_with_basic parents) c d))
@@ -69,7 +70,7 @@ pub record AreCaught (parents : List ClassId) (start : ℕ) (known : List (Optio
 abbrev pub IsFound : List (Option ℕ) → List ℕ → ℕ → Type 0
 IsFound known cyclic k = IsSome (get_or known k None) ⊎ (cyclic ≢ [])
 
--- The walks from so many definitions are done.
+-- The walks from the first `start` definitions are done.
 pub record AreWalked (parents : List ClassId) (start : ℕ) (known : List (Option ℕ)) (cyclic : List ℕ) (passed : List (Option ℕ)) : Type 0 where
   pub same_known : length known ≡ length parents
   pub same_passed : length passed ≡ length parents

@@ -1,4 +1,4 @@
--- The constants that an operation asks for: the name of its file, for a division twice.
+-- An operation asks for one constant, the name of its file, and a division asks for it twice.
 use Rattle.std.proofs.Common.{◌≡◌, ℕ, List, []}
 use Rattle.std.specs.Prelude.{get_or}
 use Rattle.cool_syntax.specs.declared.place.Place.{Place}

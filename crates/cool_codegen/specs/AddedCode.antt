@@ -1,4 +1,5 @@
--- The precondition for making the code of a part of a body, and the lines and constants that the code adds.
+-- `IsReady` and `HasRoom` are the precondition for generating the code of a part of a body. `Adds` is the postcondition: the lines, spans and constants that
+-- the code adds.
 use Rattle.std.specs.Prelude.{◌≡◌, ℕ, ◌+◌, ◌*◌, ◌-◌, ◌^◌, ◌<◌, ◌≤◌, List, ◌++◌, length, map, Result, IfOk, OnOk}
 use Rattle.std.specs.List.{AllByRecursion}
 use Rattle.mips_isa.specs.Lines.{Line, lines_of}
@@ -30,7 +31,7 @@ pub record IsReady (s : CodeSetting) (vs : List Named) : Type 0 where
   pub sound : IsSound s
   pub types : HaveTypes s.table.now vs
 
--- At this depth, after these constants, there is room for the words that so many nodes push and the constants that they name.
+-- At this depth and after these constants, the words that so many nodes push and the constants that they name stay within the limits.
 pub record HasRoom (t : Constants) (depth size : ℕ) : Type 0 where
   pub deep : depth + size < 2 ^ 28
   pub integers : length t.integers + size < 2 ^ 32 - 1
@@ -53,8 +54,8 @@ pub record IsNodeOf (s : CodeSetting) (scope : List Binding) (id : NodeId) (node
   pub below : HasPartsBelow id.0 node
   pub places : IsTreeWithin (length s.names.now) (made (all_trees s.body.now) node)
 
--- Code was added for so many nodes, with what its spans show, and the constants are those after it, of which those before it have kept
--- their numbers. The setting and the names in scope are as before.
+-- The code of so many nodes was added, with these spans. The constants are those after the code, and those before it kept their numbers; the setting and the
+-- names in scope are as before.
 pub record Adds {X E : Type 0} (code : List Line) (shows : List Shown) (named : Constants) (size : ℕ) (before after : Code) (result : Result X E) : Type 0 where
   pub setting : after.setting ≡ before.setting
   pub scope : OnOk result (after.variables ≡ before.variables)
@@ -73,7 +74,7 @@ AddsNode depth id node before after result =
     (node_asked (context before.setting).files before.setting.body.now before.consts node)
     (node_size before.setting.body.now node) before after result
 
--- The file of a place has a name, for which there is room among the strings, and for one more.
+-- The file of a place has a name, and two more strings stay within the limit on strings.
 pub record CanName (s : CodeSetting) (t : Constants) (at : Place) : Type 0 where
   pub few : length t.strings + 2 < 2 ^ 32 - 1
   pub file : at.file < length s.names.now
@@ -85,8 +86,8 @@ pub record NotesAlone (before after : Code) : Type 0 where
   pub lines : after.lines ≡ before.lines
   pub consts : after.consts ≡ before.consts
 
--- Code of a feature was made with these names in scope in all of it. Its lines are the same by each table that goes on from the constants after it, and
--- its noted spans are the same by each table.
+-- The code of a feature was made, with these names in scope in all of it. Its lines are the same by each table that extends the constants after it, and its
+-- noted spans are the same by each table.
 pub record MakesCode {E : Type 0} (s : CodeSetting) (code : Constants → List Line) (shows : Constants → List Shown) (variables : List Named) (t u : Constants) (result : Result FeatureCode E) : Type 0 where
   pub lines : IfOk result (λ made. (g : Constants) → Extends u g → lines_of made.lines.items ≡ code g)
   pub spans : IfOk result (λ made. (g : Constants) → map shown_of made.spans.items ≡ noted s.wanted (shows g))
@@ -95,8 +96,8 @@ pub record MakesCode {E : Type 0} (s : CodeSetting) (code : Constants → List L
   pub strings : OnOk result (u.strings ≡ with_strings t.strings (strings_in (context s).files s.body.now))
   pub kept : Keeps t u
 
--- The code of a feature was made: its lines are the same by each table that goes on from the constants after it, and what is noted of its
--- spans by each table. The names are those in scope in all of it.
+-- The code of a feature was made: its lines are the same by each table that extends the constants after it, and its noted spans are the same by each table.
+-- The names are those in scope in all of the feature.
 pub record MakesFeature {E : Type 0} (want : Wanted) (s : Context) (x : Feature) (t u : Constants) (result : Result FeatureCode E) : Type 0 where
   pub lines : IfOk result (λ made. (g : Constants) → Extends u g → lines_of made.lines.items ≡ feature_code s g x)
   pub spans : IfOk result (λ made. (g : Constants) → map shown_of made.spans.items ≡ noted want (map (shown s g) (feature_spans length s g 0 x)))

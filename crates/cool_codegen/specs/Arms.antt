@@ -11,7 +11,7 @@ pub record Arm : Type 0 where
 abbrev pub arm_of : {S : Type 0} → declared_arm.Arm S → Arm
 arm_of a = record { depth = a.depth; lines = lines_of a.lines.items }
 
--- a branch after those of classes that are no less deep
+-- the branches with one more, which comes after those of classes that are at least as deep
 abbrev pub with_arm : List Arm → Arm → List Arm
 with_arm [] b = b ∷ []
 with_arm (a ∷ as') b = if nat_lt a.depth b.depth then b ∷ a ∷ as' else a ∷ with_arm as' b

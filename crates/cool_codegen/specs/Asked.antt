@@ -1,5 +1,5 @@
--- The constants that the code of an expression names, in the order in which it asks for their numbers: its integers, and its strings,
--- which are those of the source and the names of the files of places where a run may end.
+-- `integers_in` and `strings_in` list the constants that the code of an expression names, in the order in which it asks for their numbers. The strings are
+-- those of the source, and the names of the files of places where a run may end.
 use Rattle.std.specs.Prelude.{ℕ, ◌<◌, ◌≤◌, List, [], ◌∷◌, ◌++◌, ◌≡◌, get_or, length, slice_get}
 use Rattle.cool_syntax.specs.declared.place.Place.{Place}
 use Rattle.cool_syntax.specs.declared.operator.ArithOp.{ArithOp}
@@ -22,7 +22,7 @@ pub record Extends (table more : Constants) : Type 0 where
   pub integers : (rest : List ℕ) × (more.integers ≡ table.integers ++ rest)
   pub strings : (rest : List (List ℕ)) × (more.strings ≡ table.strings ++ rest)
 
--- a table in which each constant of another one has the number that it has there
+-- each constant of `table` has the same number in `more`
 pub record Keeps (table more : Constants) : Type 0 where
   pub no_fewer_integers : length table.integers ≤ length more.integers
   pub no_fewer_strings : length table.strings ≤ length more.strings
@@ -56,7 +56,7 @@ abbrev mutual
 abbrev pub file_of : List (List ℕ) → Place → List (List ℕ)
 file_of files at = get_or files at.file [] ∷ []
 
--- an operation names its file where its result does not fit, and a division also where the divisor is 0
+-- an operation names its file for the error if its result does not fit, and a division also for the error if the divisor is 0
 abbrev pub files_of : List (List ℕ) → ArithOp → Place → List (List ℕ)
 files_of files arith.Add at = file_of files at
 files_of files arith.Sub at = file_of files at

@@ -1,6 +1,6 @@
--- The code of expressions: their lines, as a function of the tree. It begins and ends with the same words on the stack behind the frame,
--- so many as its depth says, and leaves the value's address in $a0. The nodes before an expression in the list of the feature's nodes are
--- counted, so that each node has its number. Constants are named by their numbers in a table.
+-- `code` lists the lines of assembly of an expression, as a function of its tree. The code leaves the address of the value in $a0, and the stack as it was:
+-- as many words after the frame as its depth says. A node has its number in the list of the feature's nodes, and a constant is named by its number in a
+-- table.
 use Rattle.std.specs.Prelude.{ℕ, zero, suc, ℤ, pos, negsuc, ◌+◌, ◌-◌, ◌*◌, List, [], ◌++◌, length, codes, get_or, if◌then◌else◌, Option, Some, None, unwrap_or, nat_eq, Bool as Truth, true, false}
 use Rattle.cool_syntax.specs.declared.place.Place.{Place}
 use Rattle.cool_syntax.specs.declared.node.NodeId.{NodeId}

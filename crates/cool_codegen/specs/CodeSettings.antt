@@ -1,4 +1,4 @@
--- The settings in which the code of an expression is made: a class of a whole table, and the layout of that table.
+-- `IsSound` is the precondition for generating the code of an expression: it is in a class of a whole table, and the layout is that of this table.
 use Rattle.std.specs.Prelude.{◌≡◌, ◌<◌, List, length, map, string_bytes}
 use Rattle.std.specs.List.{AllByRecursion}
 use Rattle.cool_classes.specs.Chains.{Class}
@@ -28,7 +28,7 @@ typed_body s = record { table = s.table.now; class = s.class; body = s.body.now;
 abbrev pub HasTypesIn : CodeSetting → List Binding → Type 0
 HasTypesIn s scope = s.types.now ≡ node_types s.table.now s.class scope s.body.now
 
--- the feature, where it is an attribute
+-- the feature as an attribute, if it is one
 abbrev pub attribute_of : CodeSetting → AttributeRef
 attribute_of s = record { owner = s.class; index = s.feature }
 

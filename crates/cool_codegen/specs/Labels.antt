@@ -1,4 +1,4 @@
--- The labels within a feature, by their kind and by the class, the feature and the node to which they belong.
+-- `inner` is a label within a feature: its kind, and the numbers of the class, the feature and the node to which it belongs.
 use Rattle.std.specs.Prelude.{ℕ, List, ◌++◌, codes, decimal}
 use Rattle.mips_isa.specs.Lines.{Name}
 

@@ -1,5 +1,5 @@
--- Expressions by the numbers of their nodes in a body: their lines, the spans of these as they are shown, the constants after them and their sizes, as
--- functions of the numbers, and the same for a node by the numbers of its parts. Lines name constants by the table after the expression.
+-- Functions from the number of a node in a body to the size, the constants, the lines and the spans of its expression; the same for a node, from the numbers
+-- of its parts. Lines name constants by the table after the expression.
 use Rattle.std.specs.Prelude.{ℕ, ◌+◌, ◌-◌, List, [], ◌∷◌, ◌++◌, length, map, codes, Option, Some, None, get_or}
 use Rattle.cool_syntax.specs.declared.place.Place.{Place}
 use Rattle.cool_syntax.specs.declared.operator.ArithOp.{ArithOp}
@@ -148,7 +148,7 @@ within_branch s vs d w = bind d w.name (type_meant s.table w.declared.name) vs
 abbrev pub no_constants : Constants
 no_constants = record { integers = []; strings = [] }
 
--- lines: after a table, which names constants by the table after the expression
+-- lines: the first table is that before the expression, and constants are named by the table after it
 
 -- the number of nodes before the expression at a number
 abbrev pub nodes_before : Tree → NodeId → ℕ

@@ -1,4 +1,4 @@
--- Pieces of the code of expressions. Between the pieces $a0 has the value of the expression that just ended, $s0 self, and $fp the
+-- Pieces of the code of expressions, as lines of assembly. Between the pieces $a0 has the value of the expression that just ended, $s0 self, and $fp the
 -- frame. $t0 to $t6 are free; $t8 and $t9 have the place of an error: the String of the file's name, and the line.
 use Rattle.std.specs.Prelude.{ℕ, ℤ, pos, List, [], ◌∷◌}
 use Rattle.mips_isa.specs.Lines.{Name, Line}
@@ -94,7 +94,7 @@ flag_lines end =
     ∷ la A0 false_constant
     ∷ label end ∷ []
 
--- The result goes to $t2; $t0 is 0 exactly where it fits.
+-- The result goes to $t2; $t0 is 0 exactly if the result fits in 32 bits.
 unfoldable pub add_lines : List Line
 add_lines =
     addu T2 T3 T4
@@ -140,7 +140,7 @@ unfoldable pub is_zero_lines : List Line
 is_zero_lines =
     sltiu T0 T4 (pos 1) ∷ []
 
--- goes on where $t0 is 0
+-- execution continues if $t0 is 0, and otherwise ends with an error at this place
 unfoldable pub ends_where_lines : Name → Name → ℕ → Name → List Line
 ends_where_lines fits file at abort =
     bne T0 ZERO

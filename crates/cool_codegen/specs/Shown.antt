@@ -1,6 +1,5 @@
--- The data shown by the spans of code. Each span has the place and the form of an expression, and the lines of its feature from the first of its code to
--- behind the last. It also has the number of words that are pushed in the frame where it begins, the number of names in scope there, and the name that was
--- entered last.
+-- `Shown` is the data that a span of code shows: the place and the form of an expression, and its lines from the first up to the one after the last. It also
+-- has the number of words pushed in the frame where the span begins, the number of names in scope there, and the name entered last.
 use Rattle.std.specs.Prelude.{ℕ, ◌+◌, ◌≤◌, List, [], ◌∷◌, ◌++◌, length, map, slice_get, Option}
 use Rattle.std.specs.List.{AllByRecursion}
 use Rattle.std.specs.Global.{Vec}
@@ -59,11 +58,11 @@ whole vs d from to t = record { at = place_of t; form = form_of t; from = from; 
 abbrev pub shown : Context → Constants → Span → Shown
 shown s g x = whole x.scope x.depth x.from (x.from + length (code_of s g x)) x.tree
 
--- the same, except for the end
+-- the data with another end
 abbrev pub ended : ℕ → Shown → Shown
 ended to x = record { at = x.at; form = x.form; from = x.from; to = to; depth = x.depth; names = x.names; latest = x.latest }
 
--- the same, so many lines later
+-- the data of the same span so many lines later
 abbrev pub later : ℕ → Shown → Shown
 later n x = record { at = x.at; form = x.form; from = n + x.from; to = n + x.to; depth = x.depth; names = x.names; latest = x.latest }
 

@@ -1,6 +1,6 @@
 -- The spans of code: for each expression within a tree, where its code begins, and the names in scope there, the depth, and the number of nodes before it.
--- They are computed by the same recursion as the code. The count up to there is a measure of lines: their number (`length`), or the bytes of text that
--- they take (`sizes`), by which the place where the whole begins is a line or an address.
+-- They are computed by the same recursion as the code. A place in the code is a line if it is counted by `length`, and an address if it is counted by
+-- `sizes`.
 use Rattle.std.specs.Prelude.{◌≡◌, refl, ℕ, ◌+◌, List, [], ◌∷◌, ◌++◌, length, codes, nat_lt, if◌then◌else◌, Option, Some, None}
 use Rattle.cool_syntax.specs.declared.place.Place.{Place}
 use Rattle.cool_syntax.specs.declared.operator.ArithOp.TheVariants.{Add}

@@ -1,4 +1,4 @@
--- The meanings of names and lists in code: a name that is `self`, the class that a name means, and the number of arguments.
+-- Functions on names and lists that the code needs: whether a name is `self`, the class that a name means, and the number of arguments of a call.
 use Rattle.std.specs.Prelude.{ℕ, ◌+◌, List, bytes_eq, codes, Bool as Truth}
 use Rattle.cool_syntax.specs.Tree.{Trees, Last, More}
 use Rattle.cool_classes.specs.declared.class_id.ClassId.{ClassId}

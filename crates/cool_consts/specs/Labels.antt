@@ -1,4 +1,4 @@
--- The labels of constants, by the run-time conventions.
+-- The labels of integer and string constants in assembly code, by the run-time conventions.
 use Rattle.std.specs.Prelude.{ℕ, ◌++◌, codes, decimal}
 use Rattle.mips_isa.specs.Lines.{Name}
 

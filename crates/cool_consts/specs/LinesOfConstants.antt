@@ -1,4 +1,5 @@
--- The lines of constants: the two Bools, the integers, and the strings, each after the Int of its length.
+-- `constants_lines` lists the lines of assembly of a program's constants: the two Bools, the integers, and the strings, each string after the Int of its
+-- length.
 use Rattle.std.specs.Prelude.{ℕ, ◌+◌, List, [], ◌∷◌, ◌++◌}
 use Rattle.mips_isa.specs.Lines.{Line}
 use Rattle.cool_runtime.specs.Labels.{true_constant, false_constant}

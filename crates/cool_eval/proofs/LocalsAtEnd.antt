@@ -1,4 +1,4 @@
--- Variables seen as an environment, the latest first.
+-- A variable that is added at the end of the interpreter's list is the first of the environment.
 use Rattle.std.proofs.Common.{◌≡◌, List, [], ◌∷◌, ◌++◌, ap, refl}
 use Rattle.cool_meaning.specs.Values.{Environment}
 use Rattle.cool_eval.specs.declared.scene.Local.{Local}

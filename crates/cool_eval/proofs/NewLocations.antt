@@ -1,4 +1,4 @@
--- Values at new locations, as a computation gives them one after another.
+-- A computation that gives values new locations appends the values to the store, at the locations that follow.
 use Rattle.std.proofs.Common.{◌≡◌, ℕ, suc, List, [], ◌∷◌, ◌++◌, length, ap, sym, ◌∙◌, append_assoc, append-nil, length-append, arith}
 use Rattle.cool_meaning.specs.Values.{Value, State}
 use Rattle.cool_meaning.specs.Meters.{Outcome, Val, seq_of, give}

@@ -1,4 +1,4 @@
--- Values of a store as a contract sees them.
+-- A value that is set in a store is the value at its location, as contracts see the store.
 use Rattle.std.proofs.Common.{◌≡◌, ℕ, List, [], ◌∷◌, ◌++◌, length, map}
 use Rattle.std.proofs.lemmas.List.{length-map, map-append, map-set}
 use Rattle.std.specs.Prelude.{slice_set}

@@ -1,4 +1,5 @@
--- The interpreter's state, as a configuration of the machine that evaluates with frames.
+-- `frames_of` and `state_of` convert the interpreter's data to a configuration of the machine of StackMachine.antt, which evaluates with a stack of frames.
+-- `Comes` says that a step of the interpreter is a step of that machine, unless memory ran out.
 use Rattle.std.specs.Prelude.{◌≡◌, ℕ, ℤ, slice_get, ◌+◌, List, [], ◌∷◌, ◌++◌, length, map, Contains, Option, Some, None, Result, Ok, Err}
 use denote.Ref.{Bor}
 use Rattle.cool_syntax.specs.declared.place.Place.{Place}
@@ -43,7 +44,7 @@ abbrev pub class_name : Option (Bor (List ℕ)) → Option (List ℕ)
 class_name None = None
 class_name (Some name) = Some name.now
 
--- the parts of a dispatch; of another expression nothing is asked
+-- the parts of a dispatch; for other expressions the results do not matter
 abbrev pub place_of_call : Tree → Place
 place_of_call (Dispatch at t name ts) = at
 place_of_call (StaticDispatch at t class name ts) = at
@@ -89,7 +90,7 @@ focus_of p (focus.Begin scene part) = machine.Begin (value_of scene.value.me) (e
 focus_of p (focus.Return v) = machine.Return (value_of v)
 focus_of p (focus.Start o l rest) = machine.Start (values.Obj o.class o.identity (locations_from o.first o.count)) rest.now (locations_from l (length rest.now))
 
--- frames, the latest last, with the latest first
+-- the frames of the machine: the interpreter stores the latest last, and the machine has it first
 unfoldable pub stack_of : List Class → List Frame → List machine.Frame
 stack_of p [] = []
 stack_of p (f ∷ fs) = stack_of p fs ++ frame_of p f ∷ []
@@ -119,7 +120,7 @@ Comes p (Err ending.Memory) m input output next = Unit {0}
 Comes p (Err ending.ReadFault) m input output next = ⊥
 Comes p (Err ending.WriteFault) m input output next = ⊥
 
--- A value that leaves the state as it is, or its error: where there was memory, it is that of a computation.
+-- The value or the error is that of this computation, which leaves the state as it is, unless memory ran out.
 abbrev pub IsResultAt : Result Value Ending → Computation values.Value → State → ℕ → Type 0
 IsResultAt (Ok v) d s n = (d s n).outcome ≡ Val (value_of v) s n
 IsResultAt (Err (ending.Error e)) d s n = (d s n).outcome ≡ Stop (error_of e) s
@@ -129,7 +130,7 @@ IsResultAt (Err ending.StepLimit) d s n = ⊥
 IsResultAt (Err ending.ReadFault) d s n = ⊥
 IsResultAt (Err ending.WriteFault) d s n = ⊥
 
--- A value with the machine after it, that leaves input and output, or its error: where there was memory, it is this outcome.
+-- The value or the error, with the machine after it and the same input and output, is this outcome, unless memory ran out.
 abbrev pub IsResultOn : Result Value Ending → Machine → List ℕ → List ℕ → Outcome values.Value → Type 0
 IsResultOn (Ok v) m input output o = o ≡ Val (value_of v) (state_of m input output) m.left
 IsResultOn (Err (ending.Error e)) m input output o = o ≡ Stop (error_of e) (state_of m input output)
@@ -139,7 +140,7 @@ IsResultOn (Err ending.StepLimit) m input output o = ⊥
 IsResultOn (Err ending.ReadFault) m input output o = ⊥
 IsResultOn (Err ending.WriteFault) m input output o = ⊥
 
--- the same, whatever the state
+-- `IsResultAt` in every state
 abbrev pub IsResultOf : Result Value Ending → Computation values.Value → Type 0
 IsResultOf r d = (s : State) (n : ℕ) → IsResultAt r d s n
 
@@ -183,7 +184,7 @@ AreLoaded {A = A} vs ls (Err ending.StepLimit) = ⊥
 AreLoaded {A = A} vs ls (Err ending.ReadFault) = ⊥
 AreLoaded {A = A} vs ls (Err ending.WriteFault) = ⊥
 
--- no call waits
+-- the frame is not one that waits for the receiver of a call
 abbrev pub IsQuiet : Frame → Type 0
 IsQuiet (held.Receiver at class name given) = ⊥
 IsQuiet _ = Unit {0}

@@ -1,4 +1,5 @@
--- The relation between a result and the fault counts of a source and a sink.
+-- `Counted` relates a result to the numbers of failed reads of the source and failed writes of the sink: the result is such a fault exactly if its number
+-- rose.
 use Rattle.std.specs.Prelude.{◌≡◌, ◌<◌, ℕ, Result, Ok, Err}
 use Rattle.cool_ports.specs.Counts.{Rose}
 use Rattle.cool_eval.specs.declared.ending.Ending.{Ending}
@@ -10,7 +11,7 @@ use Rattle.cool_eval.specs.declared.evaluation.EvalEnd.TheVariants.{Done, Error,
 abbrev pub NoneRose : ℕ → ℕ → ℕ → ℕ → Type 0
 NoneRose source source' sink sink' = (source' ≡ source) × (sink' ≡ sink)
 
--- A fault of reading or writing comes only where its count rose, and all else only where none did.
+-- A fault of reading or writing comes only if its count rose, and any other result only if neither count did.
 abbrev pub Counted : {A : Type 0} → Result A Ending → ℕ → ℕ → ℕ → ℕ → Type 0
 Counted (Ok x) source source' sink sink' = NoneRose source source' sink sink'
 Counted (Err ending.ReadFault) source source' sink sink' = Rose source source' × (sink' ≡ sink)
@@ -20,7 +21,7 @@ Counted (Err ending.StepLimit) source source' sink sink' = NoneRose source sourc
 Counted (Err ending.Memory) source source' sink sink' = NoneRose source source' sink sink'
 Counted (Err ending.Stuck) source source' sink sink' = NoneRose source source' sink sink'
 
--- the same of a whole run
+-- `Counted` for the end of a whole run
 abbrev pub CountedEnd : EvalEnd → ℕ → ℕ → ℕ → ℕ → Type 0
 CountedEnd ReadFault source source' sink sink' = Rose source source' × (sink' ≡ sink)
 CountedEnd WriteFault source source' sink sink' = (source' ≡ source) × Rose sink sink'

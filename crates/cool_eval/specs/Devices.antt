@@ -1,4 +1,5 @@
--- Postcondition of interpreter steps with real devices, for an assumed input and the remaining part of it.
+-- `Acts` and `Reaches` are the postconditions of a basic method and of a step of the interpreter on real devices: a source of input and a sink for output,
+-- each of which may fail.
 use Rattle.std.specs.Prelude.{◌≡◌, ◌⊎◌, ℕ, Bool, true, List, [], ◌++◌, Option, Result, Ok, Err}
 use Rattle.cool_ports.specs.Answers.{Past, Leaves}
 use Rattle.cool_ports.specs.SinkBytes.{appended, GotPrefix}
@@ -31,15 +32,15 @@ sink_before first output = seen (appended first.held output) first.puts
 abbrev pub sink_after : SinkSeen → List ℕ → List ℕ → SinkSeen
 sink_after first output now = seen (appended first.held now) (first.puts ++ pieces_of 64 (written_since output now))
 
--- So it is for each input that the source may have had, of which a rest is left, and for each output that was put before to a sink that held
--- that of `first`. `ended` says whether the source answered its end before.
+-- `holds` is true for each input that the source may have had, of which `rest` is left, and for each output that was put before to a sink that held that of
+-- `first`. `ended` says whether the source answered its end before.
 abbrev pub OnDevices : Bool → Past → Past → SinkSeen → ((first : SinkSeen) (output input rest : List ℕ) → Type 0) → Type 0
 OnDevices ended past past' sink holds =
     (first : SinkSeen) (output input rest : List ℕ) → sink ≡ sink_before first output → Leaves past past' input rest
     → (ended ≡ true → input ≡ [])
     → holds first output input rest
 
--- at least the input is left that is left at a state
+-- at least the input of this state is left
 abbrev pub HasLeft : List ℕ → State → Type 0
 HasLeft rest s = (kept : List ℕ) × (rest ≡ kept ++ s.input)
 
@@ -48,19 +49,19 @@ abbrev pub HasPut : Option (List ℕ) → List ℕ → Option (List ℕ) → Sta
 HasPut first output held s =
     (printed : List ℕ) × (s.output ≡ output ++ printed) × GotPrefix (appended first output) printed held
 
--- and of its pieces a front was given to the sink to put
+-- `HasPut`, and the sink was given the first of the pieces of this output
 abbrev pub HasPutSome : SinkSeen → List ℕ → SinkSeen → State → Type 0
 HasPutSome first output sink s =
     HasPut first.held output sink.held s × PutFront first.puts (pieces_of 64 (written_since output s.output)) sink.puts
 
--- the outcome is a value, with so many steps left, and so it is of its state
+-- the outcome is a value, with so many steps left, and `holds` is true of its state
 pub record ToValue (n : ℕ) (o : Outcome values.Value) (holds : State → Type 0) : Type 0 where
   pub value : values.Value
   pub state : State
   pub is : o ≡ Val value state n
   pub there : holds state
 
--- the machine goes on, with so many steps left, and so it is of its state
+-- the machine goes on, with so many steps left, and `holds` is true of its state
 pub record ToStep (n : ℕ) (next : Next) (holds : State → Type 0) : Type 0 where
   pub focus : machine.Focus
   pub frames : List machine.Frame

@@ -1,4 +1,5 @@
--- Groups of frames, by which functions over all of them are told apart.
+-- `WaitsInControl`, `WaitsToBind` and `WaitsToOperate` are groups of the interpreter's frames, so that a function over all frames can be divided into one
+-- function for each group.
 use Rattle.cool_eval.specs.declared.frame.Frame.{Frame}
 use Rattle.cool_eval.specs.declared.frame.Frame.TheVariants as held
 

@@ -1,4 +1,5 @@
--- The results of the functions that implement the methods of the basic classes.
+-- Postconditions of the functions that implement the methods of the basic classes: `TookLine` for reading a line, and `ActsOnSink` and `ActsOnSource` for the
+-- effects on the devices.
 use Rattle.std.specs.Prelude.{◌≡◌, ℕ, Bool, List, [], ◌∷◌, ◌++◌, Result, Ok, Err}
 use denote.Ref.{Bor}
 use Rattle.std.proofs.Common.{Vec}
@@ -55,7 +56,7 @@ TookLine (Err ending.Stuck) input rest = ⊥
 TookLine (Err ending.StepLimit) input rest = ⊥
 TookLine (Err ending.WriteFault) input rest = ⊥
 
--- A value with a changed store, that takes no step and leaves input and output, or its error: where there was memory, it is this outcome.
+-- The value or the error, with this store and no step taken, and with the same input and output, is this outcome, unless memory ran out.
 abbrev pub Makes : Result Value Ending → Store → List ℕ → List ℕ → ℕ → Outcome values.Value → Type 0
 Makes (Ok v) store input output n o = o ≡ Val (value_of v) (state_at store input output) n
 Makes (Err (ending.Error e)) store input output n o = o ≡ Stop (error_of e) (state_at store input output)

@@ -1,5 +1,6 @@
--- The puts of an evaluation to its sink. A step that writes is one call of `out_string` or `out_int`. Its bytes are put before the next step, in pieces of
--- 64 bytes, the last perhaps shorter. So is the line that a run writes last.
+-- `run_puts` lists the pieces of output that a run gives to its sink, and `PutByRun` says which of them an evaluation gave. A step that writes is one call of
+-- `out_string` or `out_int`: its bytes are put before the next step, in pieces of 64 bytes, the last perhaps shorter. The line that a run writes last is put
+-- in the same way.
 use Rattle.std.specs.Prelude.{◌≡◌, ℕ, zero, suc, ◌+◌, ◌-◌, ◌<◌, ◌≤◌, List, [], ◌∷◌, ◌++◌, length, take, drop, codes, refl}
 use Rattle.cool_ports.specs.SinkPuts.{pieces_of, PutFront}
 use Rattle.cool_classes.specs.Chains.{Class}

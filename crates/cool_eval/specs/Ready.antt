@@ -1,4 +1,4 @@
--- Conditions on the tables that a run is set up with.
+-- `IsReady` is the precondition of a run: its class table is whole, and the interpreter has the right list of attributes for each class.
 use Rattle.std.specs.Prelude.{◌≡◌, List, Some, length, slice_get}
 use Rattle.std.specs.List.{AllByRecursion}
 use Rattle.std.proofs.Common.{Vec}

@@ -1,4 +1,4 @@
--- Invariant and end of an interpreter's run, by the evaluation of the whole program.
+-- `Ended` says how the interpreter's loop of steps ends, by the outcome of evaluating the whole program. `Steps` is the postcondition of one step.
 use Rattle.std.specs.Prelude.{◌≡◌, ◌≢◌, ℕ, suc, ◌+◌, ◌<◌, ◌≤◌, List, [], ◌++◌, Option, Some, None, Result, Ok, Err}
 use Rattle.cool_ports.specs.SinkBytes.{appended}
 use Rattle.cool_ports.specs.SinkPuts.{SinkSeen, PutFront}
@@ -44,22 +44,21 @@ puts_of outcomes n = steps_puts (λ k. output_of (outcomes k)) n
 abbrev pub IsNeverStuck : (ℕ → Outcome values.Value) → Type 0
 IsNeverStuck outcomes = (n : ℕ) → outcomes n ≢ Stuck
 
--- With all steps a program comes to this state: all that was printed up to it was put, step by step, and the input that is left there is
--- left.
+-- The program comes to the state `s` with all steps: the output up to it was put, step by step, and its input is left.
 pub record IsAt (outcomes : ℕ → Outcome values.Value) (steps : ℕ) (s : State) (start : SinkSeen) (rest : List ℕ) (sink : SinkSeen) : Type 0 where
   pub put : sink.held ≡ appended start.held s.output
   pub puts : IsNeverStuck outcomes → sink.puts ≡ start.puts ++ puts_of outcomes steps
   pub left : rest ≡ s.input
 
--- So it is of the state of an outcome; where no rule applied there is none.
+-- `holds` is true of the state of an outcome; if no rule applied, there is no state.
 abbrev pub OfState : Outcome values.Value → (State → Type 0) → Type 0
 OfState (Val v s n) holds = holds s
 OfState (Stop e s) holds = holds s
 OfState (On s) holds = holds s
 OfState Stuck holds = Unit {0}
 
--- A read failed, of a program that comes to these outcomes with so many steps: with `spent` of them it stops before the call that reads, at a
--- state up to which all was put, step by step. With one step more at least that is left which is left after it.
+-- A read failed: with `spent` steps the program stops before the call that reads, at a state whose output was put, step by step. With one step more, the
+-- program leaves no more input than `rest`.
 pub record FailsReading (outcomes : ℕ → Outcome values.Value) (steps : ℕ) (start : SinkSeen) (rest : List ℕ) (sink : SinkSeen) : Type 0 where
   pub spent : ℕ
   pub fewer : spent < steps
@@ -71,7 +70,7 @@ pub record FailsReading (outcomes : ℕ → Outcome values.Value) (steps : ℕ) 
   pub left : state.input ≡ taken ++ rest
   pub later : OfState (outcomes (spent + 1)) (HasLeft rest)
 
--- A write failed: the program stops before the call that writes, and a prefix was put of what is printed with one step more.
+-- A write failed: the program stops before the call that writes, and a prefix of the output of one step more was put.
 pub record FailsWriting (outcomes : ℕ → Outcome values.Value) (steps : ℕ) (start : SinkSeen) (rest : List ℕ) (sink : SinkSeen) : Type 0 where
   pub spent : ℕ
   pub fewer : spent < steps
@@ -81,11 +80,11 @@ pub record FailsWriting (outcomes : ℕ → Outcome values.Value) (steps : ℕ) 
   pub later : OfState (outcomes (spent + 1)) (HasPut start.held state.output sink.held)
   pub puts : IsNeverStuck outcomes → PutFront start.puts (puts_of outcomes (suc spent)) sink.puts
 
--- this was printed up to a state, and of the input that is left there a part was taken
+-- the state has this output, and a part of its input was taken
 abbrev pub HasTaken : List ℕ → List ℕ → State → Type 0
 HasTaken output rest s = (s.output ≡ output) × ((taken : List ℕ) × (s.input ≡ taken ++ rest))
 
--- Memory ran out: with `spent` steps the program prints just what was put. With all of them at least that is left which is left then.
+-- Memory ran out: with `spent` steps the program prints exactly the output that was put. With all steps, it leaves no more input than `rest`.
 pub record RunsShort (outcomes : ℕ → Outcome values.Value) (steps : ℕ) (start : SinkSeen) (rest : List ℕ) (sink : SinkSeen) : Type 0 where
   pub spent : ℕ
   pub within : spent ≤ steps

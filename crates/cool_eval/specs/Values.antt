@@ -1,4 +1,4 @@
--- The values of the interpreter as those of the meaning.
+-- `value_of` converts a value of the interpreter to a value of the semantics (Values.antt of `cool_meaning`).
 use Rattle.std.specs.Prelude.{ℕ, zero, suc, List, [], ◌∷◌}
 use Rattle.cool_meaning.specs.Values.{Value, Void, Int, Bool, Str, Obj}
 use Rattle.cool_eval.specs.declared.value.Value.{Value as Held}

@@ -1,4 +1,4 @@
--- The interpreter's data as contracts see them.
+-- Functions from small data of the interpreter to the data of its contracts: the first item of a list, a branch of a case, and the attribute of a feature.
 use Rattle.std.specs.Prelude.{◌≡◌, ℕ, List, [], ◌∷◌, Option, Some, None}
 use Rattle.cool_syntax.specs.Tree.{Tree}
 use Rattle.cool_syntax.specs.declared.file_tree.AttributeDef.{AttributeDef}

@@ -1,4 +1,5 @@
--- Groups of expressions, by which functions over all forms are told apart.
+-- Groups of expressions: calls, bindings, control, unary, binary and leaf expressions. A function over all forms can thus be divided into one function for
+-- each group.
 use Rattle.cool_expr.specs.declared.expr.Expr.{Expr}
 use Rattle.cool_expr.specs.declared.expr.Expr.TheVariants.{Assign, Dispatch, StaticDispatch, If, While, Block, Let, Case, New, IsVoid, Arith, Neg, Compare, Not, Id, Int, Str, Bool}
 
@@ -35,7 +36,7 @@ IsBinary (Arith at op a b) = Unit {0}
 IsBinary (Compare at op a b) = Unit {0}
 IsBinary _ = ⊥
 
--- expressions with no other in them
+-- expressions without parts
 abbrev pub IsLeaf : Expr → Type 0
 IsLeaf (New at class) = Unit {0}
 IsLeaf (Id at name) = Unit {0}

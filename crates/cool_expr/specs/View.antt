@@ -1,4 +1,4 @@
--- The tree of an expression in memory.
+-- `tree` is the tree (Tree.antt of `cool_syntax`) of an expression in memory.
 use Rattle.cool_expr.specs.declared.expr.Expr.{Expr}
 use Rattle.cool_expr.specs.declared.expr.Expr.TheVariants as variants
 use Rattle.cool_expr.specs.declared.expr.Branch.{Branch}

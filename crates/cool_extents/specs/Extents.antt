@@ -1,6 +1,6 @@
--- The extents of expressions: the places of the first and of the last token of each. The tokens of an expression are its reading, without parentheses
--- around it. A `self` that a call does not name has the extent of the method's name. Of a `let` with several variables each is a `let` of its own
--- inside the one before: the first begins at the word `let`, each other one at its variable, and all end with the body.
+-- The extents of expressions: the places of the first and the last token of each, without parentheses around it. A `self` that a call leaves out has the
+-- extent of the method's name. A `let` with several variables is one `let` inside the other: the first begins at the word `let`, each other one at its
+-- variable, and all end with the body.
 use Rattle.std.specs.Prelude.{◌≡◌, refl, ℕ, ◌+◌, List, [], ◌∷◌, ◌++◌, codes}
 use Rattle.cool_syntax.specs.declared.place.Place.{Place}
 use Rattle.cool_syntax.specs.declared.operator.ArithOp.TheVariants as arith_op
@@ -87,7 +87,7 @@ abbrev mutual
       let_extents at before (binding_reading binding ++ symbol sign.Comma comma ∷ behind)
       (binding_extents (opening at before) binding (symbol sign.Comma comma ∷ behind) inner)
 
--- The extents that are told of trees are those of the expressions of these tokens: wherever the tokens have the reading of an expression, its tree has the
+-- The function gives the extents of the expressions of these tokens: wherever the tokens have the reading of an expression, the function gives its tree the
 -- extents of the expression.
 abbrev pub TellsExtents : List Token → (Tree → List Extent) → Type 0
 TellsExtents tokens told = (before after : List Token) (e : Concrete) → tokens ≡ before ++ (reading e ++ after) → told (plain e) ≡ extents e

@@ -1,5 +1,5 @@
--- How the extents of a list of nodes are found: each node's from its own place, the extents of its parts, and the parentheses between the tokens.
--- `law_extents_found` says that these are the extents of `Extents.antt`.
+-- `found_after` computes the extents of a list of nodes: each from the node's own place, the extents of its parts, and the parentheses between the tokens.
+-- `law_extents_found` says that these are the extents of Extents.antt.
 use Rattle.std.specs.Prelude.{ℕ, zero, suc, ◌+◌, ◌-◌, nat_lt, Bool, true, false, if◌then◌else◌, List, [], ◌∷◌, ◌++◌, length, drop, Option, Some, None}
 use Rattle.std.specs.List.{count_by, slice_get}
 use Rattle.cool_syntax.specs.declared.place.Place.{Place}
@@ -128,7 +128,7 @@ node_extent tokens found (node.Int at value) = record { first = at; last = at }
 node_extent tokens found (node.Str at bytes) = record { first = at; last = at }
 node_extent tokens found (node.Bool at value) = record { first = at; last = at }
 
--- the extents of nodes after those that were found
+-- the extents found so far, followed by those of these nodes
 abbrev pub found_after : List Token → List Extent → List Node → List Extent
 found_after tokens found [] = found
 found_after tokens found (n ∷ ns) = found_after tokens (found ++ node_extent tokens found n ∷ []) ns

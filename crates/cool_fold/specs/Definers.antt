@@ -1,4 +1,4 @@
--- The classes that define a method of a name themselves, by a table of names.
+-- `AreDefiners` says that the code's map has, for each name, the classes that define a method of this name themselves.
 use Rattle.std.specs.Prelude.{◌≡◌, ℕ, ◌&&◌, ◌||◌, Bool as Truth, List, [], length, Option, Some, None, is_some, bytes_eq}
 use Rattle.std.specs.List.{list_any}
 use Rattle.std.specs.Borrow.{Bor}
@@ -14,7 +14,7 @@ abbrev pub classes_in : Option (Vec ClassId) → List ClassId
 classes_in None = []
 classes_in (Some classes) = classes.items
 
--- the classes that stand with a name
+-- the classes that the map has for a name
 abbrev pub definers_in : List (Bor (List ℕ) × Vec ClassId) → List ℕ → List ClassId
 definers_in entries name = classes_in (lookup (λ key. bytes_eq name key.now) entries)
 
@@ -27,7 +27,7 @@ abbrev pub Adds : ClassId → (List ℕ → Truth) → List (Bor (List ℕ) × V
 Adds c has old new =
     (f : ClassId → Truth) (name : List ℕ) → list_any f (definers_in new name) ≡ (list_any f (definers_in old name) || (f c && has name))
 
--- With each name stand the classes of the table that have a method of the name of their own.
+-- For each name, the map has the classes of the table that have their own method of this name.
 abbrev pub AreDefiners : List Class → Definers → Type 0
 AreDefiners p d =
     (f : ClassId → Truth) (name : List ℕ)

@@ -1,4 +1,4 @@
--- Nothing is left to fold: no node of an expression is foldable.
+-- `IsDone` says that nothing is left to fold in an expression: none of its nodes is foldable.
 use Rattle.std.specs.Prelude.{◌≡◌, ℤ, neg_ℤ, Bool as Truth, true, false, List, Option, Some, None}
 use Rattle.cool_syntax.specs.declared.operator.ArithOp.{ArithOp}
 use Rattle.cool_syntax.specs.declared.operator.CompareOp.{CompareOp}
@@ -26,13 +26,13 @@ abbrev pub IsNoNegation : Option ℤ → Type 0
 IsNoNegation None = Unit {0}
 IsNoNegation (Some n) = exactly (neg_ℤ n) ≡ None
 
--- not two numbers
+-- at least one of the two is not a number
 abbrev pub AreNotNumbers : Option ℤ → Option ℤ → Type 0
 AreNotNumbers None n = Unit {0}
 AreNotNumbers (Some m) None = Unit {0}
 AreNotNumbers (Some m) (Some n) = ⊥
 
--- not two constants of one sort
+-- the two are not constants of one sort
 abbrev pub AreNotOfOneSort : Option Value → Option Value → Type 0
 AreNotOfOneSort None w = Unit {0}
 AreNotOfOneSort (Some v) None = Unit {0}
@@ -43,7 +43,7 @@ IsNoComparison Less a b = AreNotNumbers (number_in (constant_in a)) (number_in (
 IsNoComparison LessEqual a b = AreNotNumbers (number_in (constant_in a)) (number_in (constant_in b))
 IsNoComparison Equal a b = AreNotOfOneSort (constant_in a) (constant_in b)
 
--- the part that would be taken, of these types, has not the type of the whole
+-- the test is no constant, or the part that it takes does not have the type of the whole
 abbrev pub IsNotTaken : Ty → Ty → Ty → Option Truth → Type 0
 IsNotTaken y n whole None = Unit {0}
 IsNotTaken y n whole (Some true) = same_type y whole ≡ false

@@ -1,4 +1,4 @@
--- The results of the code of folding, and the nodes that it adds to those placed.
+-- `Folds` is the postcondition of folding an expression: the nodes of the folded tree are added after those already placed, with their types.
 use Rattle.std.specs.Prelude.{◌≡◌, ℕ, ℤ, Bool as Truth, List, [], ◌∷◌, ◌++◌, length, take, Option, Some, None, Result, IfOk, OnOk}
 use Rattle.std.specs.Global.{Vec}
 use Rattle.cool_syntax.specs.declared.node.Node.{Node}
@@ -38,7 +38,7 @@ abbrev pub truth_constant : Option Truth → Option Constant
 truth_constant None = None
 truth_constant (Some b) = Some (TruthOf b)
 
--- nodes with one more, or with a constant after the first of them
+-- the nodes followed by `n`, or the first `start` of them followed by a constant
 abbrev pub with_number : List Node → ℕ → Node → Place → Option ℤ → List Node
 with_number ns start n at None = ns ++ n ∷ []
 with_number ns start n at (Some v) = take start ns ++ node.Int at (word_of v) ∷ []
@@ -47,7 +47,7 @@ abbrev pub with_truth : List Node → ℕ → Node → Place → Option Truth �
 with_truth ns start n at None = ns ++ n ∷ []
 with_truth ns start n at (Some b) = take start ns ++ node.Bool at b ∷ []
 
--- types with one more, or with this one after the first of them
+-- the types followed by this one, or the first `start` of them followed by it
 abbrev pub with_type : {A : Type 0} → List Ty → ℕ → Ty → Option A → List Ty
 with_type types start type None = types ++ type ∷ []
 with_type types start type (Some v) = take start types ++ type ∷ []
@@ -56,7 +56,7 @@ with_type types start type (Some v) = take start types ++ type ∷ []
 abbrev pub HasTypes : Placed → Type 0
 HasTypes placed = length placed.types.held ≡ length placed.nodes.items
 
--- The nodes of the folded tree came after those before, with their types, and this was found of it.
+-- The nodes of the folded tree were added after those before, with their types; the result has the constant and the number of its root.
 pub record Folds {E : Type 0} (s : FoldingSetting) (scope : List Binding) (t : Tree) (before after : Placed) (result : Result Found E) : Type 0 where
   pub constant : IfOk result (λ f. value_of f.constant ≡ constant_in (shrunk s.table.now s.class scope t))
   pub id : IfOk result (λ f. f.id ≡ root (length before.nodes.items) (shrunk s.table.now s.class scope t))
@@ -78,7 +78,7 @@ pub record FoldsCases {E : Type 0} (s : FoldingSetting) (scope : List Binding) (
   pub placed : OnOk result (after.nodes.items ≡ before.nodes.items ++ nodes_of_cases (length before.nodes.items) (shrunk_cases s.table.now s.class scope cs))
   pub typed : HasTypes before → OnOk result (after.types.held ≡ before.types.held ++ types_of_cases s.table.now s.class scope (shrunk_cases s.table.now s.class scope cs))
 
--- so it is with all names in scope with which these parts, or this node, stand in the body
+-- folding a part of the body, in every scope in which the part stands there; below, the same for parts, an optional part, branches and a node
 abbrev pub FoldsPart : {E : Type 0} → FoldingSetting → NodeId → Placed → Placed → Result Found E → Type 0
 FoldsPart s id before after result =
     (scope : List Binding) → AreTypes s.table.now scope → IsPart (typed_body s) scope id → Folds s scope (tree_at s.body.now id) before after result

@@ -1,5 +1,5 @@
--- Folding: the result for each form of expression, bottom up. A constant is a number, a string or a truth of the source. An expression that has no value by
--- the rules of running is left, with its place. `Examples.antt` has an example of each row.
+-- `fold` is the result of constant folding for each form of expression, bottom up; Examples.antt has an example of each row. A constant is a number, a string
+-- or a truth of the source. An expression that has no value by the rules of running is left as it is, with its place.
 use Rattle.std.specs.Prelude.{ℕ, zero, suc, ◌+◌, ℤ, ◌+ℤ◌, ◌-ℤ◌, ◌*ℤ◌, neg_ℤ, int_div, int_lt, int_le, Bool as Truth, true, false, not, ◌&&◌, if◌then◌else◌, List, [], ◌∷◌, ◌++◌, map, length, Option, Some, None, is_some}
 use Rattle.std.specs.List.{list_any}
 use Rattle.cool_syntax.specs.declared.place.Place.{Place}
@@ -51,7 +51,7 @@ one_sort (Bool a) (Bool b) = true
 one_sort (Str xs) (Str ys) = true
 one_sort _ _ = false
 
--- a result where it has 32 bits
+-- the result if it fits in 32 bits
 abbrev pub exactly : ℤ → Option ℤ
 exactly n = if fits n then Some n else None
 

@@ -1,5 +1,5 @@
--- The settings in which an expression is folded: a class of a whole table, where the column of the body has a type of the table for each node; and the
--- trees at numbers of the body.
+-- `IsSound` is the precondition for folding an expression: it is in a class of a whole table, and there is a type of the table for each of its nodes.
+-- `IsStanding` says that a node has a number in the body: its parts are parts of the body, and its type is that of the rules.
 use Rattle.std.specs.Prelude.{◌≡◌, ◌<◌, List, length, slice_get, Some}
 use Rattle.std.specs.List.{AllByRecursion}
 use Rattle.cool_syntax.specs.declared.node.Node.{Node}
@@ -25,7 +25,8 @@ pub record IsSound (s : FoldingSetting) : Type 0 where
 abbrev pub typed_body : FoldingSetting → TypedBody
 typed_body s = record { table = s.table.now; class = s.class; body = s.body.now; types = s.types.now }
 
--- A node stands at this number, with these names in scope: its parts stand at their numbers, and the type there is that of the expression that it makes.
+-- The node has this number, with these names in scope: its parts have their numbers, and the type at this number is that of the expression that the node
+-- makes.
 pub record IsStanding (s : FoldingSetting) (scope : List Binding) (id : NodeId) (n : Node) : Type 0 where
   pub types : AreTypes s.table.now scope
   pub parts : HasParts (typed_body s) scope n

@@ -1,4 +1,4 @@
--- Forms of nodes, one by one, and the parts of operators.
+-- Predicates for single forms of nodes, such as `IsDispatch`, and the operands of operators.
 use Rattle.cool_syntax.specs.declared.node.Node.{Node}
 use Rattle.cool_syntax.specs.declared.node.Node.TheVariants.{Assign, Dispatch, StaticDispatch, If, While, Block, Let, Case, IsVoid, Arith, Neg, Compare, Not}
 use Rattle.cool_syntax.specs.declared.node.NodeId.{NodeId}
@@ -31,7 +31,7 @@ abbrev pub IsCase : Node → Type 0
 IsCase (Case at a bs) = Unit {0}
 IsCase _ = ⊥
 
--- the part of an assignment or of an operator with one operand; of another node some number
+-- the part of an assignment or of an operator with one operand; for other nodes, an arbitrary number
 abbrev pub operand : Node → NodeId
 operand (Assign at name a) = a
 operand (IsVoid at a) = a
@@ -39,7 +39,7 @@ operand (Neg at a) = a
 operand (Not at a) = a
 operand _ = record { 0 = 0 }
 
--- the parts of an operator with two operands; of another node some numbers
+-- the parts of an operator with two operands; for other nodes, arbitrary numbers
 abbrev pub left_operand : Node → NodeId
 left_operand (Arith at op a b) = a
 left_operand (Compare at op a b) = a

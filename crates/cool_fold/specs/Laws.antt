@@ -1,4 +1,4 @@
--- The statement of the laws on folding: a run against that of the folded program.
+-- `NoMoreRun` says that the run of a folded program ends, writes and reads as the run of the program does, and that no meter is greater.
 use Rattle.std.specs.Prelude.{◌≡◌, ◌≤◌}
 use Rattle.cool_meaning.specs.SourceRun.{Run}
 

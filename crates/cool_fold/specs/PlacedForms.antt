@@ -1,5 +1,5 @@
--- Placing the node of a form after the nodes of its parts: if the parts were folded with some names in scope, one after the other, and the type is that of
--- the form, the form is folded with these names in scope. Nothing is said of nodes of other forms.
+-- Postconditions, one for each form, of placing a node after the nodes of its parts: if the parts were folded one after the other, and the node's type is
+-- right, then the form is folded. They say nothing about nodes of other forms.
 use Rattle.std.specs.Prelude.{◌≡◌, ℕ, List, length, Option, None, Ok, Result}
 use Rattle.std.specs.Global.{Vec}
 use Rattle.std.specs.declared.alloc.AllocError.{AllocError}
@@ -24,7 +24,7 @@ use Rattle.cool_fold.specs.FoldedNodes.{Folds, FoldsAll, FoldsCases, FoldsMaybe}
 use Rattle.cool_fold.specs.Forms.{operand, left_operand, right_operand}
 use Rattle.cool_fold.specs.Shrinking.{shrunk, taken}
 
--- the nodes of a tree, and of trees, came after those before, and this was found of it
+-- the nodes of a folded tree were added after those before, and this is the result; below, the same for trees, an optional tree and branches
 abbrev pub IsFolded : FoldingSetting → List Binding → Tree → Placed → Placed → Found → Type 0
 IsFolded s scope t before after f = Folds {E = AllocError} s scope t before after (Ok f)
 

@@ -1,4 +1,4 @@
--- The attributes of the classes in preorder, as far as they are known.
+-- `AreAttributes` says that a list has the attributes of the first classes in preorder.
 use Rattle.std.specs.Prelude.{◌≡◌, ℕ, ◌<◌, List, length, get_or}
 use Rattle.std.specs.Global.{Vec}
 use Rattle.cool_classes.specs.declared.method.AttributeRef.{AttributeRef}

@@ -1,4 +1,5 @@
--- The data that a layout keeps of a class table.
+-- `IsLayoutOf` says that the code's layout of a class table is right: the preorder of the classes, their tags, the offsets of their attributes, and their
+-- tables of methods.
 use Rattle.std.specs.Prelude.{◌≡◌, List, length}
 use Rattle.cool_classes.specs.Chains.{Class}
 use Rattle.cool_classes.specs.Limits.{KeepsLimits}

@@ -1,4 +1,4 @@
--- Tables of slots: the methods of a class by slot, and the slots of those of its own by name.
+-- `IsTableFor` says that the code's table for a class is right: the methods of the class by slot, and the slots of the class's own methods by name.
 use Rattle.std.specs.Prelude.{◌≡◌, ℕ, ◌+◌, ◌<◌, ◌≤◌, List, [], ◌∷◌, map, length, get_or, position, unwrap_or, Option, Some, None, true, false, nat_lt, bytes_eq, if◌then◌else◌, IfSome}
 use Rattle.std.specs.List.{list_any, position_or_len}
 use Rattle.std.specs.Map.{lookup}
@@ -24,7 +24,7 @@ pub record OwnMethod : Type 0 where
 abbrev pub names_of : List OwnMethod → List (List ℕ)
 names_of = map (λ m. m.name)
 
--- the first of a name
+-- the first method of this name
 abbrev pub own_among : List OwnMethod → List ℕ → Option MethodRef
 own_among [] f = None
 own_among (m ∷ ms) f = if bytes_eq m.name f then Some m.method else own_among ms f
@@ -43,11 +43,11 @@ own_methods p c = if nat_lt c.0 5 then basic_own (basic_methods c.0) else user_o
 abbrev pub slots_shown : List (Vec ℕ × ℕ) → List (List ℕ × ℕ)
 slots_shown = map (λ entry. (entry.0.items, entry.1))
 
--- each name stands at its first place
+-- no name occurs twice
 abbrev pub AreOnce : List (List ℕ) → Type 0
 AreOnce xs = (j : ℕ) (d : List ℕ) → j < length xs → position_or_len (bytes_eq (get_or xs j d)) xs ≡ j
 
--- A table has these methods of a class's own, after these names of slots above it, which have these methods.
+-- The table has the methods `own` of a class, after the slots `above` of its parent, whose methods are `inherited`.
 pub record IsTableFor (above : List (List ℕ)) (inherited : List ℕ → Option MethodRef) (own : List OwnMethod) (t : Table) : Type 0 where
   pub found : (f : List ℕ) (k : ℕ) → lookup (bytes_eq f) (slots_shown t.own.entries) ≡ Some k → position (bytes_eq f) (with_new above (names_of own)) ≡ Some k
   pub seen : (f : List ℕ) (k : ℕ) → lookup (bytes_eq f) (slots_shown t.own.entries) ≡ Some k → list_any (bytes_eq f) (names_of own) ≡ true
@@ -68,7 +68,7 @@ abbrev pub methods_in : List Class → Option ℕ → List ℕ → Option Method
 methods_in p None f = None
 methods_in p (Some j) f = implementation p (chain p (class_of p j)) f
 
--- a tag is that of the parent of a class with a greater one
+-- the tag, if any, is that of the parent of the class with the tag `k`, and it is less
 abbrev pub IsAbove : List Class → ℕ → Option ℕ → Type 0
 IsAbove p k None = parent_of p (class_of p k) ≡ None
 IsAbove p k (Some j) = (j < k) × (parent_of p (class_of p k) ≡ Some (class_of p j))
@@ -77,7 +77,7 @@ pub record IsTableAt (p : List Class) (k : ℕ) (t : Table) : Type 0 where
   pub above : IsAbove p k t.above
   pub table : IsTableFor (slots_in p t.above) (methods_in p t.above) (own_methods p (class_of p k)) t
 
--- each table stands after the one above it
+-- each table comes after that of the parent
 abbrev pub AreLow : List Table → Type 0
 AreLow all = (k : ℕ) (d : Table) → k < length all → IfSome (get_or all k d).above (λ j. j < k)
 
@@ -86,6 +86,6 @@ pub record AreTables (p : List Class) (n : ℕ) (all : List Table) : Type 0 wher
   pub low : n ≤ length p
   pub tables : (k : ℕ) (d : Table) → k < n → IsTableAt p k (get_or all k d)
 
--- a table that is being made has these methods of a class's own
+-- a table under construction has these methods of its class, after those of the parent
 abbrev pub Has : List Class → List OwnMethod → Table → Type 0
 Has p own t = IsTableFor (slots_in p t.above) (methods_in p t.above) own t

@@ -1,4 +1,4 @@
--- The properties of tags: each class has its own, and those of a class and the classes below it are a range.
+-- `AreTags` says that each class has a tag of its own, and that the tags of a class and of the classes below it are a range.
 use Rattle.std.specs.Prelude.{◌≡◌, ℕ, ◌<◌, ◌≤◌, List, length}
 use Rattle.cool_classes.specs.declared.class_id.ClassId.{ClassId}
 use Rattle.cool_classes.specs.Chains.{Class, Below}

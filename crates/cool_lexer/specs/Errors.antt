@@ -1,4 +1,4 @@
--- The meaning of a lexer's error: the first fault of the file.
+-- `IsFirstFault` says that an error of the lexer is the first fault of the file, at its place, or out of memory.
 use Rattle.std.specs.Prelude.{ℕ, List}
 use Rattle.cool_syntax.specs.LexicalStructure as lexical
 use Rattle.cool_lexer.specs.declared.error.LexError.{LexError}

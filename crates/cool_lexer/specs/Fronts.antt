@@ -1,5 +1,5 @@
--- The results of the scanning functions at the front of a text: for each class the item or the fault, as a function of the bytes after the first. A proof
--- shows that it is the item or the fault of Cool's lexical structure; it is not assumed here.
+-- `front_of` is the result of scanning the front of a text: the item or the fault there, by the class of the first byte and the bytes after it. `Begins` says
+-- that a result is the item or the fault of Cool's lexical structure; a proof shows that the two agree, and nothing assumes it.
 use Rattle.std.specs.Prelude.{◌≡◌, ℕ, ◌+◌, ◌≤◌, Bool, false, not, ◌==◌, nat_lt, if◌then◌else◌, List, [], ◌∷◌, ◌++◌, length, take, Option, Some, None}
 use Rattle.std.specs.List.{prefix_len}
 use Rattle.cool_syntax.specs.declared.TheConstants.{MOST_BYTES}
@@ -105,7 +105,7 @@ front_of lexemes.Equals b bs = equals_front bs
 front_of (lexemes.Single s) b bs = single_front s 0
 front_of lexemes.Stray b bs = Fault L1 0
 
--- After a first byte of this class stand this many bytes of a good item of this form: it shows no fault, and no longer form begins so.
+-- After a first byte of this class, an item of this form has this many more bytes and no fault, and no longer form begins there.
 pub record IsAfter (class : lexemes.Class) (b : ℕ) (bs : List ℕ) (f : lexemes.Form) (after : ℕ) : Type 0 where
   pub good : fault_of class b bs ≡ None
   pub within : after ≤ length bs

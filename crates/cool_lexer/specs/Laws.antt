@@ -1,4 +1,4 @@
--- The statement of the lexer's laws about the definition: each file has a reading.
+-- `HasReading` says that a file has tokens or a first fault; the lexer proves it of every file.
 use Rattle.std.specs.Prelude.{◌⊎◌, ℕ, List}
 use Rattle.cool_syntax.specs.declared.place.Place.{Place}
 use Rattle.cool_syntax.specs.declared.token.Token.{Token}

@@ -1,4 +1,5 @@
--- The code's small types as those of the definition.
+-- Functions from the small types of the lexer's code, such as classes of bytes and marks of comments, to the types of the same names in Lexemes.antt and
+-- LexicalStructure.antt.
 use Rattle.cool_syntax.specs.Lexemes as lexemes
 use Rattle.cool_lexer.specs.declared.class.Class.{Class}
 use Rattle.cool_lexer.specs.declared.class.Class.TheVariants as class

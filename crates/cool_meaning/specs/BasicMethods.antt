@@ -1,4 +1,5 @@
--- The methods of the basic classes, and the making of values that cost words (the Cool manual, section 8).
+-- `basic` is the result of a method of a basic class (the Cool manual, section 8). The file also defines the computations that make new values and count the
+-- words of memory that they take.
 use Rattle.std.specs.Prelude.{◌≡◌, refl, ℕ, ◌+◌, ◌-◌, ◌/◌, ℤ, pos, negsuc, Bool as Truth, ◌==◌, nat_le, if◌then◌else◌, List, [], ◌∷◌, ◌++◌, length, take, drop, Option, Some, None, codes}
 use Rattle.std.specs.Fmt.{signed_decimal}
 use Rattle.cool_syntax.specs.declared.place.Place.{Place}

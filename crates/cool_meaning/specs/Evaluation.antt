@@ -1,6 +1,6 @@
--- Evaluation (the Cool manual, section 13): the result of each form of expression, with the object in whose method it stands, in an environment. Parts are
--- evaluated in the order in which the rules name them. The meaning of calls is an argument, so that evaluation recurses only over the tree; `calls_within`
--- ties the knot.
+-- `eval` is the result of evaluating an expression in an environment, for the object in whose method it stands (the Cool manual, section 13). Parts are
+-- evaluated in the order in which the rules name them. The meaning of calls is an argument, so that `eval` recurses only over the tree; `calls_within`
+-- defines this meaning for a number of steps.
 use Rattle.std.specs.Prelude.{ℕ, zero, suc, ◌+◌, ◌*◌, ℤ, pos, negsuc, ◌+ℤ◌, ◌-ℤ◌, ◌*ℤ◌, neg_ℤ, int_div, int_lt, int_le, Bool as Truth, true, false, not, ◌==◌, nat_eq, if◌then◌else◌, List, [], ◌∷◌, ◌++◌, length, Option, Some, None, codes, bytes_eq}
 use Rattle.cool_syntax.specs.declared.place.Place.{Place}
 use Rattle.cool_syntax.specs.declared.operator.ArithOp.{ArithOp}
@@ -54,7 +54,7 @@ assign env name v = do
 
 -- Numbers and comparisons
 
--- a result where it has 32 bits
+-- the result if it fits in 32 bits, and otherwise an overflow
 abbrev pub exact : Place → ℤ → Computation Value
 exact at n = if fits n then new_number n else stop (Overflow at)
 
@@ -103,7 +103,7 @@ is_void _ = false
 
 -- Loops
 
--- so many turns at most: each takes a step
+-- a loop of at most so many turns, each of which takes a step
 abbrev pub turns : ℕ → Computation Value → Computation Value → Computation Value
 turns zero test body = stuck
 turns (suc k) test body = do
@@ -111,7 +111,7 @@ turns (suc k) test body = do
   b ← as_truth v
   if b then spend (working 1 (body >> turns k test body)) else give Void
 
--- more turns than steps are left
+-- a loop, with one turn more than there are steps left: the steps run out first
 abbrev pub loop : Computation Value → Computation Value → Computation Value
 loop test body s n = turns (suc n) test body s n
 

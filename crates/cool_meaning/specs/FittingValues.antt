@@ -1,4 +1,5 @@
--- Values that fit classes, in a world of locations that were made for classes; and the setting in which an expression is evaluated.
+-- `Fits` says that a value fits a class, by a `World` that lists the class for which each location was made. `Scene` is the setting in which an expression is
+-- evaluated: an object, and a location for each name in scope that was made for its type.
 use Rattle.std.specs.Prelude.{◌≡◌, ℕ, ◌<◌, List, [], ◌∷◌, map, length, slice_get, Some}
 use Rattle.cool_classes.specs.declared.class_id.ClassId.{ClassId}
 use Rattle.cool_classes.specs.declared.method.AttributeRef.{AttributeRef}

@@ -1,5 +1,5 @@
--- The result of an evaluation, and its costs: steps, and the three meters. A computation takes a state and the steps that are left; the combinators here
--- compose computations.
+-- `Metered` is the result of an evaluation with three meters: the work done, the words of memory given, and the greatest number of rules pending at once. A
+-- `Computation` takes a state and the steps that are left; the combinators here compose computations.
 use Rattle.std.specs.Prelude.{ℕ, zero, suc, ◌+◌, max, ◌∷◌, [], ◌++◌, length, slice_get, slice_set, Option, Some, None}
 use Rattle.cool_syntax.specs.declared.place.Place.{Place}
 use Rattle.cool_classes.specs.declared.class_id.ClassId.{ClassId}
@@ -39,7 +39,7 @@ free o = record { outcome = o; work = 0; words = 0; peak = 0 }
 abbrev pub join : {A : Type 0} → ℕ → ℕ → ℕ → Metered A → Metered A
 join work words peak m = record { outcome = m.outcome; work = work + m.work; words = words + m.words; peak = max peak m.peak }
 
--- an outcome that is no value is that of the whole
+-- the outcome and the costs of two computations, of which the second takes the value of the first; without that value, the first outcome is the result
 abbrev pub seq_of : {A B : Type 0} → Outcome A → ℕ → ℕ → ℕ → (A → Computation B) → Metered B
 seq_of (Val v s n) work words peak f = join work words peak (f v s n)
 seq_of (Stop e s) work words peak f = record { outcome = Stop e s; work = work; words = words; peak = peak }
@@ -57,7 +57,7 @@ abbrev pub ◌>>=◌ : {A B : Type 0} → Computation A → (A → Computation B
 abbrev pub ◌>>◌ : {A B : Type 0} → Computation A → Computation B → Computation B
 (d >> e) s n = seq (d s n) (λ _. e)
 
--- this value at once; a run-time error; no rule
+-- computations without cost: one gives this value, one stops with this run-time error, and to one no rule applies
 abbrev pub give : {A : Type 0} → A → Computation A
 give v s n = free (Val v s n)
 
@@ -72,14 +72,14 @@ abbrev pub spend : {A : Type 0} → Computation A → Computation A
 spend d s zero = free (On s)
 spend d s (suc n) = d s n
 
--- so much work, so many words besides
+-- a computation with so much more work; below, one with so many more words
 abbrev pub working : {A : Type 0} → ℕ → Computation A → Computation A
 working k d s n = let m = d s n in record { outcome = m.outcome; work = k + m.work; words = m.words; peak = m.peak }
 
 abbrev pub giving : {A : Type 0} → ℕ → Computation A → Computation A
 giving k d s n = let m = d s n in record { outcome = m.outcome; work = m.work; words = k + m.words; peak = m.peak }
 
--- while so many are pending or held
+-- a computation while so many more rules are pending or values are held
 abbrev pub holding : {A : Type 0} → ℕ → Computation A → Computation A
 holding k d s n = let m = d s n in record { outcome = m.outcome; work = m.work; words = m.words; peak = k + m.peak }
 

@@ -1,5 +1,5 @@
--- The numbers of Cool: 32 bits with a sign, exact arithmetic with an error where a result has more, and numbers read from text (the Cool
--- manual, section 8.3; that overflow is an error is this compiler's rule).
+-- The numbers of Cool: signed 32-bit integers, exact arithmetic with an error if a result does not fit, and numbers read from text (the Cool manual, section
+-- 8.3; the error for overflow is this compiler's rule).
 use Rattle.std.specs.Prelude.{◌≡◌, refl, ℕ, ◌+◌, ◌-◌, ◌*◌, ◌%◌, ◌^◌, ℤ, pos, negsuc, Bool, false, ◌&&◌, ◌||◌, ◌==◌, nat_le, nat_lt, if◌then◌else◌, List, [], ◌∷◌}
 
 -- the integers from -2 ^ 31 to 2 ^ 31 - 1

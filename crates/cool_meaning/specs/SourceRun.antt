@@ -1,5 +1,5 @@
--- The run of a program with so many steps: that of `(new Main).main()` from an empty store (the Cool manual, section 13; the texts of its
--- errors are this compiler's).
+-- `run` is the run of a program with a number of steps: the evaluation of `(new Main).main()` from an empty store (the Cool manual, section 13; the texts of
+-- the errors are this compiler's).
 use Rattle.std.specs.Prelude.{ℕ, ◌+◌, List, [], ◌∷◌, ◌++◌, get_or, codes}
 use Rattle.std.specs.Fmt.{decimal}
 use Rattle.cool_syntax.specs.declared.place.Place.{Place}
@@ -50,7 +50,7 @@ done_text = line (codes "COOL program successfully executed")
 abbrev pub main_call : Tree
 main_call = Dispatch nowhere (New nowhere (record { name = codes "Main"; at = nowhere })) (codes "main") Last
 
--- the run of which an evaluation is the whole; its start is work too
+-- the run that an evaluation makes up; the start of the program adds 1 to its work
 abbrev pub ended : State → End → List ℕ → ℕ → ℕ → ℕ → Run
 ended s end text work words peak = record { end = end; output = s.output ++ text; left = s.input; work = 1 + work; words = words; peak = peak }
 

@@ -1,4 +1,5 @@
--- The settings in which an expression is walked through: a class of a whole table, whose classes are the basic ones and these definitions.
+-- `IsSound` is the precondition for computing the marks of an expression: it is in a class of a whole table, whose classes are the basic ones and these
+-- definitions.
 use Rattle.std.specs.Prelude.{◌≡◌, ℕ, ◌+◌, ◌<◌, List, length}
 use Rattle.cool_syntax.specs.declared.file_tree.ClassDef.{ClassDef}
 use Rattle.cool_syntax.specs.Tree.{tree_size}

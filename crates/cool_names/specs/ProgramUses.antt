@@ -1,5 +1,5 @@
--- The uses of names in a program whose features are typed: those of its classes, in the order of files and text. The marks of the program tell
--- them.
+-- `program_uses` lists the uses of names in a typed program, in the order of files and text. `AreProgramUsesTold` says that the marks of the program
+-- (Programs.antt) give each use once, in this order.
 use Rattle.std.specs.Prelude.{ℕ, ◌+◌, List, [], ◌∷◌, ◌++◌, drop}
 use Rattle.std.specs.List.{AllByRecursion}
 use Rattle.cool_syntax.specs.declared.file_tree.ClassDef.{ClassDef}
@@ -29,12 +29,12 @@ abbrev pub uses_of_features : (p : List Class) (c : ClassId) (xs : List Feature)
 uses_of_features p c [] typed = []
 uses_of_features p c (x ∷ xs) (first, more) = uses_of p c x first ++ uses_of_features p c xs more
 
--- in classes
+-- the uses in typed classes
 abbrev pub uses_of_classes : (p : List Class) (k : ℕ) (cs : List Class) → AreTypedClasses p k cs → List Use
 uses_of_classes p k [] typed = []
 uses_of_classes p k (c ∷ cs) (first, more) = uses_of_features p (class_number k) c.features first ++ uses_of_classes p (k + 1) cs more
 
--- in a program
+-- the uses in a typed program
 abbrev pub program_uses : (p : List Class) → IsTypedProgram p → List Use
 program_uses p typed = uses_of_classes p 5 (drop 5 p) typed
 

@@ -1,4 +1,5 @@
--- The condition, by its level, for an operator on the top of the stack to end: the functions of ParsingMachine.antt that the code asks one item at a time.
+-- `NoneEnds` and `Ends` say whether the operator on the top of the parser's stack has at least a given binding level, and so ends and becomes a node. The
+-- code decides this one item at a time by `ended` of ParsingMachine.antt.
 use Rattle.std.specs.Prelude.{◌≡◌, ℕ, List, [], ◌∷◌, Some, None}
 use Rattle.cool_syntax.specs.declared.node.NodeId.{NodeId}
 use Rattle.cool_syntax.specs.declared.node.Node.{Node}
@@ -10,7 +11,7 @@ abbrev pub NoneEnds : ℕ → NodeId → List Item → Type 0
 NoneEnds k t [] = Unit {0}
 NoneEnds k t (i ∷ st) = ended k i t ≡ None
 
--- the top is such an operator, and is taken away as the node that it makes of its operand
+-- the top is an operator of at least this level: it is popped, and makes this node of its operand
 pub record Ends (k : ℕ) (t : NodeId) (before after : List Item) (n : Node) : Type 0 where
   pub item : Item
   pub top : before ≡ item ∷ after

@@ -1,4 +1,4 @@
--- The statement of the parser's laws about the grammar: tokens have a tree or a first fault.
+-- `HasTree` says that tokens are a file or have a first fault; the parser proves it of all tokens.
 use Rattle.std.specs.Prelude.{◌⊎◌, List}
 use Rattle.cool_syntax.specs.declared.place.Place.{Place}
 use Rattle.cool_syntax.specs.declared.token.Token.{Token}

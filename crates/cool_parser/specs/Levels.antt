@@ -1,5 +1,5 @@
--- The binding levels of Cool's operators (manual, section 11.1): from low to high, are 0 `let`, 1 `<-`, 2 `not`, 3 comparisons, 4 `+ -`, 5 `* /`, 6
--- `isvoid`, 7 `~`.
+-- The binding levels of Cool's operators (manual, section 11.1), from low to high: 0 `let`, 1 `<-`, 2 `not`, 3 comparisons, 4 `+ -`, 5 `* /`, 6 `isvoid`, 7
+-- `~`.
 use Rattle.std.specs.Prelude.{ℕ, Option, Some, None}
 use Rattle.cool_syntax.specs.declared.token.TokenKind.{TokenKind}
 use Rattle.cool_syntax.specs.declared.token.TokenKind.TheVariants as kind

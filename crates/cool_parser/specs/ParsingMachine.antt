@@ -1,6 +1,6 @@
--- The parser as a function on lists: a machine that takes a token at a time. It keeps the nodes of the feature that it is in, a stack of forms that wait
--- for an expression, the classes so far, and a mode: the tokens just read. An operator on the stack ends where an operator of a lower level, or a token
--- that ends an operand, comes after its operand (Cool manual, section 11).
+-- The parser as a state machine on lists, `parsed`, which takes one token at a time (Cool manual, section 11). It keeps the nodes of the current feature, a
+-- stack of forms that wait for an expression, the classes so far, and a mode, which says which tokens were just read. An operator on the stack ends if the
+-- next token is an operator that binds no more tightly, or ends an operand.
 use Rattle.std.specs.Prelude.{ℕ, Bool, true, false, nat_le, if◌then◌else◌, List, [], ◌∷◌, ◌++◌, length, codes, Option, Some, None}
 use Rattle.std.specs.Option.{is_some}
 use Rattle.cool_syntax.specs.declared.place.Place.{Place}
@@ -49,7 +49,7 @@ pub record State : Type 0 where
 abbrev pub go : Context → Mode → Option State
 go c m = Some (record { context = c; mode = m })
 
--- the state of both, if there is a mode
+-- the state of this context and mode, if there is a mode
 abbrev pub moved : Context → Option Mode → Option State
 moved c (Some m) = go c m
 moved c None = None
@@ -68,7 +68,7 @@ next_id c = record { 0 = length c.nodes }
 abbrev pub operand : Node → Context → Option State
 operand n c = go (place n c) (mode.Have (next_id c))
 
--- waits for an expression
+-- pushes an item that waits for an expression
 abbrev pub wait : Item → Context → Option State
 wait i c = go (push i c) mode.Need
 
@@ -178,7 +178,7 @@ close_on (item.AttributeInit class v) (kind.Sign sign.Semi) c t = attribute_done
 close_on (item.MethodBody m result) (kind.Sign sign.RBrace) c t = method_done m result c
 close_on _ _ c t = None
 
--- on a stack whose operators have ended
+-- the result of `close_on` for the top of a stack whose operators have ended
 abbrev pub close : TokenKind → List Item → Context → NodeId → Option State
 close k [] c t = None
 close k (i ∷ st) c t = close_on i k (record c { stack = st }) t

@@ -1,5 +1,5 @@
--- The parser's invariant between two tokens: its nodes are the lists of trees, one after the other, and the roots of those trees are the parts that wait
--- for the rest of their forms.
+-- `IsGood` is the parser's invariant between two tokens: the nodes so far are those of some trees, one after the other, whose roots are the parts that the
+-- stack and the mode hold.
 use Rattle.std.specs.Prelude.{◌≡◌, Bool, true, false, List, [], ◌∷◌, ◌++◌, map, Option, Some, None}
 use Rattle.cool_syntax.specs.declared.node.NodeId.{NodeId}
 use Rattle.cool_syntax.specs.declared.node.Node.{Node}
@@ -74,7 +74,7 @@ abbrev pub IsBottomed : List Item → Type 0
 IsBottomed [] = Unit {0}
 IsBottomed (i ∷ st) = (is_body i ≡ true → st ≡ []) × IsBottomed st
 
--- whether a mode stands in no body of a feature
+-- whether the machine in this mode is outside the bodies of features
 abbrev pub is_outside : Mode → Bool
 is_outside mode.File = true
 is_outside mode.ClassName = true
@@ -108,6 +108,6 @@ pub record IsGood (c : Context) (m : Mode) : Type 0 where
 abbrev pub IsGoodState : State → Type 0
 IsGoodState s = IsGood s.context s.mode
 
--- the same, shut: contracts name it, and lemmas open it
+-- `IsGood` as an opaque definition: contracts name it, and lemmas unfold it
 unfoldable pub Good : Context → Mode → Type 0
 Good c m = IsGood c m

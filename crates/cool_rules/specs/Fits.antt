@@ -1,4 +1,4 @@
--- The limits that every accepted program keeps, and that the code generator may rely on.
+-- `Fits` collects the limits that every accepted program keeps, and on which the code generator relies.
 use Rattle.std.specs.Prelude.{ℕ, ◌+◌, ◌≤◌, ◌<◌, List, [], ◌∷◌, length, drop}
 use Rattle.std.specs.List.{AllByRecursion}
 use Rattle.cool_syntax.specs.declared.TheConstants.{MOST_FILES, MOST_SOURCE_BYTES}

@@ -1,5 +1,5 @@
--- The methods that names mean, the types of calls, and the joins of branches, if they are known to exist; if not, some method and some type are given (the
--- Cool manual, section 7).
+-- `method_in`, `type_of_call` and `joined` are the method that a name means, the type of a call, and the join of branches (the Cool manual, section 7). For
+-- an expression that has no type, the first two return an arbitrary method or type.
 use Rattle.std.specs.Prelude.{ℕ, List, Option, Some, None, unwrap_or}
 use Rattle.cool_classes.specs.declared.class_id.ClassId.{ClassId}
 use Rattle.cool_classes.specs.declared.class_id.Ty.{Ty}
@@ -11,7 +11,7 @@ use Rattle.cool_classes.specs.Features.{result_of}
 use Rattle.cool_rules.specs.Rules.{join_in, type_meant, method_of}
 use Rattle.cool_rules.specs.Typing.{result_on}
 
--- the method of a name that a class has; one of Object's where it has none
+-- the method of a name that a class has; if it has none, Object's `abort`
 abbrev pub method_in : List Class → ClassId → List ℕ → MethodRef
 method_in p c name = unwrap_or (method_of p c name) (Basic Abort)
 

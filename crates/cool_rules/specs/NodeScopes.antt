@@ -1,4 +1,5 @@
--- The names in scope at the nodes of expressions, as lists in the order of the nodes' numbers, and the types that the rules give a column.
+-- `node_scopes` lists the names in scope at each node of an expression, in the order of the nodes' numbers. `AreTypedColumns` says that the columns of types
+-- (NodeTypes.antt) have, for each node, the type that the typing rules give its expression.
 use Rattle.std.specs.Prelude.{◌≡◌, ℕ, ◌<◌, List, [], ◌∷◌, ◌++◌, length, Option, Some, slice_get, codes, refl}
 use Rattle.cool_syntax.specs.declared.place.Place.{Place}
 use Rattle.cool_syntax.specs.declared.type_ref.TypeRef.{TypeRef}
@@ -70,7 +71,7 @@ pub record IsTypedEntry (p : List Class) (c : ClassId) (scope : List Binding) (e
   pub entry : slice_get types id.0 ≡ Some type
   pub typed : HasType p c inner (tree_at e id) type
 
--- so is that of each node of the expression of each feature
+-- `IsTypedEntry` holds for each node of the expression of each feature
 abbrev pub AreTypedColumns : List Class → Type 0
 AreTypedColumns p =
     (c : ClassId) (k : ℕ) (x : Feature) (e : Tree) (id : NodeId)

@@ -23,7 +23,7 @@ unfoldable pub first_among : List ClassId → List ClassId → ClassId
 first_among [] es = class_number 0
 first_among (d ∷ ds) es = if is_among es d then d else first_among ds es
 
--- two types are one
+-- two types are the same
 abbrev pub same_type : Ty → Ty → Bool
 same_type SelfType SelfType = true
 same_type SelfType (IsClass b) = false

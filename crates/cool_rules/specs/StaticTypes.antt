@@ -1,5 +1,5 @@
--- The static types of expressions, as a function (the Cool manual, sections 4, 7 and 12): if typing gives an expression a type, it is this one
--- (`IsTypeWhereTyped`). If it gives none, some type is returned.
+-- `type_of` is the static type of an expression, as a function (the Cool manual, sections 4, 7 and 12): if the typing rules give the expression a type, it is
+-- this one (`IsTypeWhereTyped`). If they give none, the function returns an arbitrary type.
 use Rattle.std.specs.Prelude.{◌≡◌, ◌<◌, List, length, Option, Some, None, unwrap_or}
 use Rattle.std.specs.List.{AllByRecursion}
 use Rattle.cool_syntax.specs.Tree.{Tree, Trees, Cases, Last, More, NoCase, CaseOf}

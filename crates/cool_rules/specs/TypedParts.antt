@@ -1,5 +1,5 @@
--- Expressions in a body whose nodes have types in a column: the expression at a number, with these names in scope, and the parts of a node by their
--- numbers.
+-- `IsPart` says that a number in a body is the root of an expression, whose nodes and types stand at their numbers in the lists of the body. `HasParts` says
+-- it of all parts of a node.
 use Rattle.std.specs.Prelude.{◌≡◌, ℕ, List, [], ◌∷◌, ◌++◌, Option, Some, None, length}
 use Rattle.cool_syntax.specs.declared.node.Node.{Node}
 use Rattle.cool_syntax.specs.declared.node.Node.TheVariants as node
@@ -29,7 +29,8 @@ pub record Lies {A : Type 0} (xs : List A) (k : ℕ) (ys : List A) : Type 0 wher
   pub before : length front ≡ k
   pub is : xs ≡ front ++ (ys ++ back)
 
--- A number of the body is that of the root of an expression, whose nodes stand there, and whose types are those with these names in scope.
+-- The number is the root of an expression in the body: its nodes are in the list of the body's nodes, and its types, with these names in scope, in the list
+-- of types.
 pub record IsPart (b : TypedBody) (scope : List Binding) (id : NodeId) : Type 0 where
   pub before : ℕ
   pub tree : Tree

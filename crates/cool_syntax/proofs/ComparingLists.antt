@@ -1,4 +1,4 @@
--- Two lists compared element by element.
+-- Two lists with equal images have the same length and equal images at each position; a property of all positions holds of the lists.
 use Rattle.std.proofs.Common.{◌≡◌, ℕ, ◌<◌, ◌≤◌, zero, suc, List, [], ◌∷◌, length, get_or, take, map, refl, arith}
 use Rattle.std.proofs.lemmas.List.{take_all}
 

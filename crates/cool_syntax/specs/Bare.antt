@@ -1,10 +1,10 @@
--- Trees without their places: every place is set to one.
+-- `bare` is a tree without its places: the place of each node and of each type name becomes `nowhere`, so trees that differ only in places become equal.
 use Rattle.cool_syntax.specs.declared.place.Place.{Place}
 use Rattle.cool_syntax.specs.declared.type_ref.TypeRef.{TypeRef}
 use Rattle.cool_syntax.specs.Tree.{Tree, Trees, MaybeTree, Cases, Twig, Last, More, Without, With, NoCase, CaseOf}
 use Rattle.cool_syntax.specs.Tree.{Leaf, Call, leaf, unary, binary, call, If, Block, Let, Case, new, id, int, str, truth, dynamic, static}
 
--- the place that stands for all
+-- the place that `bare` puts everywhere
 abbrev pub nowhere : Place
 nowhere = record { file = 0; line = 0; byte = 0 }
 

@@ -1,5 +1,5 @@
--- The order of a list of faults: by file, then by byte, then by kind, and last by line. (Of places of one text the line never decides: it
--- follows from the byte.) So two faults of which each is no later than the other are one.
+-- `IsNoLater` is the order of faults in a list: by file, then by byte, then by the rank of the fault's kind, and last by line. The line never decides between
+-- places of one text, because it follows from the byte. Two faults are equal in file, byte, rank and line if each is no later than the other.
 use Rattle.std.specs.Prelude.{◌≡◌, ◌⊎◌, ℕ, ◌<◌, ◌≤◌, List, [], ◌∷◌}
 use Rattle.cool_syntax.specs.declared.place.Place.{Place}
 
@@ -12,7 +12,7 @@ pub record Standing : Type 0 where
 abbrev pub IsLessOr : ℕ → ℕ → Type 0 → Type 0
 IsLessOr m n Follows = (m < n) ⊎ ((m ≡ n) × Follows)
 
--- the first stands before the second, or where it does
+-- the first is before the second in this order, or equal to it
 abbrev pub IsNoLater : Standing → Standing → Type 0
 IsNoLater a b = IsLessOr a.at.file b.at.file (IsLessOr a.at.byte b.at.byte (IsLessOr a.rank b.rank (a.at.line ≤ b.at.line)))
 

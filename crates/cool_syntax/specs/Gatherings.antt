@@ -1,9 +1,9 @@
--- Folds over trees, from a number or a fact of each form without parts and of each branch of a case. The other forms add nothing of their own: their result
--- is that of their parts together.
+-- `gathered` folds over a tree: it starts from a value for each leaf, applies a function at each branch of a case, and combines the values of parts by
+-- `both`. The other forms add nothing of their own.
 use Rattle.cool_syntax.specs.Tree.{Leaf, Tree, Trees, MaybeTree, Cases, Last, More, Without, With, NoCase, CaseOf}
 use Rattle.cool_syntax.specs.Tree.{leaf, unary, binary, call, If, Block, Let, Case}
 
--- the results for no part, for two parts together, for a form without parts, and for a branch from that of its body
+-- the results for no part, for two parts together, for a form without parts, and for a branch by the result of its body
 pub record Gathering {ℓ} (R : Type ℓ) : Type ℓ where
   pub none : R
   pub both : R → R → R

@@ -1,5 +1,6 @@
--- The grammar of Cool (Cool manual, section 11): which classes tokens are, and where the first fault of other tokens is. Tokens are a file
--- where they are the reading of a shaped concrete tree; its plain form is the tree of the file. This project's files may have no class.
+-- The grammar of Cool (Cool manual, section 11): `Parses` says which classes the tokens of a file make, and `IsUnexpected` where the first fault of other
+-- tokens is. Tokens are a file if a concrete tree with these tokens keeps the rules of precedence (`IsShapedFile`); its plain form (`plain_file`) is the tree
+-- of the file. In this project a file may have no class.
 use Rattle.std.specs.Prelude.{◌≡◌, refl, List, [], ◌∷◌, ◌++◌, codes, None, ◌⊎◌}
 use Rattle.std.proofs.Common.{arith}
 use Rattle.cool_syntax.specs.declared.place.Place.{Place}

@@ -1,5 +1,5 @@
--- The forms of Cool's lexical structure (manual, section 10): which text is one lexeme, one byte of white space or one comment.
--- The limits on integers and on strings are left aside here. Each form is known by its first byte.
+-- `form` is the form of a whole text in Cool's lexical structure (manual, section 10): one lexeme, one byte of white space or one comment. The first byte of
+-- a text decides which rule applies. LexicalStructure.antt adds the limits on integers and strings.
 use Rattle.std.specs.Prelude.{◌≡◌, ℕ, suc, zero, ◌+◌, ◌-◌, ◌*◌, Bool, true, false, not, ◌&&◌, ◌||◌, ◌==◌, nat_le, bytes_eq, if◌then◌else◌, List, [], ◌∷◌, length, map, codes, Option, Some, None, option_map, refl}
 use Rattle.std.specs.List.{fold, list_all}
 use Rattle.cool_syntax.specs.declared.token.TokenKind.{TokenKind}

@@ -1,4 +1,5 @@
--- Cool's lexical structure (manual, section 10), with this compiler's limits: which bytes are which tokens, and the first fault of a text with its place.
+-- Cool's lexical structure (manual, section 10), with this compiler's limits: `Lexes` says which tokens the bytes of a file are, and `LexFault` which fault
+-- of a file is the first, with its place.
 use Rattle.std.specs.Prelude.{◌≡◌, ◌⊎◌, ℕ, ◌+◌, ◌-◌, ◌≤◌, ◌<◌, Bool, false, ◌&&◌, ◌==◌, nat_lt, if◌then◌else◌, List, [], ◌∷◌, ◌++◌, length, take, drop, codes, Option, Some, None, refl}
 use Rattle.std.specs.List.{count_by, take_while}
 use Rattle.std.specs.Option.{is_none}
@@ -73,7 +74,7 @@ fault (b ∷ bs) = fault_of (class_of b) b bs
 
 -- Good items
 
--- The rest of a text begins with a good item of this form and size: it shows no fault, and no longer form begins it.
+-- The rest of a text begins with an item of this form and size, which has no fault, and with no longer form.
 pub record IsItem (rest : List ℕ) (f : Form) (size : ℕ) : Type 0 where
   pub good : fault rest ≡ None
   pub within : size ≤ length rest
@@ -85,7 +86,7 @@ pub record Item : Type 0 where
   pub offset : ℕ
   pub size : ℕ
 
--- These items, one after the other, are the text from one place to another; `rest` stands at the first, `left` at the second.
+-- These items, one after the other, are the text from one offset to another; `rest` is the text from the first offset on, `left` from the second.
 abbrev pub Leads : ℕ → List ℕ → List Item → ℕ → List ℕ → Type 0
 Leads at rest [] to left = (at ≡ to) × (rest ≡ left)
 Leads at rest (i ∷ is) to left = (i.offset ≡ at) × IsItem rest i.form i.size × Leads (at + i.size) (drop i.size rest) is to left
@@ -129,14 +130,14 @@ abbrev pub run_of : Run → List Token → Run
 run_of r [] = r
 run_of r (t ∷ ts) = run_of (run_after r t.kind) ts
 
--- each token finds fewer than MOST_TOKENS before it in its run
+-- before each token, its run has fewer than MOST_TOKENS tokens
 abbrev pub FitsRuns : Run → List Token → Type 0
 FitsRuns r [] = Unit {0}
 FitsRuns r (t ∷ ts) = (r.length < MOST_TOKENS) × FitsRuns (run_after r t.kind) ts
 
 -- Whole texts
 
--- The bytes of a file are good items one after the other, the tokens are its lexemes, and no run is too long.
+-- The bytes of a file are items without a fault, one after the other; the tokens are its lexemes, and no run is too long.
 pub record Lexes (file : ℕ) (bytes : List ℕ) (tokens : List Token) : Type 0 where
   pub items : List Item
   pub leads : Leads 0 bytes items (length bytes) []
@@ -149,7 +150,7 @@ Shows file bytes at left r k place =
     ((offset : ℕ) × (fault left ≡ fault_at k offset) × (place ≡ place_at file bytes (at + offset)))
     ⊎ ((lexeme : TokenKind) × (size : ℕ) × IsItem left (Lexeme lexeme) size × (r.length ≡ MOST_TOKENS) × (k ≡ L8) × (place ≡ place_at file bytes at))
 
--- Good items, with no run too long, lead up to the first fault of a file.
+-- Items without a fault, in runs that are not too long, lead up to the first fault of a file.
 pub record LexFault (file : ℕ) (bytes : List ℕ) (k : LexKind) (place : Place) : Type 0 where
   pub items : List Item
   pub at : ℕ

@@ -1,5 +1,5 @@
--- The limits of a program's source, each by its value: the number of files, the number of their bytes together, the number of bytes of a string, and the
--- number of tokens in a run.
+-- The limits of a program's source, each with its value: the number of files, of bytes in all files together, of bytes in a string constant, and of tokens in
+-- a run. A run is a feature, or the tokens between the features of two classes.
 use Rattle.std.specs.Prelude.{◌≡◌, refl}
 use Rattle.cool_syntax.specs.declared.TheConstants.{MOST_FILES, MOST_SOURCE_BYTES, MOST_BYTES, MOST_TOKENS}
 

@@ -1,4 +1,5 @@
--- Groups of nodes, by which functions over all forms are told apart.
+-- Groups of nodes: calls, bindings, control, unary, binary and leaf nodes. A function over all forms of nodes can thus be divided into one function for each
+-- group.
 use Rattle.cool_syntax.specs.declared.node.Node.{Node}
 use Rattle.cool_syntax.specs.declared.node.Node.TheVariants.{Assign, Dispatch, StaticDispatch, If, While, Block, Let, Case, New, IsVoid, Arith, Neg, Compare, Not, Id, Int, Str, Bool}
 

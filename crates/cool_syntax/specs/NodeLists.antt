@@ -1,4 +1,4 @@
--- Trees as lists of nodes: from a tree to its list, and from a list of nodes to the trees at its numbers.
+-- `nodes` lists the nodes of a tree in postorder, `tree_of` makes the tree of a list again, and `tree_at` is the subtree whose root has a given number.
 use Rattle.std.specs.Prelude.{◌≡◌, ℕ, ◌+◌, ◌-◌, ◌<◌, List, [], ◌∷◌, ◌++◌, Option, Some, None, IfSome, length, map, get_or, refl}
 use Rattle.std.specs.List.{AllByRecursion}
 use Rattle.std.specs.Option.{option_map}
@@ -87,7 +87,7 @@ abbrev mutual
 abbrev pub IsPostorder : List Node → Type 0
 IsPostorder ns = (t : Tree) × (ns ≡ nodes 0 t)
 
--- the tree at a number, of the trees of all nodes; past them some tree
+-- the tree at a number in a list of the trees of all nodes; past the end of the list, an arbitrary tree
 abbrev pub at_id : List Tree → NodeId → Tree
 at_id ts id = get_or ts id.0 (trees.Int nowhere 0)
 
@@ -116,7 +116,7 @@ made ts (node.Int at value) = trees.Int at value
 made ts (node.Str at bytes) = trees.Str at bytes
 made ts (node.Bool at value) = trees.Bool at value
 
--- the trees of all nodes, after those that are there
+-- the trees `ts` of earlier nodes, followed by the trees of these nodes
 abbrev pub grown : List Tree → List Node → List Tree
 grown ts [] = ts
 grown ts (n ∷ ns) = grown (ts ++ made ts n ∷ []) ns
@@ -132,7 +132,7 @@ all_trees t = grown [] (nodes 0 t)
 abbrev pub tree_at : Tree → NodeId → Tree
 tree_at t id = at_id (all_trees t) id
 
--- the trees that parts of a body stand for: of a node, of numbers, of a number that may be missing, and of branches
+-- the trees of parts of a body: of a node, of numbers, of a number that may be missing, and of branches
 abbrev pub tree_of_node : Tree → Node → Tree
 tree_of_node body n = made (all_trees body) n
 
@@ -166,7 +166,7 @@ HasPartsBelow k (node.Int at value) = Unit {0}
 HasPartsBelow k (node.Str at bytes) = Unit {0}
 HasPartsBelow k (node.Bool at value) = Unit {0}
 
--- from this number on, the parts of each node come before it
+-- The nodes are numbered from `k`, and the parts of each node come before it.
 abbrev pub Ordered : ℕ → List Node → Type 0
 Ordered k [] = Unit {0}
 Ordered k (n ∷ ns) = HasPartsBelow k n × Ordered (k + 1) ns

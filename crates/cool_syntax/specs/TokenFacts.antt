@@ -1,5 +1,5 @@
--- The properties of tokens that the layers above the lexer may rely on: each token is its lexeme within the limits, the tokens stand in rising places of
--- their file, and they take no more bytes than the file has.
+-- The properties of tokens on which the layers above the lexer rely: names and constants are lexemes within the limits, places rise within their file, and
+-- tokens take no more bytes than the file has.
 use Rattle.std.specs.Prelude.{◌≡◌, ℕ, ◌+◌, ◌<◌, ◌≤◌, List, [], ◌∷◌, length, codes, Some, refl}
 use Rattle.std.specs.List.{AllByRecursion}
 use Rattle.cool_syntax.specs.declared.TheConstants.{MOST_BYTES, MOST_SOURCE_BYTES}
@@ -26,12 +26,12 @@ IsPlaced files at = (at.file < files) × (at.line ≤ MOST_SOURCE_BYTES + 1)
 abbrev pub AreWithinLimits : ℕ → List Token → Type 0
 AreWithinLimits files = AllByRecursion (λ t. IsPlaced files t.at × IsWithinLimits t.kind)
 
--- the tokens stand in this file, each after the one before, the first at this byte or after it
+-- The tokens are in this file, each after the one before, and the first is at this byte or after it.
 abbrev pub AreRising : ℕ → ℕ → List Token → Type 0
 AreRising file low [] = Unit {0}
 AreRising file low (t ∷ ts) = (t.at.file ≡ file) × (low ≤ t.at.byte) × AreRising file (t.at.byte + 1) ts
 
--- no more bytes than a token takes in the text: those of a type's name, those of a string and one quote, and else one
+-- a lower bound on the bytes of a token in the text: those of a type's name, those of a string and one quote, and one for any other token
 abbrev pub weight : TokenKind → ℕ
 weight (kind.TypeId name) = length name
 weight (kind.Str bytes) = 1 + length bytes

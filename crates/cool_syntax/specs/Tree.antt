@@ -31,7 +31,7 @@ pub data Call : Type 0 where
   dynamic : (name : List ℕ) → Call
   static : (class : TypeRef) (name : List ℕ) → Call
 
--- a tree, by the kind of its parts; trees in order; a tree or none; the branches of a case
+-- a tree, by the kind of its parts; a list of trees; a tree or none; the branches of a case
 mutual
   pub data Tree : Type 0 where
     leaf : (at : Place) (form : Leaf) → Tree

@@ -1,4 +1,4 @@
--- The code of trees, by which a proof tells them apart: a tree as a tree of numbers, and back.
+-- `tree_code` encodes a tree as a tree of numbers, and `decode` recovers it, so that a proof can tell different trees apart.
 use Rattle.std.specs.Prelude.{◌≡◌, ℕ, Bool as Truth, true, false, List, [], ◌∷◌, refl}
 use Rattle.std.proofs.Common.{ap, zero, suc}
 use Rattle.std.specs.Coded.{Coded, code_by}
@@ -121,7 +121,7 @@ mutual
   cases_code NoCase = gnil
   cases_code (CaseOf at name declared t cs) = gcons (place_gv at) (gcons (word_gv name) (gcons (type_gv declared) (gcons (code t) (cases_code cs))))
 
--- the tree of a code, and some tree where it is none
+-- the tree of a code; an arbitrary tree if the value is no code
 mutual
   decode : Gv → Tree
   decode (gcons (gnum zero) (gcons p (gcons name t))) = Assign (place_of p) (word_of name) (decode t)
@@ -195,7 +195,7 @@ mutual
 pub tree_code : Coded Tree
 tree_code = code_by Gv (record { code = λ g. g; inj = λ x y e. e }) code decode decode_code
 
--- a twig as the `let` of its parts
+-- a twig, which is a branch of a case by itself, as a `let` with its name, type and body
 abbrev twig_tree : Twig → Tree
 twig_tree w = Let w.at w.name w.declared Without w.body
 

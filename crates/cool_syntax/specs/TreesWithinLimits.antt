@@ -1,5 +1,5 @@
--- The lexer's promises about its tokens, as properties of the tree that they make: each name is its own lexeme and no keyword, each string keeps its limit,
--- and each place is in one of so many files. An integer is any word: a source has those below 2 ^ 31, and folding makes the others.
+-- `IsTreeWithin` carries the lexer's promises about tokens over to trees: each name is a lexeme and no keyword, each string keeps its limit, and each place
+-- is in one of so many files. An integer may be any 32-bit word: the source has only those below 2 ^ 31, and constant folding makes the others.
 use Rattle.std.specs.Prelude.{ℕ, ◌<◌, ◌^◌, List, IfSome, codes, refl}
 use Rattle.std.specs.List.{AllByRecursion}
 use Rattle.cool_syntax.specs.declared.token.TokenKind.TheVariants as kind

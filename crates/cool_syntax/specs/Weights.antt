@@ -1,4 +1,5 @@
--- The weight of a text: the names of its classes, and the formals, nodes, branches and bytes of string constants of its features.
+-- `classes_weight` is a measure of the size of a text: it counts the classes with the bytes of their names, and the features with their formals, nodes, case
+-- branches and bytes of string constants.
 use Rattle.std.specs.Prelude.{◌≡◌, ℕ, ◌+◌, List, [], ◌∷◌, length, codes, Option, Some, None, refl}
 use Rattle.cool_syntax.specs.declared.place.Place.{Place}
 use Rattle.cool_syntax.specs.declared.type_ref.TypeRef.{TypeRef}
@@ -34,7 +35,7 @@ abbrev pub text_of_feature : Feature → ℕ
 text_of_feature (Method m) = text_in m.body
 text_of_feature (Attribute a) = text_of_value a.init
 
--- a feature: itself, its formals, its nodes and branches, and the bytes of its strings
+-- the weight of a feature: one for the feature, its formals, its nodes and branches, and the bytes of its strings
 abbrev pub feature_weight : Feature → ℕ
 feature_weight f = 1 + feature_size f + text_of_feature f
 
@@ -42,7 +43,7 @@ abbrev pub features_weight : List Feature → ℕ
 features_weight [] = 0
 features_weight (f ∷ fs) = feature_weight f + features_weight fs
 
--- classes: each itself, its name and its features
+-- the weight of classes: one for each class, the bytes of its name, and the weight of its features
 abbrev pub classes_weight : List ClassDef → ℕ
 classes_weight [] = 0
 classes_weight (c ∷ cs) = 1 + length c.name + features_weight c.features + classes_weight cs

@@ -1,5 +1,5 @@
--- The tokens that trees are written as. Every operand that is no atom stands in parentheses, and each token has the place of the tree
--- that it belongs to. A file can be written where no block and no case in it is empty.
+-- `written` is the list of tokens that writes a tree as source text: each operand that is not an atom stands in parentheses, and each token has the place of
+-- its tree. A file can be written if no block and no case in it is empty.
 use Rattle.std.specs.Prelude.{◌≡◌, refl, Bool, true, false, if◌then◌else◌, List, [], ◌∷◌, ◌++◌, codes, Option, Some, None}
 use Rattle.std.specs.List.{AllByRecursion}
 use Rattle.cool_syntax.specs.declared.place.Place.{Place}
@@ -30,7 +30,7 @@ is_atom (trees.Compare at op a b) = false
 is_atom (trees.Not at t) = false
 is_atom _ = true
 
--- the tokens of an operand, of which these are the tree's
+-- the tokens of the operand `t`, whose own tokens are `ws`: in parentheses unless `t` is an atom
 abbrev pub enclosed : Tree → List Token → List Token
 enclosed t ws = if is_atom t then ws else symbol sign.LParen (place_of t) ∷ ws ++ symbol sign.RParen (place_of t) ∷ []
 

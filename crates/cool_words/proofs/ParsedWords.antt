@@ -1,4 +1,4 @@
--- The consequences of clap's contract for a command's words.
+-- If clap accepts a command's words, they ask for the plan that its matches ask for; if it refuses them, and not because memory ran out, they ask for none.
 use Rattle.std.proofs.Common.{◌≡◌, ◌∙◌, sym, ap, refl, inl, inr, arith, true, false, List, [], ◌∷◌, None}
 use Rattle.std.specs.Prelude.{if◌then◌else◌}
 use Rattle.clap.specs.Walk.{is_empty}

@@ -1,4 +1,4 @@
--- The commands of a command line, each as a simple command of clap: what it takes beside its name.
+-- `app_for` describes each command of the command line to clap, the library that parses arguments: its options, flags and positional arguments.
 use Rattle.std.specs.Prelude.{true, [], Option, Some, None, bytes_eq, codes, if◌then◌else◌}
 use Rattle.clap.specs.Words.{App, Rule, Text, new_rule, with_rule}
 use Rattle.clap.specs.Simple.{new_shape}
@@ -57,7 +57,7 @@ with_limits app = with_steps (with_rule (with_rule app (option_rule (codes "heap
 abbrev pub bare : Text → App
 bare name = record { top = record (new_shape name) { disable_help_flag = true }; subs = [] }
 
--- the command as clap has it
+-- the description of the command for clap
 abbrev pub app_for : CommandWord → App
 app_for Run = with_rule (with_rule (with_limits (bare (codes "run"))) (flag_rule (codes "fold"))) FILES
 app_for Eval = with_rule (with_steps (bare (codes "eval"))) FILES

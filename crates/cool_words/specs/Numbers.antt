@@ -1,4 +1,4 @@
--- The texts that are numbers within bounds.
+-- `number_in` is the number that a text denotes, if it has 1 to 19 decimal digits and the number is within bounds.
 use Rattle.std.specs.Prelude.{◌&&◌, ◌≡◌, ◌≤◌, ℕ, Bool, List, length, nat_le, nat_lt, if◌then◌else◌, Option, Some, None, codes, refl}
 use Rattle.std.specs.List.{list_all}
 use Rattle.std.specs.Char.{is_ascii_digit}
@@ -11,11 +11,11 @@ is_number text = nat_lt 0 (length text) && (nat_le (length text) 19 && list_all 
 abbrev pub is_within : ℕ → ℕ → ℕ → Bool
 is_within low high n = nat_le low n && nat_le n high
 
--- the same as a fact
+-- `is_within` as a proposition
 abbrev pub IsWithin : ℕ → ℕ → ℕ → Type 0
 IsWithin low high n = (low ≤ n) × (n ≤ high)
 
--- the number that the text is, if it is one from low to high
+-- the number that the text denotes, if it is from low to high
 abbrev pub number_in : ℕ → ℕ → List ℕ → Option ℕ
 number_in low high text =
     if is_number text && is_within low high (digits_value 10 text) then Some (digits_value 10 text) else None

@@ -1,4 +1,4 @@
--- The plan that a command line asks for, if any: clap takes its words, and its numbers and names are in bounds.
+-- `plan_of` is the plan that a command line asks for, if any: clap accepts its words, and its numbers and file names are within bounds.
 use Rattle.std.specs.Prelude.{◌≡◌, ◌&&◌, ◌==◌, ℕ, Bool, true, false, not, List, [], ◌∷◌, length, map, nat_le, nat_lt, if◌then◌else◌, Option, Some, None, option_map, option_and_then, bytes_eq, codes, String, string_bytes, Result, MatchResult, ⊤, refl}
 use Rattle.std.specs.List.{list_all, list_any, repeat}
 use Rattle.std.specs.Global.{Global}
@@ -93,7 +93,7 @@ file_in argument rows = option_and_then if_name (first_of argument rows)
 abbrev pub value_in : Text → ℕ → ℕ → Option ℕ → List Row → Option ℕ
 value_in name low high default rows = option_map_or (number_in low high) (first_of name rows) default
 
--- the limits where the words do not say
+-- the limits if the words give none
 abbrev pub usual_limits : RunLimits
 usual_limits = record { heap_kib = 32768; stack_kib = 8192; steps = 1000000000 }
 
@@ -202,7 +202,7 @@ session_alone : plan_of (codes "session" ∷ []) ≡ Some session
 unfolding on_literals
 session_alone = refl
 
--- and of what asks for nothing
+-- worked examples of words that ask for no plan
 no_words : plan_of [] ≡ None
 no_words = refl
 
@@ -275,7 +275,7 @@ help = refl
 
 -- ---- what an answer says
 
--- an Ok is the wanted value, Usage comes only if there is none, and Memory says nothing
+-- an Ok has the wanted value, the error Usage comes only if there is none, and the error Memory promises nothing
 abbrev pub Answers : {T X : Type 0} → (T → X) → Option X → Result T WordsError → Type 0
 Answers view wanted result = MatchResult result (λ t. wanted ≡ Some (view t)) (λ e. e ≡ Usage → wanted ≡ None)
 

@@ -1,4 +1,4 @@
--- Facts that hold of each item of a list.
+-- Lemmas on a property that all items of a list have: it holds at each position and in each part of the list, and so do its consequences.
 use Rattle.std.proofs.Common.{◌≡◌, ℕ, zero, suc, ◌<◌, List, [], ◌∷◌, ◌++◌, length, get_or, slice_get, Some, subst, arith}
 use Rattle.std.specs.List.{AllByRecursion}
 

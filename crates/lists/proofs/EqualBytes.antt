@@ -1,4 +1,4 @@
--- The test whether two lists of bytes are the same.
+-- The test `bytes_eq` is true exactly for two lists of bytes that are the same.
 use Rattle.std.proofs.Common.{◌≡◌, ◌≢◌, ℕ, List, Bool, true, false, bytes_eq, true≢false, refl, sym, ◌∙◌}
 use Rattle.std.specs.Global.{Vec}
 use Rattle.std.proofs.lemmas.Slice.Eq.{bytes_eq-Decides}

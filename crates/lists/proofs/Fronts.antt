@@ -1,4 +1,4 @@
--- The longest prefix of a list whose bytes all pass a test.
+-- Lemmas on the longest prefix of a list whose bytes all pass a test: a byte that passes makes it longer, and a byte that does not ends it.
 use Rattle.std.proofs.Common.{◌≡◌, ℕ, suc, List, ◌∷◌, Bool, true, false, refl, arith}
 use Rattle.std.specs.List.{prefix_len}
 

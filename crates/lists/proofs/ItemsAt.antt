@@ -1,4 +1,4 @@
--- The item at a position of a list.
+-- Lemmas on the item at a position of a list, also after another list is appended or an item is written.
 use Rattle.std.proofs.Common.{◌≡◌, ℕ, zero, suc, ◌<◌, List, [], ◌∷◌, ◌++◌, length, get_or, set, replicate, slice_get, slice_set, ◌==◌, Option, Some, None, IsSome, is_some, cond, inl, inr, refl, ap, ◌∙◌, arith, get_or-set_same, get_or-set_other}
 use Rattle.std.proofs.Math.ListN.{get_or-eq_default}
 use Rattle.std.proofs.lemmas.Bool.{cases_eq}

@@ -1,4 +1,4 @@
--- The items of a list from a position on.
+-- The items of a list from a position on are the item there and the rest after it.
 use Rattle.std.proofs.Common.{◌≡◌, ℕ, zero, suc, ◌+◌, ◌-◌, ◌<◌, List, [], ◌∷◌, length, take, drop, get_or, ap, sym, subst, take_all, arith}
 use native.Mathlib.Numerals.{add-one}
 

@@ -1,4 +1,4 @@
--- Concatenated lists.
+-- Lemmas on concatenated lists: if the result is empty, so are its parts, and the lists of a range of numbers end with that of the last number.
 use Rattle.std.proofs.Common.{◌≡◌, ℕ, zero, suc, ◌+◌, List, [], ◌∷◌, ◌++◌, flat_map, ap, ◌∙◌, sym, refl, append_assoc, append-nil, arith}
 use Rattle.std.specs.List.{range_with_len}
 

@@ -1,4 +1,4 @@
--- The order of numbers, and their digits.
+-- Lemmas on the order of numbers, on the bytes of digits, and on the low bits of a number in decimal digits.
 use Rattle.std.proofs.Common.{◌≡◌, ◌⊎◌, ℕ, suc, ◌+◌, ◌*◌, ◌%◌, ◌<◌, ◌≤◌, Bool, true, false, nat_eq, nat_lt, inl, inr, refl, sym, ap, ◌∙◌, subst, arith}
 use Rattle.std.specs.Char.{is_ascii_digit}
 use Rattle.std.proofs.Math.Nat.{mod-add-mod}

@@ -1,4 +1,4 @@
--- Options that have a value, and those that have none.
+-- Lemmas on the tests whether an option has a value, and on a look-up that copies this value.
 use Rattle.std.proofs.Common.{◌≡◌, ℕ, Option, Some, None, is_some, IsSome, option_copied, Bor, true, false, true≢false, refl, sym}
 
 -- the test fails at none

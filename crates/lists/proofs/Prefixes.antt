@@ -1,4 +1,4 @@
--- Suffixes of lists of bytes.
+-- A list of bytes is a suffix of itself, and stays one if more bytes come before the whole.
 use Rattle.std.proofs.Common.{ℕ, List, [], ◌++◌, refl, sym, ap, ◌∙◌, append_assoc}
 use Rattle.lists.specs.Prefixes.{IsSuffix}
 

@@ -1,4 +1,4 @@
--- Facts about a result that is no error.
+-- If each possible value has a consequence, the value of a result that is no error has it.
 use Rattle.std.proofs.Common.{◌≡◌, Result, Ok, Err, is_err, IfOk, OnOk, false}
 
 pub on_ok : {T E P : Type 0} (result : Result T E) → is_err result ≡ false → OnOk result P → P

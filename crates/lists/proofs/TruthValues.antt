@@ -1,4 +1,4 @@
--- And, or, with one truth value that is known.
+-- Lemmas on the conjunction and the disjunction of two truth values of which one is known.
 use Rattle.std.proofs.Common.{◌≡◌, Bool, true, false, ◌&&◌, ◌||◌, refl}
 
 pub or_true : (b : Bool) → (b || true) ≡ true

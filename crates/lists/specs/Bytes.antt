@@ -1,4 +1,4 @@
--- Lists of bytes: numbers below 256.
+-- `AreBytes` says that a list of numbers is a list of bytes: each number is below 256.
 use Rattle.std.specs.Prelude.{ℕ, List, ◌<◌}
 use Rattle.std.specs.List.{AllByRecursion}
 

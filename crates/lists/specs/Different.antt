@@ -1,4 +1,4 @@
--- Lists of names in which none stands twice.
+-- `AreDifferent` says that no name occurs twice in a list of names.
 use Rattle.std.specs.Prelude.{◌≢◌, ℕ, List, [], ◌∷◌}
 use Rattle.std.specs.List.{AllByRecursion}
 

@@ -1,4 +1,4 @@
--- Prefixes and suffixes of lists of bytes.
+-- `IsPrefix` and `IsSuffix` say that a list of bytes begins, or ends, with another one.
 use Rattle.std.specs.Prelude.{◌≡◌, ℕ, List, ◌++◌}
 
 -- the whole begins with these
