@@ -1,4 +1,4 @@
--- Counts of the calls of a typer: a number that rises by one at each call, and that stays at its greatest value.
+-- `called` counts the calls of a typer (a type checker): the number rises by one at each call, and stays at its greatest value.
 use Rattle.std.specs.Prelude.{ℕ, ◌+◌, min}
 
 -- the last value of the number

@@ -1,5 +1,5 @@
--- The arguments and results of checks of expressions: a value, the first fault or out of memory, as the definition gives it; and the types of nodes that
--- they add to those before.
+-- `IsAnswer` is the result of a check of an expression, as the definition gives it: a value, the first fault, or out of memory. `nodes_typed` gives the types
+-- of the nodes of an expression.
 use Rattle.std.specs.Prelude.{◌≡◌, ℕ, ◌<◌, List, ◌++◌, length, Result, Ok, IfOk, IfErr}
 use Rattle.std.specs.List.{AllByRecursion}
 use Rattle.cool_syntax.specs.declared.file_tree.Feature.{Feature}
@@ -49,7 +49,8 @@ pub record AreArguments (s : TypingSetting) (ids : List NodeId) (types : List Ty
   pub given : AllByRecursion (IsType s.table.now) types
   pub each : length types ≡ length ids
 
--- The answer if the definition gives this: the value, which is good, or the first fault, which stands in one of the files; or out of memory.
+-- The result of a check for which the definition gives `given`: that value, which satisfies `IsGood`, or the first fault, with its place in one of the files,
+-- or out of memory.
 pub record IsAnswer {X : Type 0} (given : Checked X) (IsGood : X → Type 0) (IsWithin : ℕ → Type 0) (result : Result X CheckError) : Type 0 where
   pub good : IfOk result IsGood
   pub typed : IfOk result (λ x. given ≡ Ok x)

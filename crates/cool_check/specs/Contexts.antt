@@ -1,4 +1,5 @@
--- The context in which an expression is checked: a class of a table, with the names in scope at the root of its feature.
+-- `Context` is the setting in which an expression is checked: a class of a table, with its attributes. `attribute_bindings` and `formal_bindings` give the
+-- names in scope at the root of a feature.
 use Rattle.std.specs.Prelude.{List, [], map}
 use Rattle.cool_syntax.specs.declared.file_tree.Formal.{Formal}
 use Rattle.cool_classes.specs.declared.class_id.ClassId.{ClassId}
@@ -13,7 +14,7 @@ use Rattle.cool_check.specs.declared.typing_setting.TypingSetting.{TypingSetting
 abbrev pub attribute_bindings : List Class → ClassId → List Binding
 attribute_bindings p c = entered (map (attribute_binding p) (attributes_of p (chain p c))) []
 
--- the formals of a method, the latest first
+-- the formal parameters of a method, the latest first
 abbrev pub formal_bindings : List Class → List Formal → List Binding
 formal_bindings p fs = entered (map (formal_binding p) fs) []
 

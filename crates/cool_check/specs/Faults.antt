@@ -1,4 +1,4 @@
--- The faults of typing: their order, and the files in which they stand.
+-- The faults (compile-time errors) of typing: their order, and the files in which they stand.
 use Rattle.std.specs.Prelude.{◌≡◌, ◌≢◌, ℕ, ◌<◌, List, [], length}
 use Rattle.std.specs.List.{AllByRecursion}
 use Rattle.cool_syntax.specs.declared.place.Place.{Place}

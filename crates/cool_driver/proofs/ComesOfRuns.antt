@@ -1,4 +1,4 @@
--- The end of calls that ran an image.
+-- Lemmas on the end of calls that ran an image: their status, output, note and rest of the input are those that are due.
 use Rattle.std.proofs.Common.{List, Option, Some, [], arith, inl, inr, refl, ℕ, ◌∙◌, ◌≡◌, ◌⊎◌}
 use Rattle.cool_words.specs.declared.plan.RunLimits.{RunLimits}
 use Rattle.mips_isa.specs.{Calls.{Exited, Outcome, Running, State, Trapped}, ImageBounds.{ImageParts}, Run.{start}}

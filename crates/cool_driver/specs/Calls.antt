@@ -1,12 +1,13 @@
--- A call of `cool`: its request, the files that were read for it, and the use of its output, its notes and its input.
+-- `Call` describes one call of `cool`: its arguments, the files that it read, the bytes that it wrote, and the rest of its input. A note is a message on
+-- standard error; a shelf gives files by name, and a sink takes bytes.
 use Rattle.std.specs.Prelude.{◌≡◌, ◌≢◌, ℕ, ◌<◌, ◌≤◌, List, [], Option, Some}
 use Rattle.cool_ports.specs.{Counts.{last_count, Rose}, ShelfFiles.{FileMap}, SinkBytes.{appended, GotPrefix}}
 use Rattle.cool_ports.specs.declared.shelf.Shelf as shelf
 use Rattle.cool_ports.specs.declared.sink.Sink as sink
 use Rattle.cool_driver.specs.{Outside.{Outside, ShelfState, SinkState, shelf_at, sink_at}, Statuses.{WRITE_FAULT, OUT_OF_MEMORY}}
 
--- The request of a call: its arguments; the files that the shelf tells, and its count of faults before and after; the names that it was asked for and the
--- bytes of each file that it gave up to the end; and an input that the source may have had left at first.
+-- The request of a call: its arguments; the files of the shelf, if contracts can see them, and its count of faults before and after; the names that it was
+-- asked for and the bytes of each file that it gave up to the end; and an input that the source may have had left at first.
 pub record Request : Type 0 where
   pub words : List (List ℕ)
   pub files : Option FileMap
@@ -16,8 +17,8 @@ pub record Request : Type 0 where
   pub gave_after : List (List ℕ)
   pub input : List ℕ
 
--- The use of a shelf by a call: the files that it tells, its count of faults before and after, and the names that it was asked for and the bytes of each
--- file that it gave up to the end.
+-- The use of a shelf by a call: its files, if contracts can see them, its count of faults before and after, and the names that it was asked for and the bytes
+-- of each file that it gave up to the end.
 pub record ShelfUse : Type 0 where
   pub files : Option FileMap
   pub faults_before : ℕ
@@ -71,16 +72,15 @@ sink_between before after = record {
 abbrev pub sink_use : {S : Type 0} → sink.Ghosts S → S → S → SinkUse
 sink_use of before after = sink_between (sink_at of before) (sink_at of after)
 
--- these bytes and no others came, without a fault
+-- the sink got exactly these bytes, without a fault
 abbrev pub Got : SinkUse → List ℕ → Type 0
 Got s bytes = (s.held_after ≡ appended s.held_before bytes) × (s.faults_after ≡ s.faults_before)
 
--- a write failed: these bytes came, and of these a prefix
+-- a write failed: the sink got the first bytes, and only a prefix of the others
 abbrev pub GotPart : SinkUse → List ℕ → List ℕ → Type 0
 GotPart s bytes more = GotPrefix (appended s.held_before bytes) more s.held_after × Rose s.faults_before s.faults_after
 
--- A call of `cool`: what it was asked, how its output and its notes fared, what is left of the input, and the input's count of
--- faults.
+-- A call of `cool`: its request, the use of its output and of its notes, the rest of the input, and the input's count of faults before and after.
 pub record Call : Type 0 where
   pub request : Request
   pub out : SinkUse
@@ -129,10 +129,10 @@ call_between words before after input rest =
     call_of words (shelf_between before.shelf after.shelf) input rest before.input.faults after.input.faults (sink_between before.out after.out)
     (sink_between before.notes after.notes)
 
--- the shelf tells these files, and no fault of it can have come
+-- contracts can see that the shelf has these files, and no fault of it came
 abbrev pub HasTold : ShelfUse → FileMap → Type 0
 HasTold shelf files = (shelf.files ≡ Some files) × (shelf.faults_before < last_count) × (shelf.faults_after ≡ shelf.faults_before)
 
--- so it is, unless a write failed or memory ran out
+-- the fact holds, unless the status says that a write failed or that memory ran out
 abbrev pub UnlessCutShort : ℕ → Type 0 → Type 0
 UnlessCutShort status fact = status ≢ WRITE_FAULT → status ≢ OUT_OF_MEMORY → fact

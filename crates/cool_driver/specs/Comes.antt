@@ -1,9 +1,10 @@
--- The end of a call with a result that is due: all of it was written, or a part if a write failed, or nothing if memory ran out before it.
+-- `Comes` says how a call ends whose result is specified (`due`). All of the result was written, or a part of it because a write failed, or nothing because
+-- memory ran out before.
 use Rattle.std.specs.Prelude.{◌≡◌, ◌≢◌, ℕ, List, [], ◌++◌}
 use Rattle.cool_ports.specs.SinkPuts.{PutFront}
 use Rattle.cool_driver.specs.{Calls.{Call, SinkUse, Got, GotPart, DidNothing, UnlessCutShort}, Statuses.{READ_FAULT, WRITE_FAULT, OUT_OF_MEMORY}}
 
--- a result that is due: the status, the output, the note, and the rest of the input
+-- a specified result: a relation of the status, the output, the note, and the rest of the input
 abbrev pub Dues : Type 1
 Dues = (status : ℕ) → (output note left : List ℕ) → Type 0
 

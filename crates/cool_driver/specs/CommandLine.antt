@@ -1,4 +1,4 @@
--- The meaning of the arguments of a call, and the action that they request.
+-- `asked_for` parses the arguments of a call of `cool`, and `doing_of` gives the specification of the command that they request.
 use Rattle.std.specs.Prelude.{◌≡◌, ℕ, false, List, Option, Some, None, IfSome}
 pub use Rattle.cool_words.specs.Plans.{words_of}
 use Rattle.cool_words.specs.Plans as words
@@ -33,6 +33,6 @@ names_asked asked = (doing_of asked).asked
 abbrev pub IfSources : Option Asked → (List (List ℕ) → Type 0) → Type 0
 IfSources asked = IfSome (doing_of asked).sources
 
--- the words do not ask to take of the input
+-- the arguments request a command that does not read the input
 abbrev pub TakesNoInput : List (List ℕ) → Type 0
 TakesNoInput given = (doing_of (asked_for given)).takes ≡ false

@@ -1,4 +1,5 @@
--- The effect of `debug` for an image and a script: the commands that the script gives for a program, and the notes that they request in its run.
+-- The specification of the command `debug`: `commands_for` parses a script for a program, and `debug_notes` gives the messages that its commands write during
+-- a run.
 use Rattle.std.specs.{Prelude.{ℕ, List, Result}, List.{concat}}
 use Rattle.cool_classes.specs.Chains.{Class}
 use Rattle.cool_emit.specs.Programs.{program_lines}
@@ -17,6 +18,6 @@ commands_for p names script = commands_in (place_of (program_lines p names)) scr
 abbrev pub debuggee_within : RunLimits → ImageParts → List ℕ → Debuggee
 debuggee_within limits image input = debuggee image (heap_of limits) (stack_of limits) limits.steps input
 
--- the notes that commands ask for in it, one after another
+-- the notes that commands write during this run, one after another
 unfoldable pub debug_notes : RunLimits → ImageParts → List DebugCommand → List ℕ → List ℕ
 debug_notes limits image commands input = concat (all_notes (debuggee_within limits image input) commands beginning)

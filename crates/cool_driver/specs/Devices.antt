@@ -1,4 +1,5 @@
--- The relation between the status of a call and its devices, for all commands: which of them failed, and that no fault is ignored.
+-- `Devices` relates the status of a call, for every command, to the failures of its files, input and outputs. The status reports a failed read or write only
+-- if one failed, and no failure is ignored.
 use Rattle.std.specs.Prelude.{◌≡◌, ℕ, ◌<◌, ◌≤◌, ◌⊎◌}
 use Rattle.cool_ports.specs.Counts.{Rose}
 use Rattle.cool_driver.specs.{Calls.{Call, NoLess}, Statuses.{READ_FAULT, WRITE_FAULT, OUT_OF_MEMORY, FILE_FAULT, UNFIT}}

@@ -1,4 +1,5 @@
--- The effects of a command: the files that it asks for, its lines for faults, the input that it takes, and its end.
+-- `Doing` is the specification of a command: the files that it asks for, whether it reads the input, and its promise about the call and the status.
+-- `DoesUnless` states the effects of a command on files, input and outputs.
 use Rattle.std.specs.Prelude.{◌≡◌, ℕ, Bool, false, List, Option, IfSome}
 use Rattle.cool_ports.specs.{Answers.{Leaves}, ShelfFiles.{AskedFront}, Taking.{Took}}
 use Rattle.cool_driver.specs.{Calls.{Call, call_between, shelf_between}, Devices.{Devices}, Outside.{Outside}, Refusals.{PutsFaults}}
@@ -18,7 +19,7 @@ pub record EndsUnless (Unasked : Type 0) (Promise : Call → ℕ → Type 0) (c 
   pub ends : Promise c status
   pub usage_only : status ≡ USAGE → Unasked
 
--- the words were not at fault
+-- the end of a call whose arguments are valid, so that its status is not 2
 abbrev pub Goes : (Call → ℕ → Type 0) → Call → ℕ → Type 0
 Goes = EndsUnless ⊥
 
@@ -38,6 +39,6 @@ pub record DoesUnless (Unasked : Type 0) (d : Doing) (before after : Outside) (s
   pub ends : (words : List (List ℕ)) (given rest : List ℕ) → Leaves before.input.past after.input.past given rest
       → EndsUnless Unasked d.ends (call_between words before after given rest) status
 
--- so does a command
+-- the effects of a command whose arguments are valid, so that its status is not 2
 abbrev pub Does : Doing → (before after : Outside) → ℕ → Type 0
 Does = DoesUnless ⊥

@@ -1,9 +1,9 @@
--- The status and the note of an `eval` whose run of the source ended, or stopped at its limit of steps.
+-- The status and the note of the command `eval`, given how its run of the source program ended. `GoesOn` means that the run reached its limit of steps.
 use Rattle.std.specs.Prelude.{ℕ, List, [], Option, Some, None}
 use Rattle.cool_meaning.specs.SourceRun.{End, Done, Failed, GoesOn, IsStuck}
 use Rattle.cool_driver.specs.{Notes.{step_limit_note}, Statuses.{DONE, FAILED, STEP_LIMIT}}
 
--- the status of a run that ended so, or goes on after its last step; to one that is stuck no status belongs
+-- the status for an end of a run, or for a run that goes on after its last step; a stuck run has none
 abbrev pub status_of_end : End → Option ℕ
 status_of_end Done = Some DONE
 status_of_end (Failed error) = Some FAILED

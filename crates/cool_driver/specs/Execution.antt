@@ -1,4 +1,5 @@
--- The effect of `exec` on the bytes of a file: the image that they are, its run, and the end of the run.
+-- `IsRunnable` gives the image that `exec` runs for the bytes of a file: they encode it, or are assembly for it. `run_of` is its run within limits, and
+-- `status_of` and `note_of` give the status and the note of the run's end.
 use Rattle.std.specs.Prelude.{◌≡◌, ℕ, ◌*◌, ◌==◌, ◌⊎◌, not, if◌then◌else◌, Bool, true, List, [], ◌∷◌, None, Some}
 use Rattle.mips_isa.specs.{ImageBounds.{ImageParts, IsImage}, Bytes.{Segments, segments_of}, Lines.{Line}, Assembly.{fault_of, image_of}, declared.asm_fault.AsmFault.{AsmFault}}
 use Rattle.mips_isa.specs.{Calls.{State, Outcome, Running, Exited, Trapped}, Run.{start, run_image}}
@@ -34,7 +35,7 @@ pub record IsAssembled (image : ImageParts) (bytes : List ℕ) : Type 0 where
 abbrev pub IsTextFault : List ℕ → AsmFault → Type 0
 IsTextFault bytes fault = FirstFault bytes fault ⊎ ((lines : List Line) × Reads bytes lines × (fault_of lines ≡ Some fault))
 
--- the image that a file stands for, which `exec` runs
+-- the image that `exec` runs for a file with these bytes
 abbrev pub IsRunnable : ImageParts → List ℕ → Type 0
 IsRunnable image bytes = IsImageOf image bytes ⊎ IsAssembled image bytes
 
@@ -67,7 +68,7 @@ status_of (Running s) = STEP_LIMIT
 status_of (Exited code s) = exit_status code
 status_of (Trapped trap s) = TRAPPED
 
--- the same for how a machine halted, where a read or a write may have failed
+-- the status for how a machine halted, where a read or a write may have failed
 abbrev pub status_of_halt : Halt → ℕ
 status_of_halt (Exit code) = exit_status code
 status_of_halt (Trap trap) = TRAPPED
@@ -84,7 +85,7 @@ note_of (Running s) = step_limit_note
 note_of (Exited code s) = exit_note code
 note_of (Trapped trap s) = trap_note trap
 
--- the same for how a machine halted; where a write failed, no note follows
+-- the note for how a machine halted; after a failed write there is none
 abbrev pub note_of_halt : Halt → List ℕ
 note_of_halt (Exit code) = exit_note code
 note_of_halt (Trap trap) = trap_note trap

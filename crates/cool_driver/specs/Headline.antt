@@ -1,5 +1,5 @@
--- The promise of `run` and `debug` for accepted files: the call goes as the run of an image that means the program. So within its limits its output, its
--- end and the input that it leaves are those of the runs of the source.
+-- `Headline` states the main theorem about `run` and `debug` for accepted files: the call behaves as the run of an image that is a correct compilation of the
+-- program. So within its limits its output, its end and the rest of its input are those of the source program.
 use Rattle.std.specs.Prelude.{◌≡◌, ◌≢◌, ℕ, ◌+◌, ◌⊎◌, List, [], Some}
 use Rattle.cool_classes.specs.Chains.{Class}
 use Rattle.cool_eval.specs.Ends.{IsPart}

@@ -1,6 +1,6 @@
--- The limits of a call, each by its value. The first three bound the bytes of a file for `exec`, of a script for `debug`, and of the output that `big`
--- counts. The next ones bound the bytes of a file's name, which are those that a program may be built with, and of a piece that `build` writes. The last
--- two are the bytes of a label for which no memory is taken, and the number that stands for all larger ones in a text of assembly.
+-- `AreLimits` gives the value of each limit of a call. The first ones bound the bytes of a file for `exec`, of a script for `debug`, of the output that `big`
+-- counts, of a file's name, and of a piece that `build` writes. The last two are the longest label that is stored without allocation, and the number that
+-- replaces all larger ones in assembly.
 use Rattle.std.specs.Prelude.{◌≡◌, ◌^◌}
 use Rattle.mips_isa.specs.declared.label.TheConstants.{MOST_SHORT_NAME}
 use Rattle.mips_text.specs.declared.numbers.TheConstants.{LARGEST}

@@ -1,11 +1,11 @@
--- The outside of a call, as clauses see it at one point: a shelf, a source, and sinks for the output and the notes.
+-- `Outside` is the state of the files (a shelf), the input (a source) and the two outputs (sinks) that a call uses, at one point, as contracts see it.
 use Rattle.std.specs.Prelude.{ℕ, List, Option}
 use Rattle.cool_ports.specs.{Answers.{Past}, ShelfFiles.{FileMap}}
 use Rattle.cool_ports.specs.declared.shelf.Shelf as shelf
 use Rattle.cool_ports.specs.declared.sink.Sink as sink
 use Rattle.cool_ports.specs.declared.source.Source as source
 
--- The state of a shelf: the files that it tells, its count of faults, and the names and files that it was asked for and gave so far.
+-- The state of a shelf: its files, if contracts can see them, its count of faults, and the names and files that it was asked for and gave so far.
 pub record ShelfState : Type 0 where
   pub files : Option FileMap
   pub faults : ℕ
@@ -15,7 +15,7 @@ pub record ShelfState : Type 0 where
 abbrev pub shelf_at : {S : Type 0} → shelf.Ghosts S → S → ShelfState
 shelf_at of s = record { files = of.files s; faults = of.faults s; asked = of.asked s; gave = of.gave s }
 
--- The state of a source: the input that it gave so far, the rest if it tells that, and its count of faults.
+-- The state of a source: the input that it gave so far, the rest if contracts can see it, and its count of faults.
 pub record SourceState : Type 0 where
   pub past : Past
   pub left : Option (List ℕ)
@@ -24,7 +24,7 @@ pub record SourceState : Type 0 where
 abbrev pub source_at : {S : Type 0} → source.Ghosts S → S → SourceState
 source_at of s = record { past = of.past s; left = of.left s; faults = of.faults s }
 
--- The state of a sink: the bytes that it holds if it tells that, its count of faults, and the puts so far.
+-- The state of a sink: the bytes that it holds if contracts can see them, its count of faults, and the puts (writes) so far.
 pub record SinkState : Type 0 where
   pub held : Option (List ℕ)
   pub faults : ℕ

@@ -1,4 +1,5 @@
--- The files of a command: they were read, they are a program, or there is a reason why not.
+-- The source files of a command: `AreRead` says that they were read, `IsProgram` that they are an accepted program, and `IsNoProgram` gives the status and
+-- the note otherwise.
 use Rattle.std.specs.{Prelude.{◌≡◌, ◌≢◌, ℕ, ◌-◌, ◌<◌, ◌≤◌, ◌⊎◌, nat_lt, if◌then◌else◌, true, List, [], ◌∷◌, ◌++◌, length, Contains, Some, None, String}, List.{list_all, AllByRecursion}}
 use Rattle.std.specs.Global.{Global, Vec}
 use Rattle.cool_syntax.specs.declared.TheConstants.{MOST_FILES, MOST_SOURCE_BYTES}
@@ -32,8 +33,8 @@ EndsWith last all = (before : List (List ℕ)) × (all ≡ before ++ last)
 abbrev pub GrewBy : ℕ → List (List ℕ) → List (List ℕ) → Type 0
 GrewBy count before after = (more : List (List ℕ)) × (length more ≡ count) × (after ≡ before ++ more)
 
--- The files of these names were read, and have these bytes: so the shelf tells, if it tells its files, and these it gave last, one for each name that
--- it was last asked for. They are not too many, and have not more bytes than this; and no fault of the shelf came.
+-- The files of these names were read, and have these bytes. They are the shelf's files, if contracts can see those, and the last that it gave, one for each
+-- name that it was last asked for. They are neither too many nor too large, and no fault of the shelf came.
 pub record AreRead (shelf : ShelfUse) (most : ℕ) (names contents : List (List ℕ)) : Type 0 where
   pub few : length names ≤ MOST_FILES
   pub held : AreHeld shelf.files names contents
@@ -42,8 +43,8 @@ pub record AreRead (shelf : ShelfUse) (most : ℕ) (names contents : List (List 
   pub asked : EndsWith names shelf.asked_after
   pub gave : EndsWith contents shelf.gave_after
 
--- The same as a premise, by what the shelf tells or by what it gave: the files of these names have these bytes where it tells its files, and where
--- it does not, these are the last that it gave. They are neither too many nor too large, and no fault of the shelf can have come.
+-- The files of these names have these bytes, as a premise of theorems. Either contracts can see the files of the shelf, or these are the last bytes that it
+-- gave. They are neither too many nor too large, and no fault of the shelf can have come.
 pub record AreKnown (shelf : ShelfUse) (most : ℕ) (names contents : List (List ℕ)) : Type 0 where
   pub few : length names ≤ MOST_FILES
   pub held : AreHeld shelf.files names contents
@@ -52,8 +53,8 @@ pub record AreKnown (shelf : ShelfUse) (most : ℕ) (names contents : List (List
   pub calm : shelf.faults_after ≡ shelf.faults_before
   pub known : ((files : FileMap) × (shelf.files ≡ Some files)) ⊎ EndsWith contents shelf.gave_after
 
--- The files before the one of this name have these bytes, as far as the shelf tells, and not more than this; the shelf was last asked for them and
--- for that one, each once, in order, and it gave these bytes last.
+-- The files before the one of this name have these bytes, as far as contracts can see the shelf's files, and not more bytes than the limit. The shelf was
+-- last asked for them and for that one, each once, in order, and it gave these bytes last.
 pub record AreReadUpTo (shelf : ShelfUse) (most : ℕ) (names : List (List ℕ)) (name : List ℕ) (contents : List (List ℕ)) : Type 0 where
   pub front : List (List ℕ)
   pub rest : List (List ℕ)
@@ -70,7 +71,7 @@ IsStopAt shelf names most name fault =
     (contents : List (List ℕ)) × AreReadUpTo shelf most names name contents
     × IsCause shelf.files shelf.faults_before shelf.faults_after name (most - total contents) fault
 
--- Why the files of these names, which may have so many bytes, were not read, and the note of it.
+-- The reasons why the files of these names, with a limit on their bytes, were not read, each with its note.
 pub data AreUnread (shelf : ShelfUse) (most : ℕ) (names : List (List ℕ)) : List ℕ → Type 0 where
   too_many : MOST_FILES < length names → shelf.faults_after ≡ shelf.faults_before → AreUnread shelf most names too_many_note
   missing : (name : List ℕ) (contents : List (List ℕ)) → AreReadUpTo shelf most names name contents
@@ -80,7 +81,7 @@ pub data AreUnread (shelf : ShelfUse) (most : ℕ) (names : List (List ℕ)) : L
   too_large : (name : List ℕ) (contents : List (List ℕ)) → AreReadUpTo shelf most names name contents
       → IsLonger shelf.files name (most - total contents) shelf.faults_before shelf.faults_after → AreUnread shelf most names too_large_note
 
--- the same as what is due: the status and the note
+-- the status and the note that are due if the files were not read
 abbrev pub IsDueUnread : ShelfUse → ℕ → List (List ℕ) → ℕ → List ℕ → Type 0
 IsDueUnread shelf most names status note = (status ≡ FILE_FAULT) × AreUnread shelf most names note
 
@@ -99,7 +100,8 @@ pub data IsNoProgram (shelf : ShelfUse) (names : List (List ℕ)) : ℕ → List
   faulty : (contents : List (List ℕ)) (faults : List Fault) → AreRead shelf MOST_SOURCE_BYTES names contents → IsRefused contents faults
       → IsNoProgram shelf names REFUSED (refused_note names faults)
 
--- Status 10 comes where there are too many files, and where the shelf tells that one is missing, or that all have more bytes than this.
+-- Status 10 is returned if there are too many files. It is also returned if the shelf's files are known, and one is missing or they have more bytes than the
+-- limit.
 pub record FilesExactly (names : List (List ℕ)) (most : ℕ) (c : Call) (status : ℕ) : Type 0 where
   pub too_many_exactly : MOST_FILES < length names → UnlessCutShort status (status ≡ FILE_FAULT)
   pub missing_exactly : (files : FileMap) (name : List ℕ) → HasTold (shelf_of c.request) files → Contains names name → files name ≡ None
@@ -107,7 +109,7 @@ pub record FilesExactly (names : List (List ℕ)) (most : ℕ) (c : Call) (statu
   pub too_large_exactly : (files : FileMap) (contents : List (List ℕ)) → HasTold (shelf_of c.request) files → AreHeld (Some files) names contents
       → most < total contents → UnlessCutShort status (status ≡ FILE_FAULT)
 
--- And status 1 where they are known and their fault list is not empty, with a line for each fault of it.
+-- Status 1 is returned if the files are known and their fault list is not empty, with a line for each fault.
 pub record SourcesExactly (names : List (List ℕ)) (c : Call) (status : ℕ) : Type 0 where
   pub files : FilesExactly names MOST_SOURCE_BYTES c status
   pub refused_exactly : (contents : List (List ℕ)) (faults : List Fault) → AreKnown (shelf_of c.request) MOST_SOURCE_BYTES names contents

@@ -1,5 +1,5 @@
--- The promise of a call over the system, whose files, input and outputs do not show their contents: it is stated by what they were asked for, gave and
--- took.
+-- `RunsAsSource` is the theorem about `run` for the files, input and outputs of the operating system, whose contents contracts cannot see. It is stated by
+-- the bytes that they gave and took.
 use Rattle.std.specs.Prelude.{◌≡◌, ◌≢◌, ℕ, List, [], Option, Some, None}
 use Rattle.cool_classes.specs.Chains.{Class}
 use Rattle.cool_faults.specs.Verdicts.{IsAccepted}

@@ -1,4 +1,5 @@
--- The writing of notes: the lines of a note, the note of a file that was not read, the bytes that were written, and the note of a machine's halt.
+-- The writing of notes (messages on standard error): `note_of` joins lines, `fault_note` is the note for a file that was not read, and `Noted` says that a
+-- note was written or that the write failed.
 use Rattle.std.specs.{Prelude.{◌≡◌, ◌≢◌, ℕ, ◌==◌, ◌⊎◌, Bool, true, false, List, [], ◌∷◌, ◌++◌, Option, Some, None}, List.{concat, AllByRecursion}, Global.{Vec}}
 use Rattle.cool_ports.specs.declared.shelf.ShelfFault.{ShelfFault}
 use Rattle.cool_ports.specs.declared.shelf.ShelfFault.TheVariants as faults
@@ -13,7 +14,7 @@ ends_line [] = false
 ends_line (byte ∷ []) = byte == 10
 ends_line (byte ∷ next ∷ rest) = ends_line (next ∷ rest)
 
--- each of the texts does
+-- each of the texts ends in a line feed
 abbrev pub AreLines : List (List ℕ) → Type 0
 AreLines = AllByRecursion (λ text. ends_line text ≡ true)
 
@@ -21,7 +22,7 @@ AreLines = AllByRecursion (λ text. ends_line text ≡ true)
 abbrev pub PutsLines : List (List ℕ) → List (List ℕ) → Type 0
 PutsLines before after = (lines : List (List ℕ)) × (after ≡ before ++ lines) × AreLines lines
 
--- the note that lines are
+-- the note that consists of these lines
 abbrev pub note_of : List (Vec ℕ) → List ℕ
 note_of lines = concat (texts lines)
 

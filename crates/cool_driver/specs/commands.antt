@@ -1,4 +1,4 @@
--- The promise of each command, in a file each.
+-- The promise (postcondition) of each command, in a file each.
 pub mod Usage
 pub mod Check
 pub mod Build

@@ -1,4 +1,4 @@
--- Totals of numbers over a list.
+-- Lemmas on totals of numbers over a list.
 use Rattle.std.proofs.Common.{◌≡◌, ℕ, ◌+◌, ◌*◌, ◌≤◌, List, [], ◌∷◌, ◌++◌, length, flat_map, refl, arith}
 
 abbrev pub total : {X : Type 0} → (X → ℕ) → List X → ℕ

@@ -1,4 +1,4 @@
--- The lines and constants that parts of a program add to those before them.
+-- `Adds` says which lines and constants a part of a program adds to those emitted before it.
 use Rattle.std.specs.Prelude.{◌≡◌, ℕ, List, ◌++◌, flat_map, map, string_bytes, Bool, true, false}
 use Rattle.cool_syntax.specs.declared.file_tree.Feature.{Feature}
 use Rattle.cool_syntax.specs.declared.file_tree.Feature.TheVariants.{Attribute, Method}
@@ -21,8 +21,8 @@ integers_asked = flat_map (λ f. feature_integers f.feature)
 abbrev pub strings_asked : List (List ℕ) → List Placed → List (List ℕ)
 strings_asked files = flat_map (λ f. feature_strings files f.feature)
 
--- Code is added after lines, the same by every table that has the constants so far and more; the constants are those before with what
--- these features ask for.
+-- Code is added after the lines before, and it is the same for every table of constants that contains those so far. The constants are those before with the
+-- ones that these features need.
 pub record Adds (files : List (List ℕ)) (features : List Placed) (code : Constants → List Line) (old new : Constants) (lines_before lines_after : List Line) : Type 0 where
   pub lines : (g : Constants) → Extends new g → lines_after ≡ lines_before ++ code g
   pub constants : new ≡ after old (integers_asked features) (strings_asked files features)

@@ -1,4 +1,4 @@
--- The lines of a program in batches, one after another: a batch for each section of its text, and behind these one for its data.
+-- `batches_of` divides the lines of a program into batches: one for each section of its text, and behind these one for its data.
 use Rattle.std.specs.Prelude.{◌≡◌, ℕ, ◌+◌, ◌≤◌, List, [], ◌∷◌, ◌++◌, length, map, flat_map, take}
 use Rattle.mips_isa.specs.Assembly.{directive_line}
 use Rattle.mips_isa.specs.Lines.{Line, ToData, lines_of}
@@ -29,7 +29,7 @@ pub record AreFirst (all : List (List Line)) (kept : Kept) : Type 0 where
 abbrev pub HasRoom : Kept → ℕ → ℕ → Type 0
 HasRoom kept number many = (number ≡ kept.batches) × (length kept.lines.items + many ≤ MOST_KEPT_LINES)
 
--- With these lines one batch more is kept, behind the others.
+-- The batches are those before, with one more of these lines behind them.
 abbrev pub IsKept : Kept → List Line → Kept → Type 0
 IsKept before lines after =
     (after.batches ≡ before.batches + 1) × (lines_of after.lines.items ≡ lines_of before.lines.items ++ lines)

@@ -1,5 +1,5 @@
--- The table of code of a program: its classes with the attributes of their objects; then the features that have code, in the order of the text, a
--- method with its formals, and behind each its expressions, the whole before its parts. A row of code tells between which addresses it stands.
+-- `table_rows` gives the table of code (debug information) of a program: its classes with their attributes, then the features that have code, each with its
+-- formal parameters and expressions. A row of code has the addresses between which it stands.
 use Rattle.std.specs.Prelude.{ℕ, ◌+◌, List, [], ◌∷◌, ◌++◌, length, map, flat_map, take, Option, Some, None}
 use Rattle.cool_syntax.specs.declared.file_tree.Feature.{Feature}
 use Rattle.cool_syntax.specs.declared.file_tree.Feature.TheVariants.{Method, Attribute}
@@ -30,12 +30,12 @@ pub data Row : Type 0 where
 abbrev pub class_rows : List Class → ClassId → List Row
 class_rows p c = class_row (name_of p c) ∷ map attribute_row (scopes.attributes_in p c)
 
--- an initial value whose code stands between these addresses
+-- the row of an initial value whose code stands between these addresses
 abbrev pub initial_rows : ℕ → ℕ → List ℕ → Option Tree → List Row
 initial_rows from to name None = []
 initial_rows from to name (Some t) = initial_row from to name ∷ []
 
--- a feature whose code stands between these addresses, with its formals
+-- the rows of a feature whose code stands between these addresses, with its formal parameters
 abbrev pub head_rows : List Class → ℕ → ℕ → Feature → List Row
 head_rows p from to (Method m) = method_row from to m.name ∷ map formal_row (scopes.with_formals p m.formals [])
 head_rows p from to (Attribute a) = initial_rows from to a.name a.init
@@ -44,12 +44,12 @@ head_rows p from to (Attribute a) = initial_rows from to a.name a.init
 abbrev pub behind : ℕ → List Line → ℕ → ℕ
 behind pc lines n = pc + sizes (take n lines)
 
--- an expression of a feature whose lines begin at an address
+-- the row of an expression of a feature whose lines begin at an address
 abbrev pub shown_row : ℕ → List Line → Shown → Row
 shown_row pc lines x = code_row (behind pc lines x.from) (behind pc lines x.to) x
 
 module _ (p : List Class) (files : List (List ℕ)) (g : Constants) where
-  -- a feature whose code begins at an address, and its expressions
+  -- the rows of a feature whose code begins at an address, and of its expressions
   abbrev pub feature_rows : ClassId → ℕ → Placed → List Row
   feature_rows c pc f =
       let s = context_of p files c f.place in

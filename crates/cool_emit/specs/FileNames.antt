@@ -1,4 +1,4 @@
--- The names of files that a program is built with: each is short, so that the data has room for them.
+-- `AreShortNames` bounds the names of files that a program is built with, so that they fit into its data.
 use Rattle.std.specs.Prelude.{ℕ, ◌≤◌, List, length}
 use Rattle.std.specs.List.{AllByRecursion}
 use Rattle.cool_emit.specs.declared.TheConstants.{MOST_FILE_NAME}

@@ -1,5 +1,5 @@
--- The lines of a whole program: the routines, and the initializer and the methods of each class; then the data, which is the layout, the
--- constants, and the word at which the heap begins.
+-- `program_lines` gives the assembly lines of a whole program: the run-time routines, and the initializer and the methods of each class; then the data. The
+-- data is the layout, the constants, and the word at which the heap begins.
 use Rattle.std.specs.Prelude.{ℕ, pos, ◌+◌, List, [], ◌∷◌, ◌++◌, length, flat_map, codes, nat_lt, if◌then◌else◌, Option, Some, None}
 use Rattle.cool_syntax.specs.declared.file_tree.Feature.{Feature}
 use Rattle.cool_syntax.specs.declared.file_tree.Feature.TheVariants.{Method, Attribute}

@@ -1,5 +1,5 @@
--- The rows of code of a table are the spans of its program, one for one and in order, and the names in scope at each can be computed from the rows. So
--- statements about spans also hold for rows.
+-- The rows of code in the debug information are the spans (address ranges of expressions) of the program, one for one and in order. The names in scope at
+-- each can be computed from the rows, so statements about spans also hold for rows.
 use Rattle.std.specs.Prelude.{◌≡◌, refl, ℕ, ◌+◌, ◌-◌, List, [], ◌∷◌, ◌++◌, length, map, flat_map, drop, Option, Some, None}
 use Rattle.cool_syntax.specs.declared.place.Place.{Place}
 use Rattle.mips_isa.specs.declared.address_map.TheConstants.{TEXT_START}
@@ -35,7 +35,7 @@ told_of p files x = whole x.span.scope x.span.depth x.span.from (x.span.from + s
 abbrev pub RowsAreSpans : Type 0
 RowsAreSpans = (p : List Class) (files : List (List ℕ)) → told_rows p files ≡ map (told_of p files) (program_spans sizes p files TEXT_START)
 
--- So it is of each feature, wherever its code begins: the rows of code behind the head of a feature are those of its spans.
+-- The rows of code behind the head of each feature are those of its spans, wherever its code begins.
 abbrev pub RowsOfFeatures : Type 0
 RowsOfFeatures =
     (p : List Class) (files : List (List ℕ)) (c : ClassId) (pc : ℕ) (f : Placed)
@@ -61,7 +61,7 @@ latest_before (Some v) vs = v ∷ vs
 abbrev pub scope_at : List Named → Shown → List Named
 scope_at before x = latest_before x.latest (drop (length before + 1 - x.names) before)
 
--- so of rows one behind the other
+-- the names in scope at each of these rows, one behind the other
 abbrev pub scopes_from : List Named → List Shown → List (List Named)
 scopes_from before [] = []
 scopes_from before (x ∷ xs) = scope_at before x ∷ scopes_from (scope_at before x) xs

@@ -1,4 +1,4 @@
--- The sections of the text of a program, which are made one by one: the routines, and the initializer and the methods of each class.
+-- `sections_in` lists the sections of the text of a program, which are made one by one: the routines, and the initializer and the methods of each class.
 use Rattle.std.specs.Prelude.{ℕ, ◌<◌, List, [], ◌∷◌, length, map, flat_map, slice_get, Option, Some, None}
 use Rattle.cool_syntax.specs.declared.file_tree.Feature.{Feature}
 use Rattle.mips_isa.specs.Lines.{Line}

@@ -1,5 +1,5 @@
--- Lines that assemble without a fault: text, then `.data` and data. Whatever names and numbers they hold is said line by line, so that
--- lines that are joined can be looked at one part after the other.
+-- `AreSound` gives a condition under which lines of assembly, text and then data, assemble without a fault. It is stated line by line, so that it can be
+-- shown for the parts of a program separately.
 use Rattle.std.specs.Prelude.{◌≡◌, ℕ, suc, zero, ◌+◌, ◌<◌, ◌≤◌, List, [], ◌∷◌, ◌++◌, flat_map, Contains}
 use Rattle.std.specs.List.{AllByRecursion}
 use Rattle.mips_isa.specs.declared.address_map.TheConstants.{MOST_DATA_BYTES}

@@ -1,4 +1,5 @@
--- The spans of a whole program: those of the attributes of each class and of its methods, each in its class and its feature.
+-- `program_spans` lists the spans (address ranges of expressions) of a whole program: those of the attributes of each class and of its methods, each with its
+-- class and its feature.
 use Rattle.std.specs.Prelude.{ℕ, ◌+◌, List, [], ◌++◌, length, map, nat_lt, if◌then◌else◌}
 use Rattle.mips_isa.specs.Lines.{Line}
 use Rattle.cool_classes.specs.declared.class_id.ClassId.{ClassId}

@@ -1,4 +1,4 @@
--- The lines of the table of code: words separated by a blank, and a newline at the end. Addresses and numbers are decimal.
+-- The lines of text of the table of code (debug information): words separated by a blank, and a newline at the end. Addresses and numbers are decimal.
 --
 --     class NAME
 --     attribute NAME OFFSET($s0) TYPE

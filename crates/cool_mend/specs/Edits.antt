@@ -1,4 +1,4 @@
--- An edit of files, and what they are after it: bytes stand in the place of a range of one of them.
+-- `edited` gives the files after an edit, which replaces a range of bytes in one of them.
 use Rattle.std.specs.Prelude.{ℕ, ◌+◌, ◌<◌, ◌≤◌, List, [], ◌∷◌, ◌++◌, drop, get_or, length, take}
 use Rattle.cool_syntax.specs.declared.TheConstants.{MOST_SOURCE_BYTES}
 use Rattle.cool_faults.specs.Files.{total}

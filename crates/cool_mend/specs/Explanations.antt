@@ -1,4 +1,5 @@
--- The content of explanations of faults.
+-- `AreExplained` says that explanations of compile-time errors are correct: there is one for each fault of the files, in order. The types and methods in it
+-- are those of the class table, and the suggested edit mends the fault.
 use Rattle.std.specs.Prelude.{◌≡◌, ◌≢◌, ℕ, suc, List, [], ◌∷◌, ◌++◌, map, Option, Some, None, IfSome}
 use Rattle.std.specs.List.{AllByRecursion}
 use Rattle.std.specs.Global.{Vec}
@@ -48,7 +49,7 @@ due_type (Syntax f) = None
 due_type (OfClasses f) = None
 due_type (Typing f) = f.due
 
--- these are the types of a fault in a class table, as they are written
+-- these texts are the found and the due type of a fault in a class table
 pub record AreTypes (p : List Class) (fault : Fault) (told : Types) : Type 0 where
   pub found : Ty
   pub due : Ty
@@ -78,23 +79,23 @@ HaveTypes files fault told = (p : List Class) × IsTableOf files p × AreTypes p
 abbrev pub HaveMethods : List (List ℕ) → Fault → Methods → Type 0
 HaveMethods files fault told = (p : List Class) × IsTableOf files p × AreMethods p fault told.class.items told.all.items
 
--- so is what an explanation tells of them
+-- the types and methods in an explanation, if there are any, are those of the class table of the files
 pub record IsTold (files : List (List ℕ)) (x : Explanation) : Type 0 where
   pub types : IfSome x.types (HaveTypes files x.fault)
   pub methods : IfSome x.methods (HaveMethods files x.fault)
 
--- a mend that is told is an edit of the files, and mends the fault of this number
+-- a suggested mend is an edit of the files, and mends the fault of this number
 pub record IsMend (files : List (List ℕ)) (faults : List Fault) (number : ℕ) (m : Mend) : Type 0 where
   pub edit : IsEdit files m.edit
   pub mends : Mends files faults number m.edit
 
--- so is each of these explanations, of which the first is of the fault of this number
+-- each suggested mend in these explanations is correct; the first explanation is that of the fault of this number
 abbrev pub AreMends : List (List ℕ) → List Fault → ℕ → List Explanation → Type 0
 AreMends files faults number [] = Unit {0}
 AreMends files faults number (x ∷ xs) = IfSome x.mend (IsMend files faults number) × AreMends files faults (suc number) xs
 
--- There is an explanation for each fault of the fault list of the files, in its order; each tells types and methods that are so, and each mend that is
--- told mends.
+-- There is an explanation for each fault of the fault list of the files, in order. The types and methods in each are correct, and each suggested mend mends
+-- its fault.
 pub record AreExplained (files : List (List ℕ)) (all : List Explanation) : Type 0 where
   pub list : IsFaultList files (map (λ x. x.fault) all)
   pub told : AllByRecursion (IsTold files) all

@@ -1,4 +1,5 @@
--- When an edit mends a fault of files: the fault is gone, and no other has come.
+-- `Mends` says when an edit mends (fixes) a fault of files: the fault is gone and no other has come, or the files pass the phase of the compiler that found
+-- it.
 use Rattle.std.specs.Prelude.{◌⊎◌, ℕ, ◌+◌, ◌-◌, ◌<◌, List, [], ◌∷◌, ◌++◌, map, length, get_or, take, drop, ◌&&◌, nat_eq, nat_le, if◌then◌else◌}
 use Rattle.cool_syntax.specs.declared.place.Place.{Place}
 use Rattle.cool_syntax.specs.FaultOrder.{Standing}
@@ -35,7 +36,7 @@ phase_of (Syntax f) = 1
 phase_of (OfClasses f) = class_phase f.kind
 phase_of (Typing f) = 4
 
--- how far files with this fault list come: up to the phase that finds it, and past all where it is empty
+-- how far files with this fault list come: up to the phase that finds the faults, and past all phases if the list is empty
 abbrev pub reached : List Fault → ℕ
 reached [] = 5
 reached (f ∷ fs) = phase_of f
@@ -56,7 +57,7 @@ moved e more less p =
     then record { file = p.file; line = p.line + more - less; byte = e.start + length e.text.items + (p.byte - e.end) }
     else p
 
--- where a fault stands then, and the rank of its kind
+-- where a fault stands after an edit, and the rank of its kind
 abbrev pub moved_standing : Edit → ℕ → ℕ → Fault → Standing
 moved_standing e more less f = record { at = moved e more less (place_of f); rank = rank f }
 

@@ -1,4 +1,5 @@
--- Notices of a program: what is legal in it, and likely a mistake.
+-- The notices (warnings) of a program, for code that is legal but likely a mistake: `due_in_program` lists them, and `AreNoticed` says that the first of them
+-- are given for files.
 use Rattle.std.specs.Prelude.{◌≡◌, ℕ, List, [], map, take, Option, Some, None}
 use Rattle.std.specs.List.{flat_map}
 use Rattle.cool_syntax.specs.declared.file_tree.Feature.{Feature}

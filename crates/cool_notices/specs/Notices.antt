@@ -1,4 +1,4 @@
--- The notices that are due in an expression: forms that are legal and likely a mistake.
+-- `due_notices` lists the notices (warnings) that are due in an expression: forms that are legal, but likely a mistake.
 use Rattle.std.specs.Prelude.{◌≡◌, ℕ, zero, ◌-◌, List, [], ◌∷◌, ◌++◌, length, take, Bool, true, false, bytes_eq, Option, Some, None, option_map, unwrap_or, is_some, if◌then◌else◌, codes, refl}
 use Rattle.std.specs.Option.{option_to_list}
 use Rattle.cool_syntax.specs.declared.operator.ArithOp.{ArithOp}
@@ -33,7 +33,7 @@ idle_kind t = None
 abbrev pub idle_notice : Tree → Option Notice
 idle_notice t = option_map (λ k. record { kind = k; at = place_of t }) (idle_kind t)
 
--- those of the items of a block whose values are not used: all but the last
+-- the notices of the items of a block whose values are not used: all but the last
 abbrev pub idle_notices : Trees → List Notice
 idle_notices Last = []
 idle_notices (More a Last) = []

@@ -1,4 +1,4 @@
--- Files that a shelf has, one after another.
+-- A shelf (file system) that has the files read so far, and one more, has all of them.
 use Rattle.std.specs.Prelude.{ℕ, List, [], ◌∷◌, ◌++◌, Option}
 use Rattle.cool_ports.specs.ShelfFiles.{FileMap, MayHold, AreHeld}
 

@@ -1,4 +1,4 @@
--- The bytes that a sink holds after several puts.
+-- Lemmas on the bytes that a sink (an output stream) holds after several puts.
 use Rattle.std.proofs.Common.{◌≡◌, ℕ, List, [], ◌∷◌, ◌++◌, refl, sym, ◌∙◌, ap, append_assoc, append-nil}
 use Rattle.std.specs.Prelude.{Option, Some, None}
 use Rattle.std.specs.List.{concat}

@@ -1,15 +1,15 @@
--- The answers of a source so far: the bytes that it gave, and how often it answered that nothing is left.
+-- `Past` is the history of a source (an input stream): the bytes that it gave so far, and how often it answered that nothing is left.
 use Rattle.std.specs.Prelude.{◌≡◌, ℕ, ◌+◌, ◌<◌, List, [], ◌∷◌, ◌++◌, Option, Some, None}
 
 pub record Past : Type 0 where
   pub given : List ℕ
   pub ends : ℕ
 
--- it was asked for nothing yet
+-- the history of a source that was not asked yet
 abbrev pub nothing_yet : Past
 nothing_yet = record { given = []; ends = 0 }
 
--- after one more answer
+-- the history after one more answer
 abbrev pub after_answer : Past → Option ℕ → Past
 after_answer past (Some byte) = record { given = past.given ++ byte ∷ []; ends = past.ends }
 after_answer past None = record { given = past.given; ends = past.ends + 1 }

@@ -1,4 +1,4 @@
--- Counts of the failures of an outside object: a number that never falls, and that stays at its greatest value.
+-- A count of failures, which each shelf (file system), source (input) and sink (output) keeps: it never falls, and stays at its greatest value, `last_count`.
 use Rattle.std.specs.Prelude.{ℕ, ◌<◌, ◌≤◌}
 
 -- the last value of a count

@@ -1,4 +1,5 @@
--- The view that contracts have of the objects in memory.
+-- The source and the sink that hold their bytes in memory, as contracts see them: `SourceState` and `SinkState`. A `Schedule` lists the calls that are to
+-- fail in a test.
 use Rattle.std.specs.Prelude.{ℕ, ◌+◌, min, List, ◌++◌, [], ◌∷◌, Contains}
 use Rattle.cool_ports.specs.Answers.{Past}
 use Rattle.cool_ports.specs.Counts.{last_count}
@@ -9,30 +10,30 @@ pub record Schedule : Type 0 where
   pub calls : ℕ
   pub faults : ℕ
 
--- no call is to fail, and none was made
+-- the schedule at first: no call is to fail, and none was made
 abbrev pub no_faults : Schedule
 no_faults = record { failing = []; calls = 0; faults = 0 }
 
--- the number of the next call; numbers stand still at their type's end
+-- the number of the next call, which stays at the greatest value of its type
 abbrev pub next_call : Schedule → ℕ
 next_call s = min (s.calls + 1) last_count
 
 abbrev pub IsToFail : Schedule → Type 0
 IsToFail s = Contains s.failing (next_call s)
 
--- after a call
+-- the schedule after a call
 abbrev pub called : Schedule → Schedule
 called s = record { failing = s.failing; calls = next_call s; faults = s.faults }
 
--- after one more fault
+-- the schedule after one more fault
 abbrev pub faulted : Schedule → Schedule
 faulted s = record { failing = s.failing; calls = s.calls; faults = min (s.faults + 1) last_count }
 
--- with one more call that is to fail
+-- the schedule with one more call that is to fail
 abbrev pub failing_at : Schedule → ℕ → Schedule
 failing_at s number = record { failing = s.failing ++ number ∷ []; calls = s.calls; faults = s.faults }
 
--- A sink in memory: the bytes that it holds, the most that it can hold, and the bytes that it was given to put.
+-- A sink in memory: the bytes that it holds, the most that it can hold, and the bytes that each call gave it to write.
 pub record SinkState : Type 0 where
   pub held : List ℕ
   pub room : ℕ
@@ -45,7 +46,7 @@ pub record SourceState : Type 0 where
   pub past : Past
   pub schedule : Schedule
 
--- The same of a source that never fails.
+-- A source in memory that never fails: the bytes that are left, and its answers so far.
 pub record SureState : Type 0 where
   pub left : List ℕ
   pub past : Past

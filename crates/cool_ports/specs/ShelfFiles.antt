@@ -1,35 +1,35 @@
--- The files of a shelf, and the names that it was asked for. `Some` is the map from names to bytes of a shelf that tells it, and `None` is a shelf that
--- does not tell.
+-- The files of a shelf (a file system), as a map from names to bytes: `Some` if contracts can see it, and `None` if they cannot. The definitions say that
+-- files are held, missing or too long.
 use Rattle.std.specs.Prelude.{◌≡◌, List, [], ◌∷◌, ◌++◌, ℕ, ◌<◌, length, Option, Some, None}
 use Rattle.cool_ports.specs.Counts.{Rose}
 
 abbrev pub FileMap : Type 0
 FileMap = List ℕ → Option (List ℕ)
 
--- the file of this name has these bytes, as far as the shelf tells
+-- the file of this name has these bytes, if contracts can see the shelf's files
 abbrev pub MayHold : Option FileMap → List ℕ → List ℕ → Type 0
 MayHold None name bytes = Unit {0}
 MayHold (Some files) name bytes = files name ≡ Some bytes
 
--- the files of these names have these bytes, as far as the shelf tells
+-- there is one list of bytes for each name, and it is that of the file, if contracts can see the shelf's files
 abbrev pub AreHeld : Option FileMap → List (List ℕ) → List (List ℕ) → Type 0
 AreHeld files [] [] = Unit {0}
 AreHeld files [] (bytes ∷ contents) = ⊥
 AreHeld files (name ∷ names) [] = ⊥
 AreHeld files (name ∷ names) (bytes ∷ contents) = MayHold files name bytes × AreHeld files names contents
 
--- There is no such file: so says the map and no fault rose, or the shelf does not tell and one rose.
+-- There is no file of this name: the map has none and no fault was counted, or the map is unknown and a fault was counted.
 abbrev pub IsMissing : Option FileMap → List ℕ → ℕ → ℕ → Type 0
 IsMissing None name before after = Rose before after
 IsMissing (Some files) name before after = (files name ≡ None) × (after ≡ before)
 
--- The file is longer than this: so says the map and no fault rose, or the shelf does not tell and one rose.
+-- The file is longer than a limit: the map says so and no fault was counted, or the map is unknown and a fault was counted.
 abbrev pub IsLonger : Option FileMap → List ℕ → ℕ → ℕ → ℕ → Type 0
 IsLonger None name most before after = Rose before after
 IsLonger (Some files) name most before after =
     (bytes : List ℕ) × (files name ≡ Some bytes) × (most < length bytes) × (after ≡ before)
 
--- Memory ran out: no fault rose, or the shelf does not tell and one rose.
+-- Memory ran out: no fault was counted, or the map is unknown and a fault was counted.
 abbrev pub IsWanting : Option FileMap → ℕ → ℕ → Type 0
 IsWanting None before after = Rose before after
 IsWanting (Some files) before after = after ≡ before

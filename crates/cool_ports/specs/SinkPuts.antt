@@ -1,4 +1,5 @@
--- The puts of a sink: the bytes of each put, in order, including those of puts that failed.
+-- The puts of a sink: the bytes of each write to an output stream, in order, including those of writes that failed. `pieces_of` cuts bytes into pieces of one
+-- size, and `PutFront` says that the first texts of a list were put.
 use Rattle.std.specs.Prelude.{◌≡◌, ℕ, ◌*◌, List, [], ◌∷◌, ◌++◌, length, take, drop, map, Option, refl}
 use Rattle.std.specs.Int.{div_ceil}
 use Rattle.std.specs.List.{range_with_len, concat}
@@ -39,7 +40,7 @@ pub record SinkSeen : Type 0 where
 abbrev pub seen : Option (List ℕ) → List (List ℕ) → SinkSeen
 seen held puts = record { held = held; puts = puts }
 
--- after texts, a put for each
+-- the state of a sink after these texts, with a put for each
 abbrev pub after_puts : SinkSeen → List (List ℕ) → SinkSeen
 after_puts sink texts = record { held = appended sink.held (concat texts); puts = sink.puts ++ texts }
 

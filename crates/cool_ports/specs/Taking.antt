@@ -1,4 +1,4 @@
--- The bytes taken from a source between two points, one after another, and perhaps its end.
+-- `Took` relates two states of a source (an input stream): the bytes that were taken between them, and whether its end was reached.
 use Rattle.std.specs.Prelude.{◌≡◌, ℕ, ◌+◌, ◌<◌, Bool, true, false, List, [], ◌∷◌, ◌++◌, replicate, Option, Some, None, Result, Ok, Err}
 use Rattle.cool_ports.specs.declared.Failed.{Failed}
 use Rattle.cool_ports.specs.Answers.{Past, Leaves}
@@ -24,7 +24,7 @@ pub record Took (was is : Bool) (before after : Past) (left left' : Option (List
   pub told : left ≡ with_front front left'
   pub ends : EndsOnce was is front before.ends after.ends left'
 
--- So it is for each input that the source may have had, and what is left of it.
+-- The statement holds for each input that the source may have had, and the rest of that input.
 abbrev pub OfAnyInput : Past → Past → (Option (List ℕ) → Option (List ℕ) → Type 0) → Type 0
 OfAnyInput before after holds = (input rest : List ℕ) → Leaves before after input rest → holds (Some input) (Some rest)
 

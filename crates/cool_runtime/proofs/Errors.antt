@@ -1,4 +1,4 @@
--- The error exits: they write their text and exit with 3.
+-- The routines for run-time errors write their text with the place of the error, and exit with 3.
 use Rattle.std.proofs.Common.{◌≡◌, ℕ, ◌+◌, ◌<◌, inl, List, ◌++◌, ap, ◌∙◌, arith, append_assoc}
 use Rattle.std.specs.Prelude.{Some}
 use Rattle.std.specs.Fmt.{signed_decimal}

@@ -1,4 +1,4 @@
--- The routine that gives a String's length.
+-- The routine that gives a String's length leaves the Int of the length as its result.
 use Rattle.std.proofs.Common.{◌≡◌, ℕ, ◌+◌, List, arith}
 use Rattle.mips_isa.specs.declared.register.TheConstants.{A0}
 use Rattle.mips_isa.specs.Bytes.{Bytes, word}

@@ -1,4 +1,4 @@
--- Words and bytes of memory after stores.
+-- Lemmas on the words and bytes of memory after stores.
 use Rattle.std.proofs.Common.{◌≡◌, ◌≢◌, ℕ, ◌+◌, ◌*◌, ◌/◌, ◌%◌, ◌<◌, ◌≤◌, ◌⊎◌, refl, ap, ◌∙◌, arith}
 use Rattle.mips_isa.specs.Bytes.{Bytes, word, set_byte, set_word}
 

@@ -1,4 +1,4 @@
--- The comparison of two values: its operands, and its verdict.
+-- `Verdict` is the result of comparing two values with `=`, and the reason for it; `Operands` says in which registers the machine holds them.
 use Rattle.std.specs.Prelude.{ℕ, ◌+◌, ◌≡◌, ◌⊎◌, ◌==◌, Bool, true, false, if◌then◌else◌, List, bytes_eq}
 use Rattle.mips_isa.specs.declared.register.TheConstants.{T1, T2}
 use Rattle.mips_isa.specs.Bytes.{Bytes, word}
@@ -8,7 +8,7 @@ use Rattle.cool_runtime.specs.Labels.{true_constant, false_constant}
 use Rattle.cool_runtime.specs.Contents.{Lies}
 use Rattle.cool_runtime.specs.Machines.{At, Pointers, Console}
 
--- the machine stands so, and $t1 and $t2 hold the operands
+-- the machine has these registers, memory and console, and $t1 and $t2 hold the operands
 pub record Operands (w : World) (p : Pointers) (m : Bytes) (c : Console) (a b : ℕ) (s : State) : Type 0 where
   pub at : At w p m c s
   pub t1_is : s.core.registers T1 ≡ a

@@ -1,4 +1,4 @@
--- The line that a draft stands for.
+-- `drafted` gives the line of assembly of a `Draft`, which is a line that borrows its label.
 use Rattle.std.specs.Prelude.{pos, [], ◌∷◌}
 use Rattle.mips_isa.specs.Lines.{Line, Empty, Plain, ToJump, La, Li, Move}
 use Rattle.mips_isa.specs.Assembly.{instruction_line}

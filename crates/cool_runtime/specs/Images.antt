@@ -1,4 +1,4 @@
--- The image of lines, and a machine that holds it. Only proofs use it.
+-- `IsImageOf` says that the text of a machine is the image of these lines of assembly. Only proofs use it.
 use Rattle.std.specs.Prelude.{◌≡◌, ◌+◌, ◌*◌, ◌<◌, List, [], ◌∷◌, length, None}
 use Rattle.mips_isa.specs.declared.address_map.TheConstants.{TEXT_START, MOST_TEXT_WORDS}
 use Rattle.mips_isa.specs.Lines.{Line, AreInRange}

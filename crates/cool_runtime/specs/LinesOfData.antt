@@ -1,4 +1,4 @@
--- The lines of objects that stand in the data: the word -1, and the words of the object under its label.
+-- The assembly lines of objects in the data segment (Int, Bool, String): the word -1, and the words of the object under its label.
 use Rattle.std.specs.Prelude.{◌≡◌, ℕ, pos, negsuc, ◌+◌, List, [], ◌∷◌, ◌++◌, length, codes, refl}
 use Rattle.mips_isa.specs.Lines.{Name, Line, WordItem, Number, Address, Word, Asciiz, Align}
 use Rattle.mips_isa.specs.Assembly.{data_line, directive_line}

@@ -1,4 +1,4 @@
--- The state of a machine between pieces of compiled code.
+-- `At` describes the state of a machine between pieces of compiled code: its registers (`Pointers`), its memory, and its input and output (`Console`).
 use Rattle.std.specs.Prelude.{ℕ, zero, suc, ◌*◌, ◌/◌, ◌+◌, ◌-◌, ◌%◌, ◌^◌, ◌<◌, ◌≤◌, ◌≡◌, List, [], ◌∷◌, ◌++◌, Bool, true, false, ◌==◌, if◌then◌else◌}
 use Rattle.mips_isa.specs.declared.address_map.TheConstants.{HEAP_START, STACK_END}
 use Rattle.mips_isa.specs.declared.register.TheConstants.{ZERO, A0, T1, T2, T3, T4, T5, T6, T7, S0, S6, S7, GP, SP, FP, RA}
@@ -44,7 +44,7 @@ pub record Numbers (w : World) (p : Pointers) (s : State) : Type 0 where
   pub sp_to : p.sp ≤ STACK_END
   pub sp_even : p.sp % 4 ≡ 0
 
--- the machine stands so, with this memory and console
+-- the machine has these registers, this memory and this console
 pub record At (w : World) (p : Pointers) (m : Bytes) (c : Console) (s : State) : Type 0 where
   pub numbers : Numbers w p s
   pub memory_is : s.core.memory ≡ m
@@ -62,7 +62,7 @@ pub record Temporaries : Type 0 where
   pub t6 : ℕ
   pub t7 : ℕ
 
--- the machine stands so, and these are in the registers from $t1 to $t7
+-- the machine has these registers, memory and console, and these numbers are in the registers from $t1 to $t7
 pub record Holding (w : World) (p : Pointers) (m : Bytes) (c : Console) (t : Temporaries) (s : State) : Type 0 where
   pub at : At w p m c s
   pub t1_is : s.core.registers T1 ≡ t.t1

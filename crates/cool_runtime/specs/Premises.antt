@@ -1,4 +1,5 @@
--- The premises of the routines about the text, besides their own lines.
+-- `Limits` is the assumption of the run-time routines about the text, besides their own lines: the routines for the limits of heap and stack stand under
+-- their labels.
 use Rattle.cool_runtime.specs.Reaches.{World}
 use Rattle.cool_runtime.specs.Standing.{HasLines}
 use Rattle.cool_runtime.specs.Labels.{heap_limit, stack_limit}

@@ -1,5 +1,5 @@
--- A run from one state of the machine to another, with the number of its instructions, the limits of heap and stack, and the contents of the console at an
--- early end.
+-- `Reaches` says that a run of the machine leads from a state to a goal, within so many instructions, or to an exit by a limit of heap or stack. `World`
+-- holds the fixed data of a run.
 use Rattle.std.specs.Prelude.{ℕ, ◌+◌, ◌-◌, ◌%◌, ◌^◌, ◌<◌, ◌≤◌, ◌≡◌, ◌⊎◌, List, ◌++◌}
 use Rattle.mips_isa.specs.declared.address_map.TheConstants.{DATA_START, HEAP_START, STACK_END}
 use Rattle.mips_isa.specs.Bytes.{Segments}

@@ -1,4 +1,4 @@
--- The names of the labels of the run-time conventions that the routines use besides those of Labels.antt.
+-- More names of labels in compiled programs, by the run-time conventions, such as those of error routines and of their texts. The others are in Labels.antt.
 use Rattle.std.specs.Prelude.{codes}
 use Rattle.mips_isa.specs.Lines.{Name}
 

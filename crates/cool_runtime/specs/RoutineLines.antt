@@ -1,4 +1,5 @@
--- The run-time routines, in the order in which they stand.
+-- `routine_lines` gives the assembly lines of a run-time routine, and `all_routine_lines` those of all routines, in the order in which they stand in a
+-- program.
 use Rattle.std.specs.Prelude.{List, ◌++◌}
 use Rattle.mips_isa.specs.Lines.{Line}
 use Rattle.cool_runtime.specs.Labels.{substr_abort, dispatch_abort, div_abort}

@@ -1,4 +1,5 @@
--- The run-time routines, line by line. The last argument is at $sp, and the routine takes the arguments from the stack.
+-- The run-time routines in assembly, line by line: input and output, copies, strings, comparison and errors. The last argument is at $sp, and the routine
+-- takes the arguments from the stack.
 use Rattle.std.specs.Prelude.{ℕ, pos, negsuc, List, [], ◌∷◌, ◌++◌}
 use Rattle.mips_isa.specs.declared.register.TheConstants.{ZERO, V0, V1, A0, A1, T0, T1, T2, T3, T4, T5, T6, T7, S6, S7, T8, T9, GP, SP, RA}
 use Rattle.mips_isa.specs.declared.system_call.TheConstants.{PRINT_INT, PRINT_STRING, READ_INT, EXIT, READ_CHAR, EXIT2}

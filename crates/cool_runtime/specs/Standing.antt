@@ -1,4 +1,4 @@
--- Lines of assembly that stand in the text of a machine.
+-- `HasLines` says that lines of assembly stand in the text of a machine from an address on, with their labels.
 use Rattle.std.specs.Prelude.{ℕ, ◌+◌, ◌*◌, ◌%◌, ◌^◌, ◌<◌, ◌≤◌, ◌≡◌, List, [], ◌∷◌, Some}
 use Rattle.mips_isa.specs.declared.address_map.TheConstants.{TEXT_START, DATA_START}
 use Rattle.mips_isa.specs.declared.instr.Instr.{Instr}
@@ -42,7 +42,7 @@ InstructionHolds w (BranchZero op rs target) = IsTarget w target
 InstructionHolds w (BranchOrder op rs rt target) = IsTarget w target
 InstructionHolds w (Mul rd rs rt) = Unit {0}
 
--- and so of a statement
+-- the names of a statement have addresses that it can hold
 abbrev pub Holds : World → Statement → Type 0
 Holds w Empty = Unit {0}
 Holds w (Instruction i) = InstructionHolds w i

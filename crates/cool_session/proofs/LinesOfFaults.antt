@@ -1,4 +1,4 @@
--- The lines of faults, one after another.
+-- Lemmas on writing the lines of faults one after another: all were put, or a front of them if a write failed.
 use Rattle.std.proofs.Common.{◌≡◌, ℕ, zero, suc, ◌+◌, ◌<◌, ◌≤◌, List, [], ◌∷◌, length, map, drop, get_or, drop-cons, add-one, refl, sym, ap, ◌∙◌, subst, arith}
 use Rattle.std.specs.Prelude.{Result, Ok, Err}
 use Rattle.cool_syntax.specs.declared.lexical.LexKind.TheVariants.{L1}

@@ -1,4 +1,4 @@
--- Lines and files that are taken from an input, byte after byte.
+-- Lemmas on reading lines and files from an input, byte after byte.
 use Rattle.std.proofs.Common.{◌≡◌, ◌⊎◌, inl, inr, ◌^◌, ℕ, zero, suc, ◌+◌, ◌<◌, ◌≤◌, Bool, true, false, not, List, [], ◌∷◌, ◌++◌, length, refl, sym, ◌∙◌, ap, append_assoc, append-nil, arith}
 use Rattle.std.specs.Prelude.{◌==◌, ◌≢◌, ◌&&◌}
 use Rattle.std.specs.List.{list_all}

@@ -1,4 +1,4 @@
--- The data by which files that come to be typed are compared: the signatures of the classes of their table, and the tokens of their features.
+-- `seen` gives the data (`Base`) by which a session compares the files of two checks: the signatures of their classes, and the tokens of their features.
 use Rattle.std.specs.Prelude.{ℕ, List, map, drop, codes, Option, Some, None}
 use Rattle.cool_syntax.specs.declared.token.Token.{Token}
 use Rattle.cool_lexer.specs.declared.lexer.Lexed.{Lexed}

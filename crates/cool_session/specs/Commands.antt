@@ -1,4 +1,4 @@
--- The commands that the lines of a session's input give. Words are separated by one space.
+-- `command` parses a line of a session's input as one of its commands `file`, `drop`, `check` and `quit`. Words are separated by one space.
 use Rattle.std.specs.Prelude.{◌≡◌, refl, ℕ, ◌&&◌, nat_le, if◌then◌else◌, List, [], ◌∷◌, length, codes, bytes_eq, Bool, Option, Some, None}
 use Rattle.std.specs.List.{list_all}
 use Rattle.cool_syntax.specs.Lexemes.{is_digit, value}

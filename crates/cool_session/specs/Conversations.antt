@@ -1,4 +1,5 @@
--- The result of a session over a source and a sink that may fail.
+-- `Conversed` is the result of a session whose reads and writes may fail: all replies were written, or a prefix of them because a read or a write failed or
+-- memory ran out.
 use Rattle.std.specs.Prelude.{◌≡◌, ◌⊎◌, ℕ, List, ◌++◌, Option, Result, Ok, Err}
 use Rattle.std.specs.List.{concat}
 use Rattle.cool_ports.specs.Counts.{Rose}
@@ -52,7 +53,7 @@ abbrev pub GotOfPart : List ℕ → Option (List ℕ) → Option (List ℕ) → 
 GotOfPart input before after =
     (replies : List (List ℕ)) × (rest : List ℕ) × Part input replies rest × GotPrefix before (concat replies) after
 
--- so it is where a session is cut short, whatever does it
+-- each session with this input that is cut short put a prefix of the replies of a part of it
 abbrev pub HasPartWhereCut : List ℕ → Type 0
 HasPartWhereCut input =
     (e : Interruption) (left : List ℕ) (before after : Option (List ℕ)) → Conversed input (Err e) left before after → GotOfPart input before after

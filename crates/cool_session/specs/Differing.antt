@@ -1,4 +1,5 @@
--- The first file whose tokens differ from those before an edit, and the run that contains all differences in it.
+-- `IsFirstOther` gives the first file whose tokens differ from those before an edit, and `IsAround` the feature, as a run of tokens, that contains all
+-- differences in the file.
 use Rattle.std.specs.Prelude.{◌≡◌, ◌≢◌, ℕ, ◌+◌, ◌<◌, ◌≤◌, List, length, slice_get, Some}
 use Rattle.cool_lexer.specs.declared.lexer.Lexed.{Lexed}
 use Rattle.cool_session.specs.declared.runs.Run.{Run}

@@ -1,4 +1,4 @@
--- The exchange of a session: the lines of its replies, its end, and the rest of the input.
+-- `Exchange` defines a session by its input: the lines of its replies, how it ends, and the rest of the input.
 use Rattle.std.specs.Prelude.{◌≡◌, ◌≢◌, ℕ, zero, suc, ◌+◌, ◌<◌, ◌≤◌, ◌==◌, if◌then◌else◌, not, true, List, [], ◌∷◌, ◌++◌, length, codes, Option, Some, None, refl}
 use Rattle.std.specs.List.{list_all}
 use Rattle.std.proofs.Common.{arith}
@@ -30,7 +30,7 @@ head_within (suc most) (b ∷ bs) = if b == 10 then Line [] bs else with_first b
 unfoldable pub head : List ℕ → Head
 head = head_within 300
 
--- The input asks this, and this comes after the line.
+-- The first line of the input is this command, or `None` if it is no command, and `rest` is the input after the line.
 abbrev pub Asks : List ℕ → Option Command → List ℕ → Type 0
 Asks input what rest = (line : List ℕ) × (head input ≡ Line line rest) × (command line ≡ what)
 
@@ -108,11 +108,11 @@ pub record Part (input : List ℕ) (replies : List (List ℕ)) (left : List ℕ)
   pub held : Held
   pub did : Did input count replies held left
 
--- an input has a session
+-- there is a session with this input
 abbrev pub HasExchange : List ℕ → Type 0
 HasExchange input = (replies : List (List ℕ)) × (end : Ending) × (left : List ℕ) × Exchange input replies end left
 
--- it has no other
+-- there is only one session with this input
 abbrev pub HasOneExchange : List ℕ → Type 0
 HasOneExchange input =
     (replies replies' : List (List ℕ)) (end end' : Ending) (left left' : List ℕ) → Exchange input replies end left

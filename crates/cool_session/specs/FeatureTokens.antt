@@ -1,4 +1,5 @@
--- The tokens of the features of files, with their places: which run of tokens is which feature.
+-- `runs_of` gives the tokens of each feature (attribute or method) of files, with their places, and `AreFeatures` says that these tokens parse as given
+-- features.
 use Rattle.std.specs.Prelude.{◌≡◌, refl, ℕ, List, [], ◌∷◌, ◌++◌, map, codes, if◌then◌else◌}
 use Rattle.cool_syntax.specs.declared.place.Place.{Place}
 use Rattle.cool_syntax.specs.declared.token.Token.{Token}
@@ -22,7 +23,7 @@ pub record ParsesFeature (tokens : List Token) (x : Feature) : Type 0 where
   pub reads : feature_reading feature ≡ tokens
   pub plain : plain_feature feature ≡ x
 
--- They stand in rising places of a file.
+-- The tokens are this feature, and their places rise in a file.
 pub record IsFeature (tokens : List Token) (x : Feature) : Type 0 where
   pub parses : ParsesFeature tokens x
   pub file : ℕ

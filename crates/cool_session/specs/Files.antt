@@ -1,4 +1,4 @@
--- The files of a session, in order: their names, which differ, and their bytes.
+-- The files of a session, in order: their names, each once, and their bytes. `set_room` says whether the limits on files and bytes allow a file to be set.
 use Rattle.std.specs.Prelude.{String, string_bytes, map, Result, Ok, Err, IfErr, nat_lt, ℕ, ◌+◌, List, [], ◌∷◌, ◌++◌, length, slice_set, remove, bytes_eq, get_or, if◌then◌else◌, Option, Some, None, codes, refl, ◌≡◌}
 use Rattle.std.specs.Global.{Global}
 use Rattle.cool_syntax.specs.declared.TheConstants.{MOST_FILES, MOST_SOURCE_BYTES}
@@ -19,7 +19,7 @@ position_from k (n ∷ ns) name = if bytes_eq n name then Some k else position_f
 abbrev pub position : List (List ℕ) → List ℕ → Option ℕ
 position = position_from 0
 
--- one more at the end, or one in place of that at a position
+-- a list with one more item at the end, or with the item at a position replaced
 abbrev pub placed : {X : Type 0} → Option ℕ → List X → X → List X
 placed None xs x = xs ++ x ∷ []
 placed (Some k) xs x = slice_set xs k x
@@ -33,7 +33,7 @@ without (Some k) xs = remove xs k
 abbrev pub names_set : List (List ℕ) → List ℕ → List (List ℕ)
 names_set names name = placed (position names name) names name
 
--- the bytes of the files after it
+-- the bytes of the files after a file is set
 abbrev pub files_set : List (List ℕ) → List (List ℕ) → List ℕ → List ℕ → List (List ℕ)
 files_set names files name bytes = placed (position names name) files bytes
 

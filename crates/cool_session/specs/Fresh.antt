@@ -1,4 +1,5 @@
--- The number of features that a check types, which are those without a result stored by the last check that typed, and the data stored for the next check.
+-- `Types` gives the number of features that a check types: those whose tokens differ from the last check if the signatures of all classes are the same, and
+-- all otherwise. It also gives the data (`Base`) stored for the next check.
 use Rattle.std.specs.Prelude.{◌≡◌, ◌≢◌, refl, ℕ, suc, ◌≤◌, List, [], ◌∷◌, ◌++◌, map, length, Option, Some, None}
 use Rattle.cool_syntax.specs.declared.TheConstants.{MOST_FILES, MOST_SOURCE_BYTES}
 use Rattle.cool_syntax.specs.declared.token.Token.{Token}
@@ -23,7 +24,7 @@ HaveFeatures file (bytes ∷ files) fs =
     (tokens : List Token) × (rest : List (List TokenKind)) × Lexes file bytes tokens × (fs ≡ features_in (map (λ t. t.kind) tokens) ++ rest)
     × HaveFeatures (suc file) files rest
 
--- The files come to be typed: they have trees, and neither their classes nor their features have a fault. This is what is kept of them.
+-- The files reach type checking: they have trees, and neither their classes nor their features have a fault. `now` is the data stored for them.
 pub record AreTyped (files : List (List ℕ)) (now : Base) : Type 0 where
   pub trees : List FileTree
   pub are_trees : AreTrees 0 files trees
@@ -38,8 +39,8 @@ pub data Differ {X : Type 0} : List X → List X → ℕ → Type 0 where
   same : (x : X) (xs ys : List X) (n : ℕ) → Differ xs ys n → Differ (x ∷ xs) (x ∷ ys) n
   other : (x y : X) (xs ys : List X) (n : ℕ) → x ≢ y → Differ xs ys n → Differ (x ∷ xs) (y ∷ ys) (suc n)
 
--- So many features are not kept: a feature is kept where there is a base with the same signatures whose feature at the same position has
--- the same tokens.
+-- The number of features without a stored result. A feature has one if there is a base with the same signatures whose feature at the same position has the
+-- same tokens.
 pub data IsFresh (now : Base) : Option Base → ℕ → Type 0 where
   first : IsFresh now None (length now.features)
   signed_anew : (old : Base) → old.signatures ≢ now.signatures → IsFresh now (Some old) (length now.features)
@@ -50,7 +51,7 @@ pub data Types (files : List (List ℕ)) (base : Option Base) : ℕ → Option B
   typed : (now : Base) (n : ℕ) → AreTyped files now → IsFresh now base n → Types files base n (Some now)
   untyped : ((now : Base) → AreTyped files now → ⊥) → Types files base 0 base
 
--- The base is one of files that came to be typed, where there is any.
+-- The base, if there is one, is that of files that reached type checking.
 abbrev pub IsOfFiles : Option Base → Type 0
 IsOfFiles None = Unit {0}
 IsOfFiles (Some base) = (files : List (List ℕ)) × AreTyped files base
@@ -59,7 +60,7 @@ IsOfFiles (Some base) = (files : List (List ℕ)) × AreTyped files base
 abbrev pub HasCount : List (List ℕ) → Option Base → Type 0
 HasCount files base = (n : ℕ) × (after : Option Base) × Types files base n after
 
--- so it is of all files within the limits on their number and their bytes, over all bases of files
+-- the same for all files within the limits on their number and their bytes, and for all bases of files
 abbrev pub HaveCounts : Type 0
 HaveCounts =
     (files : List (List ℕ)) (base : Option Base) → length files ≤ MOST_FILES → total files ≤ MOST_SOURCE_BYTES → IsOfFiles base

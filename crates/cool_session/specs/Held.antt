@@ -1,4 +1,4 @@
--- The state of a session: its files, and the data stored from the last check that came to typing.
+-- `Held` is the state of a session: its files, and the data stored from the last check that reached type checking.
 use Rattle.std.specs.Prelude.{◌≡◌, ℕ, List, [], Option, None, Ok, replicate}
 use Rattle.cool_faults.specs.Files.{bytes_of}
 use Rattle.cool_session.specs.declared.session.Session.{Session}
@@ -6,7 +6,7 @@ use Rattle.cool_session.specs.Files.{files_set, names_of, names_set, position, s
 use Rattle.cool_session.specs.Fresh.{Base}
 use Rattle.cool_session.specs.NewFeatures.{base_seen}
 
--- the names of the files, their bytes, and what is kept
+-- the names of the files, their bytes, and the data stored from the last check that reached type checking
 pub record Held : Type 0 where
   pub names : List (List ℕ)
   pub files : List (List ℕ)
@@ -18,7 +18,7 @@ held_by s = record { names = names_of s.names.items; files = bytes_of s.files.it
 abbrev pub nothing_held : Held
 nothing_held = record { names = []; files = []; base = None }
 
--- after a file is set, after one is taken away, and after a check
+-- the states after a file is set, after one is removed, and after a check
 abbrev pub with_file : Held → List ℕ → List ℕ → Held
 with_file h name bytes = record { names = names_set h.names name; files = files_set h.names h.files name bytes; base = h.base }
 
@@ -29,6 +29,6 @@ without_file h name =
 abbrev pub with_base : Held → Option Base → Held
 with_base h base = record { names = h.names; files = h.files; base = base }
 
--- there is room for a file of this name with so many bytes, whichever they are
+-- the limits allow a file of this name with so many bytes, whichever they are
 abbrev pub HasRoom : Held → List ℕ → ℕ → Type 0
 HasRoom h name n = set_room h.names h.files name (replicate n 0) ≡ Ok tt

@@ -1,4 +1,4 @@
--- The features of a table in order, each by its class and its number among the features of the class.
+-- `ids` lists the features of a class table in order, each by its class and its number among the features of the class.
 use Rattle.std.specs.Prelude.{ℕ, ◌+◌, List, [], ◌∷◌, ◌++◌}
 use Rattle.cool_syntax.specs.declared.file_tree.Feature.{Feature}
 use Rattle.cool_classes.specs.declared.class_id.ClassId.{ClassId}

@@ -1,4 +1,4 @@
--- The data stored from a check of files, and how it is seen in contracts.
+-- `IsBaseOf` says that the data stored from a check is that of these files: their tokens, their class table, and the result for each feature.
 use Rattle.std.specs.Prelude.{◌≡◌, ℕ, ◌<◌, ◌^◌, List, [], length, Option}
 use Rattle.std.specs.List.{AllByRecursion}
 use Rattle.cool_syntax.specs.declared.file_tree.FileTree.{FileTree}
@@ -18,7 +18,7 @@ use Rattle.cool_session.specs.FeatureTokens.{runs_of}
 use Rattle.cool_session.specs.KeptFaults.{results, AreKeptOf}
 use Rattle.cool_session.specs.Signatures.{signatures}
 
--- so few tokens that numbers of 32 bits name each
+-- a file has so few tokens that numbers of 32 bits index them
 abbrev pub HasFewTokens : Lexed → Type 0
 HasFewTokens lexed = length lexed.tokens.items < 2 ^ 32
 
@@ -37,20 +37,20 @@ pub record IsRead (files : List (List ℕ)) (ls : List Lexed) (p : List Class) :
 abbrev pub results_of : List FileTree → List (Checked (Unit {0}))
 results_of trees = results (classes_meant (definitions trees))
 
--- this is to be kept of the features of files before typing
+-- these results are to be stored for the features of files before typing
 abbrev pub AreKept : Untyped → List (Option KeptFault) → Type 0
 AreKept u = AreKeptOf (runs_of (tokens_of u.lexed.items)) (results u.classes)
 
--- this is kept of features of these tokens, whatever their checks give
+-- these may be the stored results for features of these tokens, for some results of their checks
 abbrev pub AreKeptAmong : List Lexed → List (Option KeptFault) → Type 0
 AreKeptAmong ls kept = ∥ ((rs : List (Checked (Unit {0}))) × AreKeptOf (runs_of (tokens_of ls)) rs kept) ∥₁
 
--- the files came to be typed so, and this was kept of their features
+-- the files reached type checking with these tokens and classes, and these are the results stored for their features
 pub record IsBaseOf (files : List (List ℕ)) (u : Untyped) (faults : List (Option KeptFault)) : Type 0 where
   pub read : IsRead files u.lexed.items u.classes
   pub kept : AreKeptOf (runs_of (tokens_of u.lexed.items)) (results_of read.trees) faults
 
--- some files did
+-- the same for some files
 pub record IsBase (u : Untyped) (faults : List (Option KeptFault)) : Type 0 where
   pub files : List (List ℕ)
   pub base : IsBaseOf files u faults
@@ -62,7 +62,7 @@ pub record IsLexing (ls : List Lexed) : Type 0 where
   pub few : length ls < 2 ^ 32
   pub short : AllByRecursion HasFewTokens ls
 
--- they are so of some files
+-- the data is the result of the phases before typing for some files
 pub record IsClassified (u : Untyped) : Type 0 where
   pub files : List (List ℕ)
   pub untyped : IsUntyped files u

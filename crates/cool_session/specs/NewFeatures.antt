@@ -1,4 +1,5 @@
--- The features of files with results stored in a base, and the number of the others.
+-- `IsKeptAt` gives the result that the last check stored for a feature, and `AreNew` the number of features without one. That number bounds the calls of the
+-- type checker.
 use Rattle.std.specs.Prelude.{◌≡◌, ◌≢◌, ◌⊎◌, ℕ, zero, suc, ◌≤◌, List, [], ◌∷◌, map, length, take, get_or, Option, Some, None}
 use Rattle.std.specs.Borrow.{Bor}
 use Rattle.std.specs.Option.{option_map}
@@ -26,7 +27,7 @@ abbrev pub IsKeptAt : Option (Bor Base) → ℕ → List Token → Option KeptFa
 IsKeptAt None i tokens kept = ⊥
 IsKeptAt (Some base) i tokens kept = (kinds tokens ≡ kinds (get_or (runs_seen base.now.untyped) i [])) × (kept ≡ get_or base.now.faults.items i None)
 
--- nothing is kept of it
+-- no result is stored in a base for a feature of these tokens at this position
 abbrev pub IsNewAt : Option (Bor Base) → ℕ → List Token → Type 0
 IsNewAt None i tokens = Unit {0}
 IsNewAt (Some base) i tokens = kinds tokens ≢ kinds (get_or (runs_seen base.now.untyped) i [])
@@ -38,12 +39,12 @@ DifferBy [] (y ∷ ys) n = ⊥
 DifferBy (x ∷ xs) [] n = ⊥
 DifferBy (x ∷ xs) (y ∷ ys) n = ((x ≡ y) × DifferBy xs ys n) ⊎ ((x ≢ y) × ((m : ℕ) × (n ≡ suc m) × DifferBy xs ys m))
 
--- so many of the first features are not kept
+-- so many of the first features have no stored result
 abbrev pub AreNew : Option (Bor Base) → List (List TokenKind) → ℕ → ℕ → Type 0
 AreNew None now i n = n ≡ i
 AreNew (Some base) now i n = DifferBy (take i (kinds_seen base.now.untyped)) (take i now) n
 
--- the base whose classes are those of the table, where it is so
+-- the base, if its classes are those of the table, and else none
 abbrev pub IsUsed : Option Base → Option (Bor Base) → List Class → Type 0
 IsUsed None None p = Unit {0}
 IsUsed None (Some used) p = ⊥
@@ -54,18 +55,18 @@ IsUsed (Some base) (Some used) p = (used.now ≡ base) × (views base.untyped.cl
 abbrev pub base_seen : Option Base → Option fresh.Base
 base_seen = option_map (λ (base : Base). seen base.untyped)
 
--- the number of calls after so many more; where there are none, it is as it was
+-- the number of calls after so many more; after none, it is unchanged
 abbrev pub calls_after : ℕ → ℕ → ℕ
 calls_after zero before = before
 calls_after (suc n) before = called (suc n) before
 
--- A typer was asked so often, and no more often than there are features that are not kept.
+-- The type checker was called so often, and no more often than there are features without a stored result.
 pub record IsAskedAtMost (base : Option (Bor Base)) (now : List (List TokenKind)) (before after : ℕ) : Type 0 where
   pub number : ℕ
   pub asked : after ≡ calls_after number before
   pub most : (all : ℕ) → AreNew base now (length now) all → number ≤ all
 
--- A typer was asked so often, and no more often than features are fresh.
+-- The type checker was called so often, and no more often than a check types features (`Types`).
 pub record IsAskedWithin (files : List (List ℕ)) (base : Option fresh.Base) (before after : ℕ) : Type 0 where
   pub number : ℕ
   pub asked : after ≡ calls_after number before

@@ -1,4 +1,5 @@
--- The results of the parts of a conversation: reading lines and files, reading and doing commands, and putting replies.
+-- The results of the functions that carry out a session: reading a line (`TookLine`) or a file (`TookFile`), writing replies (`PutLines`), and carrying out a
+-- command (`Obeyed`).
 use Rattle.std.specs.Prelude.{◌≡◌, ◌≢◌, ℕ, ◌<◌, ◌≤◌, ◌^◌, ◌⊎◌, ◌==◌, not, Bool, true, false, List, [], ◌++◌, length, Option, Some, None, Result, Ok, Err}
 use Rattle.std.specs.Global.{Vec}
 use Rattle.std.specs.List.{list_all}
@@ -15,7 +16,7 @@ use Rattle.cool_session.specs.Commands as commands
 use Rattle.cool_session.specs.Exchanges.{Line, NoLine, head, Does, EndsAt, Begins}
 use Rattle.cool_session.specs.Held.{Held}
 
--- whether the end of the input was answered
+-- whether a result says that the input has ended
 abbrev pub line_ended : Result TakenLine Interruption → Bool
 line_ended (Ok Unended) = true
 line_ended (Ok Nothing) = true
@@ -45,7 +46,7 @@ TookLine (Err ReadFault) input left = (part : List ℕ) × IsPartOfLine part inp
 TookLine (Err WriteFault) input left = ⊥
 TookLine (Err Memory) input left = (part : List ℕ) × IsPartOfLine part input left
 
--- a byte was spent for a line, but where nothing was left
+-- reading a line took at least one byte, unless nothing was left
 abbrev pub SpentLine : Result TakenLine Interruption → ℕ → ℕ → Type 0
 SpentLine (Ok Nothing) before after = Unit {0}
 SpentLine (Ok _) before after = (before < 2 ^ 64) × (after < before)

@@ -1,4 +1,4 @@
--- The tokens of one feature among those of a class that has no other.
+-- `class_of_one` puts the tokens of one feature into a class that has no other, so that they can be parsed.
 use Rattle.std.specs.Prelude.{◌≡◌, List, [], ◌∷◌, ◌++◌}
 use Rattle.cool_syntax.specs.declared.token.Token.{Token}
 use Rattle.cool_syntax.specs.declared.token.Key.TheVariants as key

@@ -1,4 +1,5 @@
--- Features of files as runs of tokens, each by its file and the positions of its first token and of the one after its last.
+-- `bounds_of` finds the features (attributes and methods) of files. Each is a run of tokens, given by its file and the positions of its first token and of
+-- the one after its last.
 use Rattle.std.specs.Prelude.{ℕ, ◌+◌, ◌<◌, ◌≤◌, List, [], ◌∷◌, ◌++◌, length, get_or, if◌then◌else◌}
 use Rattle.std.specs.List.{slice_range}
 use Rattle.cool_syntax.specs.declared.token.Token.{Token}
@@ -36,7 +37,7 @@ bounds_of file (lexed ∷ files) = bounds_in file lexed.tokens.items ++ bounds_o
 abbrev pub file_tokens : List Lexed → ℕ → List Token
 file_tokens files k = get_or (tokens_of files) k []
 
--- a run stands in files
+-- a run lies within the tokens of one of the files
 pub record IsWithin (files : List Lexed) (run : Run) : Type 0 where
   pub file : run.file < length files
   pub start : run.start ≤ run.end

@@ -1,5 +1,5 @@
--- Compiler correctness: the end of a machine's run accords with the runs of the source, within limits of heap, stack and instructions; and an image means a
--- program.
+-- Compiler correctness: `Means` says that an image behaves as a program, for all inputs and limits. `Accord` relates the end of a machine's run to the runs
+-- of the source, within limits of heap, stack and instructions.
 use Rattle.std.specs.Prelude.{◌≡◌, ℕ, ◌+◌, ◌*◌, ◌%◌, ◌^◌, ◌<◌, ◌≤◌, ◌⊎◌, List}
 use Rattle.mips_isa.specs.ImageBounds.{ImageParts}
 use Rattle.mips_isa.specs.Calls.{Outcome, Running, Exited, Trapped}

@@ -1,4 +1,4 @@
--- Trees whose string constants are bytes.
+-- `ClassesHaveBytes` says that the string constants of a program consist of bytes, which are numbers below 256.
 use Rattle.std.specs.Prelude.{List, IfSome}
 use Rattle.cool_syntax.specs.declared.file_tree.ClassDef.{ClassDef}
 use Rattle.cool_syntax.specs.declared.file_tree.Feature.{Feature}

@@ -1,4 +1,4 @@
--- A program in a machine: the contents of text and data once its image is loaded.
+-- `IsLoaded` says that a program is in a machine: the contents of text and data once its image is loaded.
 use Rattle.std.specs.Prelude.{◌≡◌, ℕ, ◌+◌, ◌*◌, ◌^◌, ◌%◌, ◌<◌, ◌≤◌, List, [], length, map, codes, slice_get, Option, Some, None, Contains, Bool as Truth, true, false}
 use Rattle.mips_isa.specs.declared.address_map.TheConstants.{DATA_START, HEAP_START, TEXT_START}
 use Rattle.mips_isa.specs.Assembly.{start_name}

@@ -1,4 +1,5 @@
--- Relation between the machine's run of a whole program and a source run with so many steps.
+-- `RunsMain` relates the machine's run of a whole program to each run of the source with a number of steps. The machine comes to the same end and output
+-- within a number of instructions, or to an exit by a limit.
 use Rattle.std.specs.Prelude.{◌≡◌, ℕ, ◌+◌, ◌-◌, ◌*◌, ◌^◌, ◌<◌, ◌≤◌, false, List, None}
 use Rattle.mips_isa.specs.declared.address_map.TheConstants.{HEAP_START, STACK_END}
 use Rattle.mips_isa.specs.Assembly.{start_name}
@@ -40,7 +41,7 @@ ComesTo w s n most output left (Failed e) = Reaches w s 0 most (exits 3 (Leaves 
 ComesTo w s n most output left GoesOn = Reaches w s n most (stands (Leaves output left))
 ComesTo w s n most output left IsStuck = Unit {0}
 
--- the same of a machine whose run is watched
+-- the same for a machine whose run is watched, which means that it is compared with the visits (evaluations) of a source run
 abbrev pub PassesTo : Loading → Machine → ℕ → ℕ → List ℕ → List ℕ → End → Type 0
 PassesTo l s n most output left Done = Passes l s 0 most (exits 0 (Leaves output left))
 PassesTo l s n most output left (Failed e) = Passes l s 0 most (exits 3 (Leaves output left))
@@ -64,6 +65,6 @@ PassesMain l = (input : List ℕ) (q : Pointers) (map : Map) (console : Console)
     → ((x : Visit) → program_begun l.table input n x → Watched l.watch x)
     → PassesTo l s n (64 * (run l.table l.files input n).work) (run l.table l.files input n).output (run l.table l.files input n).left (run l.table l.files input n).end
 
--- a program runs so wherever it is loaded
+-- `RunsMain` holds for a program wherever it is loaded
 abbrev pub AlwaysRuns : List Class → List (List ℕ) → Type 0
 AlwaysRuns p files = (w : World) (m : Bytes) → IsLoaded (record { table = p; files = files; world = w; memory = m; watch = None }) → RunsMain (record { table = p; files = files; world = w; memory = m; watch = None })

@@ -1,5 +1,5 @@
--- Code in which only the first words of expressions have marks. The pieces of an expression's own code, those between its parts and behind them, have none,
--- nor has the code after the first word if no part is first.
+-- `IsQuietAt` says that a set of marked addresses contains none in the code of an expression between its parts and behind them. If no part comes first, only
+-- the first word of the code may have a mark.
 use Rattle.std.specs.Prelude.{◌≡◌, ℕ, ◌+◌, ◌-◌, ◌%◌, ◌<◌, ◌≤◌, List, [], ◌∷◌, codes, Bool as Truth, false, Some, IfSome, flat_map, Contains}
 use Rattle.cool_syntax.specs.Tree.{Tree, Trees, Last, More, Without, With, tree_size}
 use Rattle.cool_syntax.specs.Tree as trees

@@ -1,5 +1,5 @@
--- A debugger shows what the rules say (`Shown`): the machine comes to the first word of the code of each expression that is begun. There each name in scope
--- is at home in the word that its span tells, which pictures the name's value.
+-- Theorems on the debugger, named `Shown`: the machine reaches the first word of the code of each expression that evaluation begins. There each name in scope
+-- has its value in the word that the debug information gives.
 use Rattle.std.specs.Prelude.{◌≡◌, ℕ, ◌+◌, ◌*◌, ◌<◌, ◌≤◌, ◌⊎◌, List, [], length, map as each, Contains, None}
 use Rattle.mips_isa.specs.declared.address_map.TheConstants.{TEXT_START}
 use Rattle.mips_isa.specs.Assembly.{image_of}
@@ -42,7 +42,7 @@ use Rattle.cool_simulation.specs.Visits.{Visit, Visits, begun, program_begun}
 use Rattle.cool_simulation.specs.WrittenPrograms.{IsWritten}
 use Rattle.lists.specs.Bytes.{AreBytes}
 
--- the machine comes from s to such a state after some number of instructions, if heap and stack suffice for the run
+-- the machine comes from s to a state with this property after some number of instructions, if heap and stack suffice for the run
 abbrev pub Comes : World → Machine → (Machine → Type 0) → Type 0
 Comes w s P = (most : ℕ) × Reaches w s 0 most (stands P)
 
@@ -75,7 +75,7 @@ ProgramShown l =
     (input : List ℕ) (q : Pointers) (map : Map) (console : Console) (s : Machine) (n : ℕ) (x : Visit) → Starts l input q map console s → RunRoom l.world (run l.table l.files input n) → program_begun l.table input n x
     → Comes l.world s (Shown l x)
 
--- So it is wherever a program is loaded.
+-- `ProgramShown` holds wherever a program is loaded.
 abbrev pub ProgramsShown : Type 0
 ProgramsShown =
     (p : List Class) (names : List (List ℕ)) → IsWritten p → (w : World) (m : Bytes) → IsLoaded (record { table = p; files = names; world = w; memory = m; watch = None })

@@ -1,5 +1,5 @@
--- The simulation lemmas' statements for the code of an expression, of a call and of a run. The code leads from a machine state that pictures the source's
--- state to one that pictures the outcome of evaluation, within so many instructions, heap and stack for its meters.
+-- The statements of the simulation lemmas for the code of an expression, of a call and of a run. From a machine state that represents the source's state, the
+-- code leads to one that represents the outcome of evaluation. The costs of the evaluation bound the instructions, heap and stack.
 use Rattle.std.specs.Prelude.{◌≡◌, ℕ, ◌+◌, ◌-◌, ◌*◌, ◌^◌, ◌<◌, ◌≤◌, ◌⊎◌, ℤ, pos, negsuc, suc, true, false, List, [], ◌++◌, length, map as each, slice_get, Some, Contains}
 use Rattle.mips_isa.specs.declared.address_map.TheConstants.{STACK_END}
 use Rattle.mips_isa.specs.Bytes.{Bytes, word}

@@ -1,5 +1,5 @@
--- The theorem on compiled programs: the image of a typed program within the limits means it, and its run goes on as those of the source do;
--- and files that are accepted are such a program.
+-- The theorems on compiled programs: the image of a typed program within the limits is a correct compilation (`TypedImagesMean`), and accepted files are such
+-- a program (`AcceptedCompile`). If heap and stack suffice, the machine reaches the output of each source run that goes on (`RunsAreMet`).
 use Rattle.std.specs.Prelude.{◌≡◌, ℕ, ◌+◌, ◌*◌, ◌≤◌, List, length}
 use Rattle.std.specs.List.{AllByRecursion}
 use Rattle.mips_isa.specs.Assembly.{image_of}
@@ -27,13 +27,13 @@ use Rattle.cool_simulation.specs.Visits.{begun_within}
 abbrev pub AreFileNames : List (List ℕ) → Type 0
 AreFileNames names = AllByRecursion IsText names × AreShortNames names
 
--- The image of the program that files of bytes are, under these names, means it.
+-- The image of the program in files of bytes, under these names, is a correct compilation of it (`Means`).
 abbrev pub ImagesMean : Type 0
 ImagesMean =
     (files names : List (List ℕ)) (p : List Class) → AllByRecursion AreBytes files → AreFileNames names → length names ≡ length files → IsAccepted files p
     → Means (image_of (program_lines p names)) p names
 
--- The image of their folded program, where it keeps the limits, means that, and means their program itself.
+-- The image of the program after constant folding, if that is within the limits, is a correct compilation of it and of the program itself.
 abbrev pub FoldedImagesMean : Type 0
 FoldedImagesMean =
     (files names : List (List ℕ)) (p : List Class) → AllByRecursion AreBytes files → AreFileNames names → IsAccepted files p → Fits (fold_table p) (length names)
@@ -46,12 +46,12 @@ pub record IsCompilable (p : List Class) (names : List (List ℕ)) : Type 0 wher
   pub written : IsWritten p
   pub texts : AllByRecursion IsText (program_constants p names).strings
 
--- Files of bytes that are accepted are such a program.
+-- Files of bytes that are accepted are a program that can be compiled.
 abbrev pub AcceptedCompile : Type 0
 AcceptedCompile =
     (files names : List (List ℕ)) (p : List Class) → AllByRecursion AreBytes files → AreFileNames names → length names ≡ length files → IsAccepted files p → IsCompilable p names
 
--- The image of each such program means it.
+-- The image of each program that can be compiled is a correct compilation of it.
 abbrev pub TypedImagesMean : Type 0
 TypedImagesMean = (p : List Class) (names : List (List ℕ)) → IsCompilable p names → Means (image_of (program_lines p names)) p names
 

@@ -1,5 +1,5 @@
--- The visits of an evaluation: the expressions that it begins. By the rules of evaluation these are its own expression, then the parts that its rule names,
--- in that order, each if all parts before it came to a value; and the expressions begun in the methods and initial values that it calls.
+-- The visits of an evaluation are the expressions that it begins: its own expression, then the parts that its rule of evaluation names, in order, each if all
+-- parts before it came to a value. Those begun in the methods and initial values that it calls belong to them.
 use Rattle.std.proofs.Common.{inl, inr, ap, arith}
 use Rattle.std.specs.Prelude.{◌≡◌, refl, ℕ, zero, suc, ◌+◌, Bool as Truth, true, false, ◌==◌, ◌⊎◌, List, [], ◌∷◌, ◌++◌, Option, Some, None, codes, bytes_eq, if◌then◌else◌}
 use Rattle.cool_syntax.specs.declared.file_tree.MethodDef.{MethodDef}

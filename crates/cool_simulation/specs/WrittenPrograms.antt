@@ -1,4 +1,4 @@
--- Programs in which no block and no case is empty, as the grammar has them (the Cool manual, section 11).
+-- `IsWritten` says that no block and no case of a program is empty, as the grammar demands (the Cool manual, section 11).
 use Rattle.std.specs.Prelude.{◌≡◌, ℕ, ◌<◌, List, length, slice_get, Some}
 use Rattle.cool_syntax.specs.declared.file_tree.Feature.{Feature}
 use Rattle.cool_syntax.specs.WrittenTrees.{IsFeatureWritable}

@@ -1,4 +1,4 @@
--- The segments of labels.
+-- `segment_of_name` finds the segment, text or data, of the first label of a name in lines of assembly.
 use Rattle.std.specs.Prelude.{Bool, false, List, [], ◌∷◌, Option, None, Some, if◌then◌else◌}
 use Rattle.mips_isa.specs.declared.place.Segment.{Segment}
 use Rattle.mips_isa.specs.Lines.{Name, Line}

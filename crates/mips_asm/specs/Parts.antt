@@ -1,4 +1,4 @@
--- Assembling one line: its target, its faults, its words and bytes.
+-- The assembly of one line: the address that it refers to, its faults, and its words and bytes.
 use Rattle.std.specs.Prelude.{◌≡◌, ℕ, ◌+◌, ◌*◌, ◌%◌, ◌≤◌, true, if◌then◌else◌, List, [], ◌∷◌, ◌++◌, map, replicate, Option, Some, None, Result, Ok, Err}
 use Rattle.mips_isa.specs.declared.instr.Instr.{Instr}
 use Rattle.mips_isa.specs.declared.place.Place.{Place}

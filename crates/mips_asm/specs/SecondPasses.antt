@@ -1,4 +1,4 @@
--- The state of the second pass: the lines that are left, and the text and data assembled from the others.
+-- `HasLeft` is the invariant of the assembler's second pass: the lines that are left, and the text and data assembled from those before.
 use Rattle.std.specs.Prelude.{◌≡◌, ℕ, ◌≤◌, List, [], ◌++◌, length, Option, None, Some, Result, Ok, Err}
 use Rattle.mips_isa.specs.declared.place.Place.{Place}
 use Rattle.mips_isa.specs.declared.place.Segment.{Segment}

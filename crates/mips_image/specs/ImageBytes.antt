@@ -1,4 +1,4 @@
--- The bytes of an image, versions 1 and 2. Numbers are 32 bits, little endian.
+-- `image_bytes` defines the file format of an image (an executable program), in versions 1 and 2. Numbers are 32 bits, little endian.
 use Rattle.std.specs.Prelude.{◌≡◌, ℕ, ◌⊎◌, ◌<◌, ◌^◌, List, [], ◌∷◌, ◌++◌, length, flat_map, refl}
 use Rattle.std.specs.List.{AllByRecursion}
 use Rattle.byteorder.specs.Endian.{little_bytes}

@@ -1,4 +1,5 @@
--- Definition of assembling: the places of labels, the words and bytes that lines are assembled to, and the first line with a fault.
+-- The definition of the assembler: `place_of` gives the addresses of labels, `image_of` the words and bytes that lines are assembled to, and `fault_of` the
+-- first line with a fault.
 use Rattle.std.specs.Prelude.{◌≡◌, refl, ℕ, suc, ◌+◌, ◌-◌, ◌*◌, ◌/◌, ◌%◌, ◌^◌, ◌&&◌, ◌||◌, not, nat_le, nat_lt, ℤ, pos, negsuc, Bool, true, false, if◌then◌else◌, List, [], ◌∷◌, ◌++◌, length, map, flat_map, replicate, codes, bytes_eq, Option, Some, None, is_some, Result, Ok, Err}
 use Rattle.std.specs.List.{list_any}
 use Rattle.mips_isa.specs.declared.instr.Instr.{Instr}
@@ -34,8 +35,8 @@ use Rattle.mips_isa.specs.Lines.{Name, WordItem, Number, Address, AsmInstr, Plai
 
 -- Sizes
 
--- The need of a statement: nothing; words of text; an item of data that begins at a multiple of a unit and has so many bytes; to go on in a segment; or to
--- fill the data up to a multiple of a unit.
+-- The space that a statement needs: nothing; words of text; an item of data that begins at a multiple of a unit and has so many bytes; a switch to another
+-- segment; or padding of the data up to a multiple of a unit.
 pub data Need : Type 0 where
   Nothing : Need
   Words : ℕ → Need

@@ -1,4 +1,4 @@
--- The bytes of a machine by their addresses, and the segments in which they lie. Numbers are little endian.
+-- The memory of a machine, as a function from addresses to bytes, and the segments in which a program may load and store. Numbers are little endian.
 use Rattle.std.specs.Prelude.{ℕ, ◌+◌, ◌-◌, ◌*◌, ◌/◌, ◌%◌, Bool, ◌&&◌, ◌||◌, ◌==◌, nat_le, nat_lt, if◌then◌else◌, length, get_or}
 use Rattle.mips_isa.specs.declared.address_map.TheConstants.{TEXT_START, DATA_START, HEAP_START, STACK_END}
 use Rattle.mips_isa.specs.ImageBounds.{ImageParts}
@@ -29,7 +29,7 @@ pub record Segments : Type 0 where
   pub heap_end : ℕ
   pub stack_low : ℕ
 
--- the bytes from a on lie between two addresses
+-- so many bytes from address a on lie between two addresses
 abbrev pub lies : ℕ → ℕ → ℕ → ℕ → Bool
 lies low end a size = nat_le low a && nat_le (a + size) end
 

@@ -1,4 +1,4 @@
--- The system calls of SPIM: one case for each number.
+-- `call` defines the system calls of SPIM, one case for each number, on the `State` of a machine: registers, memory, heap, input and output.
 use Rattle.std.specs.Prelude.{◌≡◌, refl, ℕ, zero, suc, ◌+◌, ◌-◌, ◌*◌, ◌%◌, ◌^◌, ℤ, pos, negsuc, Bool, true, false, ◌&&◌, ◌||◌, ◌==◌, not, nat_le, if◌then◌else◌, List, [], ◌∷◌, ◌++◌, length, Option, Some, None, option_map}
 use Rattle.std.specs.Fmt.{signed_decimal}
 use Rattle.mips_isa.specs.declared.register.TheConstants.{V0, A0, A1}

@@ -1,5 +1,5 @@
--- The instruction of a word, by cases on its fields. `Words.antt` is the table; that this finds just the instruction whose
--- word it is stands as clauses on `decode`.
+-- `decoded` gives the instruction of a word, by cases on its fields. `Words.antt` has the table; the contracts of `decode` say that this is just the
+-- instruction whose word it is.
 use Rattle.std.specs.Prelude.{ℕ, ◌-◌, ◌/◌, ◌%◌, ◌^◌, ℤ, pos, negsuc, Bool, ◌&&◌, ◌==◌, nat_lt, if◌then◌else◌, Option, Some, None}
 use Rattle.mips_isa.specs.declared.instr.Instr.{Instr}
 use Rattle.mips_isa.specs.declared.instr.Instr.TheVariants.{Three, Shift, ShiftReg, Jr, Jalr, Syscall, MoveFrom, MoveTo, MulDiv, Imm, Lui, BranchTwo, BranchOne, Jump, Mem}

@@ -1,4 +1,4 @@
--- The contents of an image, and their bounds.
+-- `ImageParts` is the content of an image (an executable program): its entry address, text and data. `IsImage` bounds their sizes.
 use Rattle.std.specs.Prelude.{◌≡◌, ℕ, ◌+◌, ◌*◌, ◌%◌, ◌<◌, ◌≤◌, List, length}
 use Rattle.mips_isa.specs.declared.address_map.TheConstants.{TEXT_START, MOST_TEXT_WORDS, MOST_DATA_BYTES}
 

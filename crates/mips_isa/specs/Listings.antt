@@ -1,4 +1,4 @@
--- The list of a line's labels, from its representation.
+-- `listed` gives the labels of a line as a list, from their representation: no label, one, or a vector.
 use Rattle.std.specs.Prelude.{ℕ, List, [], ◌∷◌}
 use Rattle.mips_isa.specs.declared.line_labels.Listing as declared
 use Rattle.mips_isa.specs.declared.line_labels.Listing.TheVariants.{Nothing, One, Many}

@@ -1,4 +1,4 @@
--- The run of a machine: n instructions, or the outcome if it ends before.
+-- `run` executes n instructions of a machine, or fewer if it exits or traps, and gives the outcome. `run_image` starts with an image that was loaded.
 use Rattle.std.specs.Prelude.{ℕ, zero, suc, ◌==◌, false, if◌then◌else◌, List, []}
 use Rattle.mips_isa.specs.declared.register.TheConstants.{S6, S7, GP, SP}
 use Rattle.mips_isa.specs.ImageBounds.{ImageParts}
@@ -7,7 +7,7 @@ use Rattle.mips_isa.specs.Bytes.{Segments, segments_of, bytes_of_image}
 use Rattle.mips_isa.specs.Machine.{Core, Registers, Next, On, Call, Stop, step}
 use Rattle.mips_isa.specs.Calls.{State, Outcome, Running, Exited, Trapped, call}
 
--- after an instruction; one that traps changes nothing
+-- the outcome after an instruction; one that traps changes nothing
 abbrev pub after : Segments → State → Next → Outcome
 after b s (On core) = Running (record s { core = core })
 after b s (Call core) = call b (record s { core = core })

@@ -1,4 +1,4 @@
--- Texts that are read line by line.
+-- A text of assembly that is parsed line by line is parsed as the definition says.
 use Rattle.std.proofs.Common.{◌≡◌, ◌∙◌, sym, ap, arith, ℕ, ◌≤◌, List, [], ◌∷◌, ◌++◌, append_assoc, length, map, Result, Ok}
 use Rattle.std.proofs.lemmas.List.{append-nil, map-append}
 use Rattle.mips_isa.specs.declared.asm_fault.AsmKind.{AsmKind}

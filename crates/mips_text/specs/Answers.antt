@@ -1,4 +1,4 @@
--- The results of the reading functions: those of the definition, unless memory ran out.
+-- The results of the functions that parse assembly: those of the definition (`Reading.antt`), unless memory ran out.
 use Rattle.std.specs.Prelude.{◌≡◌, ℕ, List, [], ◌∷◌, Result, Ok, Err, Vec}
 use Rattle.mips_isa.specs.declared.asm_fault.AsmKind.{AsmKind}
 use Rattle.mips_isa.specs.declared.asm_fault.AsmError.{AsmError}
@@ -15,7 +15,7 @@ Meets see (Ok x) read = read ≡ Ok (see x)
 Meets see (Err flaw.Memory) read = Unit {0}
 Meets see (Err (flaw.Fault kind)) read = read ≡ Err kind
 
--- labels before the rest of a line
+-- the result of parsing a line, with these labels put before the rest of it
 abbrev pub labelled : List (List ℕ) → Result Line AsmKind → Result Line AsmKind
 labelled [] read = read
 labelled (name ∷ names) read = with_label name (labelled names read)

@@ -1,5 +1,5 @@
--- The results of the scanning functions at a place: the longest word there, as a function of its first byte and the bytes after. That it is the longest is
--- proved, not said here.
+-- The longest word (token) at a position of a line of assembly, computed from its first byte and the bytes after it. A proof, not this file, shows that it is
+-- the longest.
 use Rattle.std.specs.Prelude.{ℕ, ◌+◌, ◌-◌, nat_lt, Bool, false, not, ◌&&◌, ◌==◌, if◌then◌else◌, List, [], ◌∷◌, take, Option, Some, None, option_map}
 use Rattle.std.specs.Option.{option_or}
 use Rattle.std.specs.List.{prefix_len}
@@ -42,7 +42,7 @@ hexadecimal_found (z ∷ x ∷ bytes) = if z == 48 && x == 120 then hexadecimal_
 abbrev pub magnitude_found : List ℕ → Option Magnitude
 magnitude_found bytes = option_or (hexadecimal_found bytes) (decimal_found bytes)
 
--- the same number, where it is of some operand's range
+-- the same number, or the number that stands for all beyond the range of every operand
 abbrev pub capped_magnitude : Magnitude → Magnitude
 capped_magnitude m = record { value = capped m.value; size = m.size }
 

@@ -1,4 +1,5 @@
--- The statements of the laws on the reading of texts.
+-- The statements of theorems on parsing assembly: `HasReading` says that a text has lines or a first fault, `IsReadingKind` lists the faults of parsing, and
+-- `AreLinesOf` cuts a text at its newlines.
 use Rattle.std.specs.Prelude.{◌≡◌, ◌⊎◌, ◌<◌, ◌==◌, not, true, ℕ, List, [], ◌∷◌, ◌++◌, length, flat_map}
 use Rattle.std.specs.List.{AllByRecursion, list_all}
 use Rattle.mips_isa.specs.declared.asm_fault.AsmKind.{AsmKind}

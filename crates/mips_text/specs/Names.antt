@@ -1,4 +1,4 @@
--- The names of mnemonics, of directives and of registers.
+-- The text of each mnemonic, directive and register of assembly.
 use Rattle.std.specs.Prelude.{ℕ, List, [], ◌∷◌, codes, get_or, bytes_eq, Option, Bool, false, ◌&&◌, ◌==◌}
 use Rattle.std.specs.List.{find, list_all}
 use Rattle.mips_text.specs.Letters.{name_rest, name_start}

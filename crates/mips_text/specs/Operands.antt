@@ -1,4 +1,5 @@
--- The operands of statements, and the fault of the first word that is none: `docs/assembly.md`, Statements and Faults.
+-- The operands that statements of assembly take, with the ranges of numbers, and the fault of the first word that is no valid operand. The rule is in
+-- `docs/assembly.md`, Statements and Faults.
 use Rattle.std.specs.Prelude.{ℕ, ◌+◌, ◌^◌, ℤ, pos, negsuc, nat_lt, nat_le, Bool, false, if◌then◌else◌, bytes_eq, List, [], ◌∷◌, codes, Option, Some, None, is_some}
 use Rattle.std.specs.Option.{option_or}
 use Rattle.mips_isa.specs.declared.address_map.TheConstants.{MOST_DATA_BYTES}
@@ -51,7 +52,7 @@ is_within range.Power (negsuc n) = false
 abbrev pub fault_unless : Bool → AsmKind → Option AsmKind
 fault_unless holds kind = if holds then None else Some kind
 
--- a word where none is wanted
+-- the fault of a word where none is allowed
 abbrev pub misplaced : Word → AsmKind
 misplaced Stray = A1
 misplaced _ = A2

@@ -1,5 +1,5 @@
--- The lines that can be printed so that reading what was printed gives them again: their numbers are in their ranges, their names are
--- names, and `.word` and `.byte` have an operand.
+-- `ArePrintable` defines the lines of assembly that can be printed and parsed again without a change: their numbers are in their ranges, their names are
+-- valid, and `.word` and `.byte` have an operand.
 use Rattle.std.specs.Prelude.{◌≡◌, ◌<◌, true, List, length}
 use Rattle.std.specs.List.{AllByRecursion}
 use Rattle.mips_isa.specs.Assembly.{names_of_instruction, names_of_items}

@@ -1,4 +1,4 @@
--- The text of lines, in the one spelling: `docs/assembly.md`, Printing.
+-- `printed` gives the text of lines of assembly, in one fixed spelling. The rule is in `docs/assembly.md`, Printing.
 use Rattle.std.specs.Prelude.{◌≡◌, refl, ℕ, ℤ, pos, negsuc, List, [], ◌∷◌, ◌++◌, map, flat_map, codes}
 use Rattle.std.specs.Fmt.{signed_decimal, digits}
 use Rattle.mips_isa.specs.declared.instr.Instr.{Instr}

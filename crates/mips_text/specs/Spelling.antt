@@ -1,4 +1,4 @@
--- The printed parts of a row.
+-- The text of an instruction or a directive as it is printed: its name, then its operands with the separators between them (`row_text`).
 use Rattle.std.specs.Prelude.{ℕ, List, [], ◌∷◌, ◌++◌, codes, suc, ◌==◌, if◌then◌else◌}
 use Rattle.mips_text.specs.Names.{register_text}
 
@@ -14,7 +14,7 @@ register_operand register = 36 ∷ register_text register
 abbrev pub letter_text : ℕ → List ℕ
 letter_text byte = if byte == 10 then codes "\\n" else if byte == 9 then codes "\\t" else if byte == 34 then 92 ∷ 34 ∷ [] else if byte == 92 then 92 ∷ 92 ∷ [] else byte ∷ []
 
--- the operands from an index on, each after what parts it from the word before
+-- the operands from an index on, each after its separator
 abbrev pub operands_text : ℕ → List (List ℕ) → List ℕ
 operands_text index [] = []
 operands_text index (operand ∷ operands) = gap_text index ++ (operand ++ operands_text (suc index) operands)

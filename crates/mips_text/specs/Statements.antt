@@ -1,4 +1,4 @@
--- The statements: for each instruction and each directive the operands that it wants, and what it is with them. The table is in
+-- The statements of assembly: the operands that each instruction and each directive takes, and the statement that it makes with them. The table is in
 -- `docs/assembly.md`, Statements, and in `docs/machine.md`.
 use Rattle.std.specs.Prelude.{ℕ, ℤ, pos, negsuc, nat_lt, Bool, true, false, if◌then◌else◌, List, [], ◌∷◌, length, map, Option, Some, None}
 use Rattle.std.specs.List.{slice_get}

@@ -1,4 +1,4 @@
--- The bytes that a string stands for: each byte for itself, except for a backslash with the byte behind it.
+-- `unescaped` gives the bytes that a string in assembly stands for: each byte stands for itself, except for a backslash with the byte behind it.
 use Rattle.std.specs.Prelude.{◌≡◌, refl, ℕ, Bool, true, false, not, ◌==◌, ◌&&◌, ◌||◌, if◌then◌else◌, List, [], ◌∷◌, codes}
 
 -- a backslash that begins an escape, where none is open

@@ -1,4 +1,4 @@
--- The words of a line: which bytes are a word as a whole, the longest word at a place, and all words of a line up to its end, to a
+-- The words (tokens) of a line of assembly: `Word` lists their kinds. The definitions give the longest word at a place, and all words up to the end, to a
 -- comment, or to the first byte that begins none. The rule is in `docs/assembly.md`, Lines.
 use Rattle.std.specs.Prelude.{◌≡◌, refl, ℕ, zero, suc, ◌+◌, ◌-◌, ◌*◌, ◌≤◌, min, ℤ, pos, negsuc, Bool, false, ◌&&◌, ◌==◌, nat_le, nat_lt, if◌then◌else◌, List, [], ◌∷◌, length, take, codes, Option, Some, None, option_map}
 use Rattle.std.specs.Option.{option_or}

@@ -1,4 +1,4 @@
--- The address to which a jump goes.
+-- The address of a jump, put together by bit operations, is the sum of the start of its region and four times its index.
 use Rattle.std.proofs.Common.{◌≡◌, ℕ, ◌+◌, ◌*◌, ◌%◌, ◌/◌, ◌<◌, arith}
 use Rattle.std.specs.Prelude.{bit_and, bit_or}
 use Rattle.std.proofs.lemmas.Nat.{or_shifted}

@@ -1,4 +1,4 @@
--- The text of the statement of a word.
+-- The debugger prints the instruction of a word as the definition says: the text of the statement of its line.
 use Rattle.std.proofs.Common.{◌≡◌, ◌∙◌, ap, ℕ, List}
 use Rattle.std.specs.Prelude.{Option, Some, None, Result, Ok, Err, IfOk}
 use Rattle.std.specs.Global.{Vec}

@@ -1,4 +1,4 @@
--- The marks of the words of a text that stand at break addresses.
+-- `in_set` says whether an address is a break address, given a mark for each word of the text.
 use Rattle.std.specs.Prelude.{ℕ, ◌^◌, Bool, ◌&&◌, nat_lt, List}
 use Rattle.spim_cpu.specs.Advancing.{is_marked}
 

@@ -1,10 +1,10 @@
--- The count of bytes, which stands still at its last value.
+-- `counted` is the debugger's count of output bytes, which stays at its greatest value, and `GrewBy` relates the count to the output of a run.
 use Rattle.std.specs.Prelude.{◌≡◌, ℕ, ◌+◌, min, List, length}
 use Rattle.cool_ports.specs.Counts.{last_count}
 use Rattle.spim_machine.specs.declared.halt.Halt.{Halt}
 use Rattle.spim_machine.specs.declared.halt.Halt.TheVariants.{Exit, Trap, StepLimit, ReadFault, WriteFault}
 
--- it stands still at its last value
+-- the count for so many bytes, which stays at its greatest value
 abbrev pub counted : ℕ → ℕ
 counted n = min n last_count
 

@@ -1,4 +1,4 @@
--- The end of a debugged run, over a source and sinks that may fail.
+-- `Debugged` is the result of debugging a run with a script: its output, the rest of its input, and the notes (messages), where reads and writes may fail.
 use Rattle.std.specs.Prelude.{◌≡◌, ◌⊎◌, ℕ, ◌≤◌, ◌<◌, ◌+◌, ◌*◌, List, ◌∷◌, ◌++◌, length, Option, Some}
 use Rattle.std.specs.List.{AllByRecursion, concat}
 use Rattle.cool_ports.specs.Counts.{Rose}
@@ -35,7 +35,7 @@ pub record IsTextAddress {W : Type 0} (text : List W) (a : ℕ) : Type 0 where
   pub within : index < length text
   pub address : a ≡ TEXT_START + 4 * index
 
--- a command's address is one
+-- the address of a command, if it has one, is that of a word of the text
 abbrev pub IsCommandFor : List ℕ → DebugCommand → Type 0
 IsCommandFor text (Break a) = IsTextAddress text a
 IsCommandFor text (Delete a) = IsTextAddress text a
@@ -63,7 +63,7 @@ pub record StandsAtEnd (d : Debuggee) (halt : Halt) (first left held : Option (L
   pub machine : MachineParts
   pub ran : Ran d.text d.segments d.budget d.start first halt machine left held
 
--- It stands where the definition's stands after some of them.
+-- The run stands where the definition's stands after some of the instructions that may be executed.
 pub record StandsEarlier (d : Debuggee) (first left held : Option (List ℕ)) : Type 0 where
   pub executed : ℕ
   pub within : executed ≤ d.budget
@@ -126,7 +126,7 @@ pub record PutOfFront (d : Debuggee) (script : List DebugCommand) (puts puts' : 
   pub script_is : script ≡ front ++ rest
   pub put : puts' ≡ puts ++ all_notes d front beginning
 
--- The same, and then a front of the notes of the command behind it.
+-- Notes of a front of a script were put, and then a front of the notes of the command behind it.
 pub record PutInCommand (d : Debuggee) (script : List DebugCommand) (puts puts' : List (List ℕ)) : Type 0 where
   pub front : List DebugCommand
   pub command : DebugCommand

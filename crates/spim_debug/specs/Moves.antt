@@ -1,5 +1,5 @@
--- The effects of a script's commands on the run: the number of instructions executed after each, and the break addresses. They are defined only over runs
--- of the machine.
+-- `moves` defines the effect of a debugger command on a run: the number of instructions executed after it, and the break addresses. It is defined only over
+-- runs of the machine.
 use Rattle.std.specs.Prelude.{ℕ, ◌+◌, ◌-◌, ◌==◌, min, not, Bool, false, List, [], ◌∷◌}
 use Rattle.std.specs.List.{filter, list_any}
 use Rattle.mips_isa.specs.Bytes.{Segments}
@@ -24,7 +24,7 @@ pub record Progress : Type 0 where
 abbrev pub beginning : Progress
 beginning = record { executed = 0; breaks = [] }
 
--- its run's outcome after so many instructions
+-- the outcome of the run after so many instructions
 abbrev pub outcome : Debuggee → ℕ → Outcome
 outcome d n = run d.text d.segments n d.start
 
@@ -44,7 +44,7 @@ no_break a = false
 abbrev pub is_break : List ℕ → ℕ → Bool
 is_break breaks a = list_any (λ other. other == a) breaks
 
--- after a command
+-- the progress after a command
 abbrev pub moves : Debuggee → DebugCommand → Progress → Progress
 moves d (Break a) p = record p { breaks = a ∷ p.breaks }
 moves d (Delete a) p = record p { breaks = filter (λ other. not (other == a)) p.breaks }
@@ -56,7 +56,7 @@ moves d (Show a) p = p
 moves d (Words a n) p = p
 moves d (ListWords a n) p = p
 
--- after commands
+-- the progress after commands
 abbrev pub all_moves : Debuggee → List DebugCommand → Progress → Progress
 all_moves d [] p = p
 all_moves d (command ∷ rest) p = all_moves d rest (moves d command p)

@@ -1,4 +1,4 @@
--- The debugger's invariant at a position in its script, and the outcome of one command.
+-- `Stands` is the debugger's invariant at a position in its script, and `Obeyed` the outcome of one command.
 use Rattle.std.specs.Prelude.{◌≡◌, ℕ, ◌-◌, ◌≤◌, List, [], ◌∷◌, length, Option, Some, None, Result, Ok, Err}
 use Rattle.cool_ports.specs.Counts.{Rose}
 use Rattle.cool_ports.specs.SinkPuts.{SinkSeen, after_puts, PutSome}
@@ -50,8 +50,8 @@ halted_in (Running s) = None
 halted_in (Exited code s) = Some (Exit code)
 halted_in (Trapped trap s) = Some (Trap trap)
 
--- The debugger is so far: its machine is in the state of the run, its source has the state's input left, and its sink, which held
--- `first`, got the state's output, whose bytes are counted.
+-- The debugger has this progress in the run: its machine is in the state of the run, its source has the state's input left, and its sink, which held `first`,
+-- got the state's output, whose bytes are counted.
 pub record Stands (d : Debuggee) (p : Progress) (first : Option (List ℕ)) (x : Debugger) (left held : Option (List ℕ)) : Type 0 where
   pub text : x.machine.cpu.memory.text ≡ d.text
   pub segments : segments x.machine.cpu.memory ≡ d.segments
@@ -83,7 +83,7 @@ IsPut note (Err (end.Halt halt)) noted noted' = ⊥
 IsPut note (Err end.NoteFault) noted noted' = PutSome noted (note ∷ []) noted'
 IsPut note (Err end.Memory) noted noted' = ⊥
 
--- the same of several notes, a put for each, for which memory may run out
+-- several notes were put, one after another, or a put failed, or memory ran out for a note
 abbrev pub ArePut : List (List ℕ) → Result Unit DebugEnd → SinkSeen → SinkSeen → Type 0
 ArePut texts (Ok done) noted noted' = noted' ≡ after_puts noted texts
 ArePut texts (Err (end.Halt halt)) noted noted' = ⊥

@@ -1,5 +1,5 @@
--- Shared parts of the readers of a script's lines: the words of the text that a script names by a table of labels, the command at one of them, and a
--- command that is added if there is one.
+-- The shared parts of the functions that parse a script's lines: the address that a label or a number names (`place_by`), the command at an address, and a
+-- command added to a list.
 use Rattle.std.specs.Prelude.{ℕ, List, [], ◌∷◌, ◌++◌, Option, Some, None}
 use Rattle.mips_asm.specs.TextLabels.{TextLabelParts, address_of}
 use Rattle.spim_debug.specs.declared.script.DebugCommand.{DebugCommand}

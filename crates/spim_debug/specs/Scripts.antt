@@ -1,5 +1,5 @@
--- The commands of a script: one for each line that is not empty, or the first line that is in no form, or names no word of the text. The rule is in
--- `docs/debugger.md`, Scripts.
+-- `commands_in` parses a debugger script: one command for each line that is not empty, or the first line that is no command or names no word of the program's
+-- text. The rule is in `docs/debugger.md`, Scripts.
 use Rattle.std.specs.Prelude.{◌≡◌, refl, ℕ, suc, ◌==◌, ◌&&◌, ◌||◌, nat_le, if◌then◌else◌, List, [], ◌∷◌, length, bytes_eq, codes, Option, Some, None, Result, Ok, Err}
 use Rattle.std.specs.Option.{is_some}
 use Rattle.mips_isa.specs.Lines as lines
@@ -45,16 +45,16 @@ word_at end (Some a) = if has_word end a then Some a else None
 abbrev pub place_in : ℕ → (lines.Name → Option ℕ) → List ℕ → Option ℕ
 place_in end label word = if is_name word then label word else word_at end (address_in word)
 
--- the same in the text of lines
+-- the address of the word that a label or an address names, in the text of lines of assembly
 abbrev pub place_of : List lines.Line → List ℕ → Option ℕ
 place_of rows = place_in (text_end rows) (text_label rows)
 
--- with a number or an address, if it is one
+-- the command with a number or an address, if the operand is one
 abbrev pub with_number : Option ℕ → (ℕ → DebugCommand) → Said
 with_number None command = Err B1
 with_number (Some n) command = says (command n)
 
--- with a label or an address, where it names a word of the text
+-- the command at the address that a label or an address names, if that is a word of the text
 abbrev pub at_place : Option ℕ → (ℕ → DebugCommand) → Said
 at_place None command = Err B2
 at_place (Some a) command = says (command a)
@@ -62,12 +62,12 @@ at_place (Some a) command = says (command a)
 abbrev pub with_place : (List ℕ → Option ℕ) → List ℕ → (ℕ → DebugCommand) → Said
 with_place place word command = if is_name word || is_some (address_in word) then at_place (place word) command else Err B1
 
--- with both and a number
+-- the command with a label or an address, and a number
 abbrev pub with_both : (List ℕ → Option ℕ) → List ℕ → Option ℕ → (ℕ → ℕ → DebugCommand) → Said
 with_both place word None command = Err B1
 with_both place word (Some n) command = with_place place word (λ a. command a n)
 
--- with an address and a number, if they are that
+-- the command with an address and a number, if the operands are these
 abbrev pub with_numbers : Option ℕ → Option ℕ → (ℕ → ℕ → DebugCommand) → Said
 with_numbers None count command = Err B1
 with_numbers (Some a) count command = with_number count (command a)

@@ -1,4 +1,4 @@
--- The decimal of a word that is taken as a signed number.
+-- A word that is printed as a signed number has the decimal text that the definition gives.
 use Rattle.std.proofs.Common.{◌≡◌, ◌∙◌, ap, ℕ, ◌-◌, ◌<◌, true, false, List, length, ℤ, pos, negsuc, w32, Bool, refl, if◌then◌else◌, arith}
 use Rattle.std.specs.Int.{cast_signed, cast_unsigned}
 use Rattle.std.specs.Fmt.{signed_decimal}

@@ -1,4 +1,4 @@
--- The machine as contracts see it, and its relation to the state of the machine's definition.
+-- `MachineParts` is the machine as contracts see it, and `IsIn` relates it, with its input and output, to a state of the machine's definition.
 use Rattle.std.specs.Prelude.{◌≡◌, ℕ, Bool, List, Option, Some, None}
 use Rattle.cool_ports.specs.SinkBytes.{appended}
 use Rattle.mips_isa.specs.Calls.{State}
@@ -38,7 +38,7 @@ pub record Keeps (old new : MachineParts) : Type 0 where
   pub memory : KeepsSegments old.cpu.memory new.cpu.memory
   pub halted : new.halted ≡ old.halted
 
--- after a run: what a further run will answer
+-- the result of a further run after one that ended so, if there is one
 abbrev pub halted_by : Halt → Option Halt
 halted_by StepLimit = None
 halted_by (Exit code) = Some (Exit code)

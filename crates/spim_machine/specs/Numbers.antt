@@ -1,4 +1,4 @@
--- A number that was read in part, and the rest of its line.
+-- `number_from` gives the number in a line of input, from the part that was read and the rest of the line.
 use Rattle.std.specs.Prelude.{ℕ, ◌-◌, ◌^◌, true, false, List}
 use Rattle.mips_isa.specs.Machine.{wrap}
 use Rattle.mips_isa.specs.Calls.{digits_from, number_of}

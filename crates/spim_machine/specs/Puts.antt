@@ -1,4 +1,5 @@
--- The puts of a machine: one for each number and each byte that is printed, and for a string one for each 64 of its bytes.
+-- `run_puts` lists the puts (writes) of a run of the machine: one for each number and each byte that is printed, and for a string one for each 64 of its
+-- bytes.
 use Rattle.std.specs.Prelude.{◌≡◌, refl, ℕ, zero, suc, ◌%◌, ◌==◌, if◌then◌else◌, List, [], ◌∷◌, ◌++◌, Option, Some, None, Result, Ok, Err}
 use Rattle.std.specs.Fmt.{signed_decimal}
 use Rattle.cool_ports.specs.SinkPuts.{pieces_of, PutFront}
@@ -48,13 +49,13 @@ abbrev pub run_puts : List ℕ → Segments → ℕ → State → List (List ℕ
 run_puts text b zero s = []
 run_puts text b (suc n) s = cycle_puts text b s.core ++ puts_then (cycle text b s) (run_puts text b n)
 
--- the output that a run has where it comes to this
+-- the output of a run with this outcome
 abbrev pub output_of : Outcome → List ℕ
 output_of (Running s) = s.output
 output_of (Exited code s) = s.output
 output_of (Trapped trap s) = s.output
 
--- These were put, or a front of them where a put failed.
+-- These texts were put, or a front of them where a put failed.
 abbrev pub PutBy : Halt → List (List ℕ) → List (List ℕ) → List (List ℕ) → Type 0
 PutBy WriteFault due before after = PutFront before due after
 PutBy (Exit code) due before after = after ≡ before ++ due
@@ -66,7 +67,7 @@ abbrev pub PutIf : Result Unit Halt → List (List ℕ) → List (List ℕ) → 
 PutIf (Ok done) due before after = after ≡ before ++ due
 PutIf (Err halt) due before after = PutBy halt due before after
 
--- These were put, or a front of them where a read or a put failed.
+-- These texts were put, or a front of them where a read or a put failed.
 abbrev pub PutWithin : Halt → List (List ℕ) → List (List ℕ) → List (List ℕ) → Type 0
 PutWithin ReadFault due before after = PutFront before due after
 PutWithin WriteFault due before after = PutFront before due after

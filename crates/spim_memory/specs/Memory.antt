@@ -1,5 +1,5 @@
--- A memory as contracts see it: the words of the text, and the bytes of the other segments. They determine the bytes by their addresses, and the bounds of
--- the segments.
+-- `MemoryParts` is the simulator's memory as contracts see it: the words of the text, and the bytes of data, heap and stack. `bytes_of` and `segments`
+-- convert it to the memory and the segments of the machine's definition.
 use Rattle.std.specs.Prelude.{◌≡◌, ℕ, ◌+◌, ◌-◌, ◌*◌, ◌/◌, ◌%◌, ◌^◌, ◌≤◌, ◌==◌, nat_lt, not, Bool, if◌then◌else◌, List, length, get_or, Result, Ok, Err}
 use Rattle.mips_isa.specs.declared.address_map.TheConstants.{TEXT_START, DATA_START, HEAP_START, STACK_END, MOST_TEXT_WORDS, MOST_DATA_BYTES}
 use Rattle.mips_isa.specs.Bytes.{Bytes, Segments, byte_of_word}

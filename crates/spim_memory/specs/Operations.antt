@@ -1,4 +1,4 @@
--- The instruction of an operation.
+-- `instr_of` gives the instruction of each decoded operation of the simulator, or none for a word that is no instruction.
 use Rattle.std.specs.Prelude.{◌≡◌, refl, ℕ, ◌<◌, pos, Option, Some, None, List, length, get_or}
 use Rattle.mips_isa.specs.declared.instr.Instr.{Instr}
 use Rattle.mips_isa.specs.declared.instr.Instr.TheVariants.{Three, Shift, ShiftReg, Jr, Jalr, Syscall, MoveFrom, MoveTo, MulDiv, Imm, Lui, BranchTwo, BranchOne, Jump, Mem}
@@ -18,7 +18,7 @@ use Rattle.mips_isa.specs.Decoding.{decoded}
 use Rattle.spim_memory.specs.declared.operation.Operation.{Operation}
 use Rattle.spim_memory.specs.declared.operation.Operation.TheVariants as row
 
--- `Unknown` is that of a word of no instruction.
+-- `Unknown` is the operation of a word that is no instruction.
 abbrev pub instr_of : Operation → Option Instr
 instr_of row.Unknown = None
 instr_of (row.Add rd rs rt) = Some (Three three.Add rd rs rt)

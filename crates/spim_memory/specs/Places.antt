@@ -1,4 +1,4 @@
--- The place of an address in a memory, and the memory after a store there.
+-- `IsPlace` gives the segment, and the offset in it, of the byte at an address; `set_two` and `set_four` store a half and a word in a list of bytes.
 use Rattle.std.specs.Prelude.{◌≡◌, ℕ, ◌+◌, ◌-◌, ◌*◌, ◌/◌, ◌%◌, ◌^◌, ◌<◌, true, false, Option, None, Some, Result, Ok, Err, List, ◌++◌, length, replicate, slice_set}
 use Rattle.mips_isa.specs.declared.address_map.TheConstants.{TEXT_START, DATA_START, HEAP_START, STACK_END}
 use Rattle.mips_isa.specs.Bytes.{lies, writable}
@@ -21,7 +21,7 @@ abbrev pub IsTextWord : MemoryParts → ℕ → Option ℕ → Type 0
 IsTextWord m a None = lies TEXT_START (segments m).text_end a 1 ≡ false
 IsTextWord m a (Some word) = (lies TEXT_START (segments m).text_end a 1 ≡ true) × (word ≡ word_of_text m.text a) × (word < 2 ^ 32)
 
--- this word without the bytes before the address, or why it may not be
+-- the word of the text without its bytes before the address, or the fault if the address is not in the text
 abbrev pub IsTextFrom : MemoryParts → ℕ → Result ℕ MemFault → Type 0
 IsTextFrom m a (Ok rest) =
     (lies TEXT_START (segments m).text_end a 1 ≡ true) × (rest ≡ word_of_text m.text a / 2 ^ (8 * (a % 4))) × (word_of_text m.text a < 2 ^ 32)

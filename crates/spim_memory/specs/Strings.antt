@@ -1,5 +1,4 @@
--- Strings in a memory: the bytes that stand one after another, and those that may be loaded, as SPIM's system call
--- print_string takes them.
+-- Strings in memory, as SPIM's system call print_string takes them: the bytes from an address on (`bytes_from`), and those that may be loaded (`MayLoad`).
 use Rattle.std.specs.Prelude.{◌≡◌, refl, ℕ, zero, suc, ◌+◌, ◌%◌, ◌<◌, true, if◌then◌else◌, Option, Some, None, List, [], ◌∷◌}
 use Rattle.mips_isa.specs.declared.address_map.TheConstants.{DATA_START, HEAP_START, STACK_END}
 use Rattle.mips_isa.specs.Bytes.{Bytes, Segments, lies, readable}

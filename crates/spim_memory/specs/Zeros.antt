@@ -1,11 +1,11 @@
--- Bytes of which only a part was ever written: all others are zeros.
+-- A segment of which only a part was ever written: `and_zeros` and `zeros_and` give all its bytes, where the others are zeros.
 use Rattle.std.specs.Prelude.{◌≡◌, refl, ℕ, ◌+◌, ◌-◌, ◌*◌, ◌%◌, ◌≤◌, List, [], ◌∷◌, ◌++◌, length, replicate, get_or}
 
--- so many bytes: these, and zeros after them
+-- a segment of so many bytes: the written ones, and zeros after them
 abbrev pub and_zeros : List ℕ → ℕ → List ℕ
 and_zeros written size = written ++ replicate (size - length written) 0
 
--- so many bytes: zeros, and these after them
+-- a segment of so many bytes: zeros, and the written ones after them
 abbrev pub zeros_and : ℕ → List ℕ → List ℕ
 zeros_and size written = replicate (size - length written) 0 ++ written
 

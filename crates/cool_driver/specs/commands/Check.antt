@@ -1,4 +1,4 @@
--- The promise of `check`: no note and status 0 if its files are a program, or else the reason why they are none.
+-- The promise of `check`: status 0 and no note if its files are an accepted program, or else a note with the reason why they are none.
 use Rattle.std.specs.Prelude.{◌≡◌, ◌≢◌, ℕ, List, [], Some, false}
 use Rattle.cool_syntax.specs.declared.TheConstants.{MOST_SOURCE_BYTES}
 use Rattle.cool_classes.specs.Chains.{Class}

@@ -1,5 +1,5 @@
--- The promise of `debug`: the run of the image for the program of its files, within the limits, with the notes that its script requests, or else the reason
--- why there is none.
+-- The promise of `debug`: it runs the image of the program in its files, within the limits, with the notes that its script requests, or writes a note with
+-- the reason why not.
 use Rattle.std.specs.Prelude.{◌≡◌, ◌≢◌, ℕ, ◌<◌, ◌≤◌, ◌⊎◌, List, [], ◌∷◌, ◌++◌, length, Some, None, Ok, Err, true}
 use Rattle.cool_syntax.specs.declared.TheConstants.{MOST_FILES, MOST_SOURCE_BYTES}
 use Rattle.cool_classes.specs.Chains.{Class}

@@ -1,4 +1,4 @@
--- The basic methods that print.
+-- The routines of the basic methods that print, out_string and out_int, do what the methods mean.
 use Rattle.std.proofs.Common.{◌≡◌, ℕ, ◌+◌, ◌-◌, ◌*◌, List, [], ◌∷◌, ◌++◌, length, refl, ap, subst, arith}
 use Rattle.std.specs.Prelude.{codes, ℤ}
 use Rattle.std.specs.Fmt.{signed_decimal}

@@ -1,4 +1,4 @@
--- The basic method copy, of a value without an identity.
+-- The routine of the basic method copy does what the method means for an Int, a Bool or a String, which have no identity.
 use Rattle.std.proofs.Common.{◌≡◌, ℕ, ◌+◌, ◌*◌, ◌≤◌, List, length, Bool as Truth, arith}
 use Rattle.std.specs.Prelude.{codes, ℤ}
 use Rattle.mips_isa.specs.declared.address_map.TheConstants.{HEAP_START}

@@ -1,4 +1,4 @@
--- The basic methods abort, type_name and length.
+-- The routines of the basic methods abort, type_name and length do what the methods mean.
 use Rattle.std.proofs.Common.{◌≡◌, ℕ, ◌+◌, ◌*◌, ◌≤◌, List, [], ◌∷◌, length, Option, sym, subst, arith, append_assoc}
 use Rattle.std.specs.Prelude.{codes}
 use Rattle.mips_isa.specs.declared.address_map.TheConstants.{HEAP_START}

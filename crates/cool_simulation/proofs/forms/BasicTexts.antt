@@ -1,4 +1,4 @@
--- The basic methods concat and substr.
+-- The routines of the basic methods concat and substr do what the methods mean.
 use Rattle.std.proofs.Common.{◌≡◌, ℕ, ◌+◌, ◌-◌, ◌*◌, ◌/◌, ◌<◌, ◌≤◌, List, [], ◌∷◌, ◌++◌, length, get_or, take, drop, Some, None, Bool as Truth, true, false, refl, sym, ◌∙◌, subst, arith, length-append, length-drop, length-take-le}
 use Rattle.std.specs.Prelude.{codes, ℤ, pos, negsuc, nat_le, if◌then◌else◌}
 use Rattle.mips_isa.specs.declared.address_map.TheConstants.{HEAP_START}

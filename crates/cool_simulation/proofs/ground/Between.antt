@@ -1,4 +1,4 @@
--- The test whether a number is between two others.
+-- Lemmas on the function `is_between`, which tests whether a number is between two others.
 use Rattle.std.proofs.Common.{◌≡◌, ℕ, ◌<◌, ◌≤◌, Bool as Truth, true, false, arith}
 use Rattle.std.specs.Prelude.{nat_le, nat_lt, ◌&&◌}
 
