@@ -25,7 +25,8 @@ pub fn perform<R: Files, O: Write, E: Write>(
 ) -> Process<R, O, E>
     // The outcome that is due for the form and the names that the arguments ask for is written, or a write of it fails.
     ensures ended { HasEnded (spec_of (form_asked (words_of words.now)))
-        (fresh_shelf (⟦<FileShelf<R> as Shelf>⟧.faults result.files) (⟦<FileShelf<R> as Shelf>⟧.asked result.files) (⟦<FileShelf<R> as Shelf>⟧.gave result.files))
+        (fresh_shelf (⟦<FileShelf<R> as Shelf>⟧.faults result.files) (⟦<FileShelf<R> as Shelf>⟧.asked result.files)
+        (⟦<FileShelf<R> as Shelf>⟧.gave result.files))
         (names_asked (words_of words.now))
         (fresh_sink (⟦<StdSink<O> as Sink>⟧.held result.out) (⟦<StdSink<O> as Sink>⟧.faults result.out) (⟦<StdSink<O> as Sink>⟧.puts result.out))
         (fresh_sink (⟦<StdSink<E> as Sink>⟧.held result.notes) (⟦<StdSink<E> as Sink>⟧.faults result.notes) (⟦<StdSink<E> as Sink>⟧.puts result.notes))

@@ -9,7 +9,7 @@ pub returns-in-Some : goal.returns-in-Some
 returns-in-Some c =
     inl (record {
       faultless = refl;
-      is = subst (IsTextOf c.args.form (map string_bytes c.args.names.now) (bytes_of c.args.contents.now)) c.in-Some.is c.in_ok-files_text.ensures;
+      is = subst (IsTextOf c.args.form (map string_bytes c.args.names.now) (bytes_of c.args.contents.now)) c.in-Some.is c.in_ok-text.ensures;
       no_note = refl;
     })
 
@@ -17,7 +17,7 @@ pub returns-in-None : goal.returns-in-None
 returns-in-None c =
     inr (record {
       faulty = refl;
-      none = subst (IsTextOf c.args.form (map string_bytes c.args.names.now) (bytes_of c.args.contents.now)) c.in-None.is c.in_ok-files_text.ensures;
+      none = subst (IsTextOf c.args.form (map string_bytes c.args.names.now) (bytes_of c.args.contents.now)) c.in-None.is c.in_ok-text.ensures;
       no_text = search rules;
       note = c.refusal_note.ensures;
     })

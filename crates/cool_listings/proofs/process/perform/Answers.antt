@@ -1,5 +1,5 @@
 -- The call is the one that the arguments ask for.
-use Rattle.std.proofs.Common.{◌≡◌, ◌⊎◌, inl, inr, true, false}
+use Rattle.std.proofs.Common.{◌≡◌, ◌⊎◌, inl, inr, true, false, ◌∙◌}
 use Rattle.std.specs.Prelude.{Some, None}
 use Rattle.cool_sources.specs.CommandLine.{words_of}
 use Rattle.cool_listings.specs.Processes.{call_asked, other_form}
