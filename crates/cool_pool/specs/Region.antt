@@ -1,4 +1,4 @@
--- The view that contracts have of a pool and of a column.
+-- `Region` is a pool of nodes as contracts see it, and `Filled` a column of values: the items in the order of their numbers, and the free or whole capacity.
 use Rattle.std.specs.Prelude.{ℕ, List}
 use Rattle.cool_syntax.specs.declared.node.Node.{Node}
 
@@ -7,7 +7,7 @@ pub record Region : Type 0 where
   pub nodes : List Node
   pub spare : ℕ
 
--- the values of the first nodes, in the order of their numbers, and the number of values that there is room for in all
+-- the values of the first nodes, in the order of their numbers, and the number of values that the column can hold in all
 pub record Filled (T : Type 0) : Type 0 where
   pub held : List T
   pub room : ℕ
