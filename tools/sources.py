@@ -1,4 +1,4 @@
-"""Shared by `map` and `tidy`: the files in git, their first sentences, and what definitions depend on."""
+"""Shared by `map`, `reach` and `tidy`: the files in git, their first sentences, and what definitions depend on."""
 import pathlib
 import re
 import subprocess
@@ -82,7 +82,7 @@ class Definitions:
     def __init__(self, names):
         self.texts = {name: plain(read(name)) for name in names if re.match(r"crates/\w+/specs/.+\.antt$", name)}
         self.modules = {"Rattle." + name[len("crates/") : -len(".antt")].replace("/", "."): name for name in self.texts}
-        self.items, self.parts, self.known, self.fields, self.imports = {}, {}, {}, {}, {}
+        self.items, self.parts, self.given, self.known, self.fields, self.imports = {}, {}, {}, {}, {}, {}
         for name, text in self.texts.items():
             self.split(name, text)
 
@@ -92,11 +92,18 @@ class Definitions:
         for use in re.findall(r"(?m)^(?:pub )?use (Rattle\..+(?:\n .+)*)$", text):
             for path, here in paths(use):
                 imports[here] = path
+        parts = re.split(r"(?m)^module _ (.*) where\n((?:  .*\n|\n)+)", text)
+        for before, given, inside in zip(parts[::3], [*parts[1::3], ""], [*parts[2::3], ""]):
+            self.split_part(file, before, "", known, fields)
+            self.split_part(file, re.sub("(?m)^  ", "", inside), given, known, fields)
+
+    def split_part(self, file, text, given, known, fields):
+        """Takes definitions apart that have the same parameters, those of their module."""
         heads = r"(?m)^(?=(?:pub (?!use|mod)|unfoldable |abbrev |pattern |mutual\b|data |record )|(?!unfolding)[^\s()]+ : )"
         for body in re.split(heads, text)[1:]:
             words = r"(?:pub |unfoldable |abbrev |pattern |mutual\b\s*|data |record )*([^\s(){}]+)"
             first = re.match(words, body)[1]
-            self.items[file, first] = body
+            self.items[file, first], self.given[file, first] = body, given
             lines = r"(?m)^\s*(?:(?:pub|unfoldable|abbrev|pattern|data|record) )*([^\s(){}]+)(?= :| \(.*\) :| \{.*\} :)"
             known.setdefault(first, first)
             self.parts[file, first] = re.findall(lines, body)
@@ -145,12 +152,12 @@ class Definitions:
             if (file, name) not in self.items or not set(field) <= set(self.parts[file, name]):
                 raise LookupError("%s has no %s: correct HEADLINE in tools/sources.py, the main theorem about `run`" % (file, ".".join([name, *field])))
             found.add((file, name))
-            due += self.named(file, self.field(file, name, *field) if field else self.items[file, name])
+            due += self.named(file, self.field(file, name, *field) if field else self.items[file, name] + self.given[file, name])
         while due:
             item = due.pop()
             if item not in found:
                 found.add(item)
-                due += self.named(item[0], self.items[item])
+                due += self.named(item[0], self.items[item] + self.given[item])
         return found
 
     def field(self, file, name, field):

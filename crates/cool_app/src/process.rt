@@ -36,7 +36,8 @@ pub fn perform<R: Files, S: Read + Drop, O: Write, E: Write>(
     // The system is asked only for the files of the command line, in order, each once, up to one that is refused.
     ensures asked { AskedFront (names_asked (asked_for (words_of words.now))) [] (⟦<FileShelf<R> as Shelf>⟧.asked result.files) }
 
-    // The end of each command, by its status: the writers took, byte for byte, what is promised for the bytes that the files and the reader gave.
+    // The end of each command, by its status: the writers took what is promised for the bytes that the files and the reader gave. At status 8 a writer may
+    // also have taken a part of the write that failed.
     ensures ends { (given rest : List ℕ) → Leaves nothing_yet (⟦<StdSource<S> as Source>⟧.past result.input) given rest
         → Ends (call_of (words_of words.now)
         (shelf_since_made (⟦<FileShelf<R> as Shelf>⟧.faults result.files) (⟦<FileShelf<R> as Shelf>⟧.asked result.files) (⟦<FileShelf<R> as Shelf>⟧.gave result.files))
