@@ -1,4 +1,5 @@
--- Counting occurrences of a name in a list, and sums over a range in which at most one term is nonzero.
+-- `times` counts how often a label occurs in a list of labels. Each label of the compiled code occurs at most once: of the sum of its counts in all sections,
+-- at most one term is not 0.
 use Rattle.std.proofs.Common.{◌≡◌, ◌≢◌, ℕ, zero, suc, ◌+◌, ◌<◌, ◌≤◌, List, [], ◌∷◌, ◌++◌, Bool}
 use Rattle.std.proofs.Common.{true, false, not, ◌&&◌, ◌||◌, true≢false, refl, sym, ap, ◌∙◌, arith}
 use Rattle.std.specs.Prelude.{nat_eq, nat_le, nat_lt, bytes_eq}

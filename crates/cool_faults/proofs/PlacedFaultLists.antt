@@ -1,4 +1,4 @@
--- The faults of classes, of features and of typing stand in the files of their definitions.
+-- The place of an error of a class or a feature, or of typing, is in the source file that defines this class or feature.
 use Rattle.std.proofs.Common.{◌≡◌, ℕ, zero, suc, ◌<◌, List, [], ◌∷◌, ◌++◌, map, length, get_or, Option, Some, subst, arith}
 use Rattle.std.specs.Prelude.{Ok, Err, IfErr, IfSome, slice_get}
 use Rattle.std.specs.List.{AllByRecursion}

@@ -1,4 +1,4 @@
--- The names in scope of the expression of a feature have types of the table.
+-- Each variable that is in scope in the body of a method, or in the initial value of an attribute, has a type that the class table of the program has.
 use Rattle.std.proofs.Common.{◌++◌, List}
 use Rattle.cool_classes.specs.declared.class_id.ClassId.{ClassId}
 use Rattle.cool_classes.specs.Chains.{Class}

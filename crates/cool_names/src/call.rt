@@ -1,4 +1,5 @@
-//! The marks of calls, and the types of receivers at first sight.
+//! A mark says for a name in the source what it means and where that is defined. This module makes the marks of calls. To find the method, it computes the type
+//! of the receiver from its form (`seen_type` of `Marks.antt`), because a source that is being edited may have no types yet.
 
 ghost use Rattle.std.specs.Prelude.{◌≡◌, ◌<◌, ◌++◌, IfSome, OnOk, [], if◌then◌else◌};
 ghost use Rattle.cool_syntax.specs.NodeGroups.{IsCall};
