@@ -12,13 +12,18 @@ LATER = (
 # A noun is missing if a comment or cell begins with one of these words. Questions are allowed, and adverbs that a comma or colon separates from a sentence.
 STAND_IN = re.compile(r"(?:what|of|that of)\b(?!.*\?)|(?:for|by)\b(?! default)(?!.*[,:])", re.IGNORECASE)
 COMMENT = re.compile(r"\s*(?:///?|//!|--)(?: |$)(.*)")
+SCRIPT_COMMENT = re.compile(r'\s*(?://+ |#+ |;+ |/\*+ |""")(.*)')
+# Folders and scripts whose comments and docstrings are not yet rewritten. Remove a row when they are.
+SCRIPTS_LATER = (
+    "bin/", "compare/", "conformance/", "editors/tests/stepping.py", "mistakes/", "release/",
+)
 
 
-def comments(text):
-    """The comments of a source on lines of their own: for each block the number of its first line, and its lines."""
+def comments(text, form=COMMENT):
+    """Yields each block of comments on separate lines: the number of its first line, and its lines."""
     block, first = [], 0
     for number, line in enumerate(text.split("\n") + [""], 1):
-        found = COMMENT.match(line)
+        found = form.match(line)
         if found:
             first = first if block else number
             block.append(found[1])
@@ -42,6 +47,14 @@ def long_sentence(lines):
     paragraphs = "\n".join("" if line.startswith("  ") else line for line in lines).split("\n\n")
     sentences = (it for paragraph in paragraphs for it in re.split(r"(?<=[.:;?])\s|\n(?=\S+ +- )", paragraph))
     return max(len(it.split()) for it in sentences)
+
+
+def unplain_scripts(scripts):
+    """Yields the comments and docstrings of scripts that begin with a stand-in for a noun: the place, the problem, and what to do."""
+    for name, text in scripts.items():
+        for number, block in comments(text, SCRIPT_COMMENT) if not name.startswith(SCRIPTS_LATER) else ():
+            if STAND_IN.match(" ".join(block)):
+                yield "%s:%d" % (name, number), "a comment begins with %s" % block[0].split()[0], "begin with the missing noun (docs/style.md, 4 and 5)"
 
 
 def unplain(texts, documents):

@@ -7,7 +7,7 @@ const fs = require("fs");
 const { isMainThread, Worker } = require("worker_threads");
 
 const STACK_MB = 64, WAIT_MS = 5, RETURN = 13;
-// Of these the machine's loops are worth being made ready first.
+// The commands that are long enough to make the machine's loops ready before.
 const LONG = ["run", "exec"];
 
 // Calls again where a stream that does not wait has no bytes, or no room for them, yet.

@@ -1,5 +1,5 @@
-// What the program asks of a C library, for a WebAssembly module: a heap in the module's memory, and files, streams and
-// words that the host of the module gives. The host's functions answer a number from 0 on, or the negative of an error's number.
+// The functions of a C library that the program needs, for a WebAssembly module: a heap in the module's memory, and files, streams and
+// arguments that the host of the module gives. The host's functions return a number from 0 on, or the negative of an error's number.
 typedef __SIZE_TYPE__ size;
 typedef long long i64;
 
@@ -123,7 +123,7 @@ Tried rattle_realloc(void *at, size kept, size bytes, size align) {
     return (Tried){1, moved};
 }
 
-// What clang calls for numbers of 128 bits.
+// The functions that clang calls for numbers of 128 bits.
 typedef unsigned long long u64;
 typedef unsigned __int128 u128;
 

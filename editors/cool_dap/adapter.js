@@ -120,7 +120,7 @@ class Adapter {
         });
     }
 
-    // By one instruction.
+    // Moves by one instruction.
     onByOne() {
         return this.act(async () => this.arrived(await this.debuggee.forwardBy(1), "step"));
     }

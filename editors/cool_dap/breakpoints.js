@@ -124,7 +124,7 @@ class Breakpoints {
         return [...[...this.lines.values()].flat(), ...this.functions];
     }
 
-    // For the moves of stops.js.
+    // The breaks in the form that the moves of stops.js take.
     get breaks() {
         const { all } = this;
         return {

@@ -29,7 +29,7 @@ function messageOf(text, { expressionOf, FORMS_TAKEN }) {
     return async (value) => (await Promise.all(parts.map(async (it) => (typeof it === "string" ? it : shown(await value(it)))))).join("");
 }
 
-// What a client asked, read: { condition, counts, message }, each undefined where nothing is asked.
+// Parses the conditions of a client: { condition, counts, message }, each undefined if the client gives none.
 function readConditions({ condition, hitCondition, logMessage }, logic) {
     const read = (text, reader) => (typeof text === "string" && text.trim() !== "" ? reader(text, logic) : undefined);
     return { condition: read(condition, conditionOf), counts: read(hitCondition, countOf), message: read(logMessage, messageOf) };

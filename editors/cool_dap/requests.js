@@ -17,14 +17,14 @@ const CAPABILITIES = {
 // An answer that is a refusal.
 class Refused extends Error {}
 
-// Of a number that a client gives, one within these bounds.
+// Returns a function that limits a number of a client to these bounds. If the client gives no number, the function returns `usual`.
 const within = (least, most, usual) => (given) => (Number.isFinite(given) ? Math.min(most, Math.max(least, Math.trunc(given))) : usual);
 const MOST_INSTRUCTIONS = 10_000, MOST_BYTES = 65_536;
 const countOf = within(0, MOST_INSTRUCTIONS, 0), bytesOf = within(0, MOST_BYTES, 0), placeOf = within(-(2 ** 32), 2 ** 32, 0), frameOf = within(0, 2 ** 20, 0);
 
 const resumes = (after) => ({ allThreadsContinued: true, after });
 
-// What each request answers; `after` is done behind the answer.
+// The response of each request. `after` is called after the response.
 const REQUESTS = {
     initialize() {
         return CAPABILITIES;

@@ -6,20 +6,20 @@ const { outline } = require("../../web/logic/names.js");
 const { ERROR, isUnchecked } = require("./diagnostics.js");
 const { Text } = require("./ranges.js");
 
-// Of symbols in the protocol.
+// The numbers of symbol kinds in the protocol.
 const KINDS = { class: 5, method: 6, attribute: 8 };
 const QUICKFIX = "quickfix";
 
 // The path of the file that a request is about.
 const pathIn = (params) => toPath(params.textDocument.uri);
 
-// Of the files as they were looked at last, and of what was told of them.
+// Answers requests about the files and the diagnostics of the last check.
 class Answers {
     constructor(files, programs, checker, told, reasons) {
         Object.assign(this, { files, programs, checker, told, reasons });
     }
 
-    // What was told of a file.
+    // The diagnostics of a file.
     notes(file) {
         return this.told.get(this.files.uri(file))?.notes ?? [];
     }
@@ -30,7 +30,7 @@ class Answers {
         return this.checker.waits(file) && this.notes(file).some((it) => it.severity === ERROR && meets(it.range, range));
     }
 
-    // Of a fault: what is known of it, what mends it, and the rule that it breaks.
+    // The text about an error at a position: its explanation, the advice, and the rule that it breaks.
     async hover(params) {
         const range = { start: position(params.position), end: params.position };
         const [fault, note] = this.checker.explained(pathIn(params)).find(([, it]) => meets(it.range, range)) ?? [];

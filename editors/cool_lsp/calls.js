@@ -14,7 +14,7 @@ const SIGN = /[(){},;]/g;
 const DEEPER = { ")": 1, "}": 1, "(": -1, "{": -1 };
 // Bytes that are looked at before the cursor.
 const MOST_BEFORE = 20000;
-// What is not written yet behind a call.
+// Texts that complete a program behind an unfinished call.
 const RESTS = ["", ";", ")", ");", ") }", " }; };", "; } }; };"];
 
 class Calls {

@@ -13,10 +13,10 @@ const IS_TYPE = /^[A-Z][A-Za-z0-9_]*$/;
 // The kind of what completes a word.
 const CLASS = 7;
 
-// What is asked for can't be done; the words say why.
+// Thrown if a request cannot be fulfilled. The message says why.
 class Refused extends Error {}
 
-// Of the files as they were looked at last.
+// Finds classes in the files, in the state of the last look.
 class Classes {
     constructor(files, programs) {
         Object.assign(this, { files, programs });

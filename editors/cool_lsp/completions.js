@@ -18,7 +18,7 @@ const VARIABLE = 6;
 // Bytes before a place in which what ends there is looked for.
 const MOST_BEFORE = 2000;
 
-// What a pattern that ends at a place finds there, with the place where that begins.
+// The match of a pattern that ends at an offset, and the offset where it begins.
 function endingAt(pattern, data, at) {
     const from = Math.max(0, at - MOST_BEFORE), found = pattern.exec(data.slice(from, at));
     return found && { found, start: from + found.index };

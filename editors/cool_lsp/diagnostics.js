@@ -125,7 +125,7 @@ class Checker {
         return { key: keyOf([...files.keys()]), files, faults: faultsOfFiles(rows, pieces) };
     }
 
-    // What is told
+    // Diagnostics
 
     // The diagnostics by path of a program, as far as it is explained.
     diagnostics(program) {

@@ -37,7 +37,7 @@ class Formatter {
         return edits;
     }
 
-    // What answers a request to lay a file out.
+    // Returns the function that answers a request to format a file.
     of(files, meanings) {
         return async (params) => {
             const file = pathIn(params), text = new Text(files.data(file));
@@ -62,7 +62,7 @@ class Formatter {
 
 const isAlike = (one, other) => JSON.stringify(one) === JSON.stringify(other);
 
-// What changes where these gaps stand between the tokens.
+// The edits that put these gaps between the tokens.
 function editsOf(texts, gaps) {
     const ends = [0, ...texts.starts.map((start, i) => start + texts.tokens[i].length)], starts = [...texts.starts, texts.data.length];
     return gaps.map((gap, i) => [ends[i], starts[i], gap]).filter(([start, end, gap]) => texts.data.slice(start, end) !== gap);

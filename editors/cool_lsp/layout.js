@@ -10,16 +10,16 @@ const STEP = 2, BINDINGS = 4, MOST = 100;
 const WORD = /[A-Za-z0-9_]+|<-|<=|=>|[^ \n\f\r\t\v]/g;
 const OPENS = { "{": "}", "(": ")", if: "fi", while: "pool", case: "esac", let: "in" };
 const CLOSES = new Set(["}", ")", "fi", "pool", "esac"]);
-// What begins another part, and what closes the whole.
+// The words that begin another part, and the word that closes the whole.
 const PARTS = { then: "fi", else: "fi", loop: "pool", of: "esac", in: "in" };
 const NEXT = new Set([";", ","]);
 const BRACKETS = new Set(["{", "("]);
-// Of a `let`: it goes on up to what ends it in that which is around it.
+// The part of a `let` behind `in`. It continues up to the end of the expression around it.
 const BODY = "body";
 
 const endOf = (table, word) => (Object.hasOwn(table, word) ? table[word] : undefined);
 
-// What stands between two tokens: comments, each with the line ends and the blanks before it, and so many line ends before the next token.
+// The text between two tokens: comments, each with the newlines and blanks before it, and the number of newlines before the next token.
 class Gap {
     constructor(data, comments) {
         let at = 0;
@@ -52,7 +52,7 @@ class Texts {
         this.close(data.length);
     }
 
-    // What comments say: their lines without the blanks around them, and the number of the token behind each.
+    // The contents of comments: their lines without the blanks around them, and the number of the token behind each.
     said() {
         return this.gaps.flatMap((gap, number) => gap.comments.map((it) => [number, it.text.split("\n").map(trimmed)]));
     }
@@ -106,7 +106,7 @@ class Layout {
         return this.levels.at(-1);
     }
 
-    // Of each token its indentation, where it is the first of its line, and that of a comment on a line before it.
+    // The indentation of each token that is the first of its line, and of a comment on a line before it.
     indents() {
         return this.words.map((word, number) => {
             this.leave(word);
@@ -187,7 +187,7 @@ function moved({ blanks, text }, indent) {
     return [first, ...lines.map(put)].join("\n");
 }
 
-// What stands in a gap between two tokens, which are undefined at the file's ends.
+// The text of a gap between two tokens. A token is undefined at the beginning or the end of the file.
 function filled(gap, before, after, [indent, commentIndent], end) {
     let out = "", isNew = before === undefined;
     gap.comments.forEach((it, number) => {

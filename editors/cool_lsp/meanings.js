@@ -13,7 +13,7 @@ const { haveSame } = require("./teller.js");
 const READ = 2, WRITTEN = 3;
 const READING = ["type", "variable", "call"];
 
-// Of the files as they were looked at last.
+// Finds the meanings of names in the files, in the state of the last look.
 class Meanings {
     constructor(files, programs, marks) {
         Object.assign(this, { files, programs, marks });

@@ -24,7 +24,7 @@ function code(text) {
 }
 
 class Reasons {
-    // Of the files as they were looked at last; `cool` is the program that is named, or undefined.
+    // Takes the files in the state of the last look. `cool` is the path of the program, or undefined.
     constructor(files, programs, marks, cool, seconds) {
         Object.assign(this, { files, programs, marks });
         this.trees = new Teller(cool, seconds, ["--trees"], treesOf);

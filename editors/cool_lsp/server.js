@@ -59,7 +59,7 @@ class Server {
         const classes = new Classes(files, programs), meanings = (this.meanings = new Meanings(files, programs, marks));
         const renames = new Renames(files, programs, meanings), calls = new Calls(files, meanings), completions = new Completions(files, meanings);
         const snippets = (this.snippets = new Snippets(files));
-        // What answers a request: the first that has an answer.
+        // Returns a function that answers a request by the first method that has an answer.
         const first = (...all) => async (params) => {
             for (const [it, method] of all) {
                 const found = await it[method](params);
@@ -120,7 +120,7 @@ class Server {
         this.finish(status);
     }
 
-    // What the methods do
+    // Requests and notifications
 
     initialize({ workspaceFolders, rootUri, capabilities }) {
         const folders = workspaceFolders?.length > 0 ? workspaceFolders.map((it) => it.uri) : [rootUri ?? ""];
@@ -161,7 +161,7 @@ class Server {
         this.change();
     }
 
-    // What is told
+    // Diagnostics
 
     lookAgain() {
         this.looks ??= setInterval(() => this.change(), LOOK_AGAIN);
@@ -221,7 +221,7 @@ function refused(method, error) {
     return error instanceof Refused ? refusal(REFUSED, error.message) : refusal(WRONG_PARAMETERS, `${method}: wrong parameters: ${error.message}`);
 }
 
-// What a function of parameters answers, or that they were wrong: whatever an editor sends, the server goes on.
+// The result of a function of parameters, or an error if they were wrong. The server continues after any request of an editor.
 function outcome(method, answer, params) {
     try {
         return { result: answer(params) ?? null };

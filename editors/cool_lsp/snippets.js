@@ -17,7 +17,7 @@ const FORMS = {
     while: "while ${1:test} loop {\n  $0;\n} pool",
 };
 
-// For clients that take snippets.
+// Offers snippets to clients that support them.
 class Snippets {
     constructor(files) {
         Object.assign(this, { files, taken: false });

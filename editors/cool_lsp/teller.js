@@ -1,4 +1,4 @@
-// What the program `cool_editor` tells of files: the names, or the trees. What was told last is kept for the same files.
+// Runs `cool_editor` over files and returns its output: the names, or the trees. It keeps the last output for the same files.
 "use strict";
 const { log } = require("../node/log.js");
 const { Missing, findBeside } = require("../node/program.js");

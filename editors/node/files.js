@@ -5,7 +5,7 @@ const path = require("path");
 const { fileURLToPath, pathToFileURL } = require("url");
 const { bytesOf } = require("./bytes.js");
 
-// Of a session: docs/limits.md.
+// The limits of a session: docs/limits.md.
 const MOST_FILES = 64, MOST_BYTES = 1048576;
 const BYTE_ORDER_MARK = "\xef\xbb\xbf";
 
@@ -30,7 +30,7 @@ class Document {
     }
 }
 
-// What is looked at once stays the same up to the next call of `look`.
+// Reads files, and keeps each result up to the next call of `look`.
 class Files {
     open = new Map(); // by path: Document
     stored = new Map(); // by path: { stamp, data }

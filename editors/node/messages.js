@@ -11,7 +11,7 @@ const NEWLINE = 10;
 class Messages {
     constructor(take) {
         Object.assign(this, { take, pieces: [], have: 0, lines: 0 });
-        // What a header told so far; while a body comes its length, and whether it is skipped.
+        // The values of the header: the length of the body, and whether the body is skipped.
         this.length = this.due = undefined;
         this.skips = false;
     }

@@ -7,7 +7,7 @@ const vm = require("vm");
 const { MessageChannel, Worker } = require("worker_threads");
 
 const WEB = path.join(__dirname, "..", "..", "web");
-// Of each program the script that holds its module, and the name that the script gives it.
+// The script that contains the module of each program, and the name of the module in the script.
 const SCRIPTS = {
     cool: [path.join(WEB, "module.js"), "COOL_MODULE"],
     cool_editor: [path.join(WEB, "editor-module.js"), "COOL_EDITOR_MODULE"],
@@ -15,10 +15,10 @@ const SCRIPTS = {
 };
 // The stack of a worker, and how long one may go on that was told to end.
 const STACK = 64, MOST_MILLISECONDS = 30;
-// What a run waits for that is given to it goes on as long as its client does.
+// A command that reads input over time. Its run continues as long as its client does.
 const CONVERSATION = "session";
 
-// By the names of the programs.
+// The compiled modules by the names of the programs.
 const compiled = new Map();
 // By the names of programs, and of conversations: the worker, and the end of its last run.
 const rooms = new Map();

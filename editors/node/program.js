@@ -57,7 +57,7 @@ function isExecutable(file) {
     }
 }
 
-// What the script of a repository says is the program of the sources as they are.
+// The path that the repository's script gives for the program of the current sources.
 function ofRepository(name, seconds) {
     return new Promise((answer, fail) => {
         const child = start(PICKS, [name], "sh"), said = [], notes = [];

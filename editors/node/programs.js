@@ -19,7 +19,7 @@ class Names {
         this.defined = new Set(defined(code).keys());
         this.named = new Set(named(code).keys());
         if (closed || !old) return;
-        // What is behind a comment that is not closed yet isn't seen.
+        // The text behind an unclosed comment is not scanned.
         old.defined.forEach((it) => this.defined.add(it));
         old.named.forEach((it) => this.named.add(it));
     }

@@ -39,7 +39,7 @@ def outlined(client, path, text):
 
 
 def outlines_are_what_is_compiled(room, words):
-    """Of the examples, and of some accepted cases."""
+    """Compares outlines of the examples, and of some accepted cases, with the compiled code."""
     cases = [path for path in sorted(CASES.glob("*/*.cl")) if len(list(path.parent.glob("*.cl"))) == 1]
     chosen = sorted(EXAMPLES.glob("*.cl")) + (cases if words.edits > 999 else random.Random(words.seed).sample(cases, 40))
     client, compared = Client(room, words.cool), 0

@@ -107,7 +107,7 @@ def messages(room, words):
 
 
 def wrong_conditions(room, words):
-    """What cannot be read is refused in a line, and what cannot be told at a stop stops there."""
+    """A condition that cannot be parsed is refused in a line. A condition without a value at a stop stops there."""
     wrong = ({"condition": "n = "}, {"condition": "add(n) = 2"}, {"hitCondition": "often"}, {"logMessage": "{n}: {add(1)}"})
     client, stop, _ = begun(room, words, LOOP, lines=[{"line": ADDS, **it} for it in wrong])
     expect("none stops", stop["event"], "terminated")

@@ -15,7 +15,7 @@ MODULES = set()  # programs in the place of which the server asks their modules 
 
 
 class NotTried(Exception):
-    """What a test needs is not there."""
+    """A program or feature that a test needs is missing."""
 
 
 def expect(what, told, wanted):
@@ -115,7 +115,7 @@ class Client:
         return [(n["range"]["start"]["line"] + 1, n["code"], said(n)) for n in notes if n["severity"] == 1]
 
     def notes(self, path):
-        """What else is told of a file."""
+        """The other diagnostics of a file."""
         return [n["message"] for n in self.told.get(path.as_uri(), (None, []))[1] if n["severity"] > 1]
 
     def processes(self):

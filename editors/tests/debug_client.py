@@ -80,7 +80,7 @@ class DebugClient:
                     return {"event": it["event"], **it.get("body", {})}
             self.take()
 
-    # What most tests do.
+    # Methods that most tests use
 
     def launch(self, program, lines=(), functions=(), filters=("errors",), **more):
         """Launches a file with breaks at its lines, or at (file, line), and methods, and answers the event of the first stop. A break may be a

@@ -108,7 +108,7 @@ def average(room, words):
 
 
 def shown_after(client, name):
-    """What the example has right of a move or a name."""
+    """The result of a move or a name in the example."""
     if name not in ("launch", "next", "stepIn", "stepOut", "stepBack"):
         return client.value(name)
     stop = {} if name == "launch" else client.stop(name)
@@ -372,7 +372,7 @@ def end_of_program(room, words):
 
 
 def called_by_hand(room, words):
-    """What is no call of an editor is refused in a line."""
+    """A call that does not come from an editor is refused in a line."""
     if not shutil.which("node"):
         raise NotTried("node is not installed")
     old = "Object.defineProperty(process, 'versions', { value: { node: '16.1.0' } })"

@@ -24,7 +24,7 @@ VIM = ["--cmd", "set runtimepath^=%s" % str(HERE / "vim").replace(" ", "\\ "), "
 
 
 def said_in(room, words, call, **environment):
-    """What an editor writes of the file, and its version."""
+    """The output of an editor about the file, and its version."""
     if not shutil.which(call[0]):
         raise NotTried("%s is not installed" % call[0])
     folder = room / "a b é"
@@ -55,7 +55,7 @@ def neovim(room, words):
 
 
 def neovim_debugging(room, words):
-    """What nvim-dap is given, by a stand-in of it."""
+    """A stand-in for nvim-dap gets the adapter and the configurations."""
     stand_in = "lua package.loaded.dap = { adapters = {}, configurations = {} }"
     tell = ("lua local d = require('dap'); local c = d.configurations.cool[1]; "
             "vim.fn.writefile({ d.adapters.cool.command, c.type .. ' ' .. c.request .. ' ' .. c.program }, vim.env.COOL_SAID); vim.cmd('qall!')")
@@ -136,7 +136,7 @@ LESS_DEEP = ["};", "  } fi", "fi", "else 2", "pool;", "esac", ")"]
 
 
 def vscode_rules(room, words):
-    """What the manifest names is there, the pattern of problems is that of `check`, and lines are indented as cool-format does."""
+    """The files and commands in the manifest exist, the pattern of problems fits `check`, and lines are indented as by cool-format."""
     about, rules = (json.loads((HERE / "vscode" / name).read_text()) for name in ("package.json", "language-configuration.json"))
     more = about["contributes"]
     there = {it["command"] for it in more["commands"]}

@@ -18,7 +18,7 @@ def script(path, text):
 
 
 def told_by(room, program, *words):
-    """What is told of a file, where this is the program; the server answers while the program does not, and leaves no process."""
+    """The diagnostics of a file with this program. The server answers while the program does not, and leaves no process."""
     client = Client(room, program, *words)
     client.notify("textDocument/didOpen", {"textDocument": {"uri": (room / "a.cl").as_uri(), "languageId": "cool", "version": 1, "text": FAULTY}})
     client.versions[(room / "a.cl").as_uri()] = 1

@@ -12,7 +12,7 @@ CURE = "give a value of the declared class, or of a class below it"
 TYPED = FAULTY.encode().index(b"t : Int")
 EDITED = FAULTY.encode().index(b"true;")
 FAULT = "initial value does not conform"
-# What a stand-in says of it, and, with all that there is to say, in LINES.
+# The output of a stand-in about the file. LINES has all kinds of lines.
 EXPLAINED = "fault 0:2:%d:%d E17: %s\nfact found Bool, and due is Int\ncure %s\nmend `1` for `true`\nedit 0:%d:%d 1\n" % (
     TYPED, TYPED + 1, FAULT, CURE, EDITED, EDITED + 4)
 LINES = """fault 0:2:%d:%d E17: initial value does not conform
@@ -56,7 +56,7 @@ def at(text, byte):
 
 
 def offered(client, path, range_, **context):
-    """What is offered for a range of a file."""
+    """The code actions for a range of a file."""
     where = {"textDocument": {"uri": path.as_uri()}, "range": range_, "context": {"diagnostics": [], **context}}
     return client.request("textDocument/codeAction", where)["result"]
 
@@ -116,7 +116,7 @@ def an_edit_of_another_file(room, words):
 
 
 def where_only_main_is_wanting(room, words):
-    """What is told with one is explained, too."""
+    """An error of a file without Main is explained, too, if a Main is added."""
     path = room / "part.cl"
     text = "class Part { x : Int <- true; };\n"
     script = 'if [ $# = 2 ]; then echo "fault 0:1:0:5 C6: no class Main"; exit 1; fi; echo "fault 0:1:13:14 E17: %s"; echo "fact found Bool"; exit 1' % FAULT
@@ -189,7 +189,7 @@ LEAST_WRITTEN, LEAST_PUT_BACK = 0.6, 0.8  # of the lines, and of the texts that 
 
 
 def faults_have_their_cures(room, words):
-    """By the document itself."""
+    """The advice is that of docs/faults.md."""
     path, client = room / "a.cl", Client(room, words.cool, explain=real())
     client.open(path, "class Main { x : Int <- true; main() : Object { 0 }; };\n")
     row = next(line for line in (HERE.parent / "docs" / "faults.md").read_text().splitlines() if line.startswith("| `E17:"))

@@ -82,7 +82,7 @@ def assembled(program, folder, data):
 
 
 class Layout:
-    """What the server's own scripts say of texts, in a process of their own."""
+    """Calls the server's scripts on texts, in a separate process."""
 
     def __init__(self, program):
         call = ["node", HERE / "tests" / "layout.cjs"]
@@ -184,7 +184,7 @@ def words_of_cool_format(room, words):
 
 
 def edits_of_an_editor(room, words):
-    """What an editor is told to change, with letters of two units in its way."""
+    """The edits that an editor gets are right, also behind characters of two units."""
     text = 'class Main{main():Object{"\U0001f600é"};--  \U0001f600\n};'
     at, client = fill(room / "program", p=text) / "p.cl", Client(room / "program", words.cool)
     client.open(at, text)

@@ -43,7 +43,7 @@ LANGUAGE_RULES = {
 
 
 def faults(value, form, path="manifest"):
-    """What of a value is not of the form: a type, [form] for a list, or keys with forms, where a key with `!` is due."""
+    """The parts of a value that do not have the form: a type, [form] for a list, or keys with forms. A key with `!` is required."""
     if isinstance(form, list):
         if not isinstance(value, list):
             return [path + " is no list"]
@@ -59,7 +59,7 @@ def faults(value, form, path="manifest"):
 
 
 def more_faults(about):
-    """What is wrong beyond the forms: names, numbers, and limits of the marketplace."""
+    """Errors besides the forms: names, numbers, and limits of the marketplace."""
     settings = about["contributes"]["configuration"]["properties"]
     wrong = {
         "name": not NAME.fullmatch(about["name"]), "version": not re.fullmatch(r"\d+\.\d+\.\d+", about["version"]),

@@ -52,7 +52,7 @@ def value(rnd, depth):
 
 
 def document(rnd, room):
-    """What is nearly right."""
+    """A document that is nearly right."""
     uri = rnd.choice([(room / "a.cl").as_uri(), (room / "b" / "é.cl").as_uri(), "file:///%ff.cl", rnd.choice(VALUES)])
     text = rnd.choice([HELLO, HELLO[: rnd.randrange(len(HELLO))], rnd.choice(VALUES)])
     place = {"line": rnd.randrange(3), "character": rnd.randrange(60)}

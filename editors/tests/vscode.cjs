@@ -58,7 +58,7 @@ Module._load = (name, ...rest) => (name === 'vscode' ? stub : load(name, ...rest
 const next = (act) => new Promise((answer) => ((told = answer), act()));
 const GREETING = 'class Main inherits IO { main() : Object { { out_string("who? "); out_string("hi ".concat(in_string()).concat("\\n")); } }; };\n';
 
-// What a task writes in its terminal, into which this is typed, and its status.
+// The output of a task in its terminal after this text is typed, and its status.
 async function terminal(task, typed) {
   const shown = await task[4][0](), said = [];
   shown.onDidWrite((text) => (said.push(text), text.includes('?') && shown.handleInput(typed)));

@@ -26,7 +26,7 @@ function send(message) {
   if (server) server.stdin.write(written({ jsonrpc: '2.0', ...message }));
 }
 
-// What the server answers; null where it is not there, and an error where it refuses.
+// A promise of the server's answer: null if there is no server, and an error if the server refuses.
 function request(method, params) {
   if (!server) return Promise.resolve(null);
   return new Promise((answer, refuse) => {
@@ -42,7 +42,7 @@ function take(message) {
   waiting.delete(message.id);
 }
 
-// What the protocol says, as VS Code has it
+// Conversions from the protocol to VS Code
 
 const range = (r) => new vscode.Range(r.start.line, r.start.character, r.end.line, r.end.character);
 const location = (l) => new vscode.Location(vscode.Uri.parse(l.uri), range(l.range));
@@ -91,7 +91,7 @@ function changed(edit) {
   return shown;
 }
 
-// What mends a fault; of the diagnostics that are shown, it mends those of the same words.
+// The code action for an error. It applies to the shown diagnostics with the same message.
 function action(found, diagnostics) {
   const shown = new vscode.CodeAction(found.title, vscode.CodeActionKind.QuickFix);
   shown.edit = changed(found.edit);
@@ -100,7 +100,7 @@ function action(found, diagnostics) {
   return shown;
 }
 
-// What tells of a text: meanings, places and an outline.
+// Providers that read a text: meanings, places and an outline.
 function readers() {
   const places = (method, more) => async (document, position) =>
     ((await request(method, { ...place(document, position), ...more })) || []).map(location);
@@ -125,7 +125,7 @@ function readers() {
   ];
 }
 
-// What helps to write a text: completions, signatures, layout, new names and edits.
+// Providers that help to write a text: completions, signatures, layout, new names and edits.
 function writers() {
   return [
     vscode.languages.registerCompletionItemProvider(COOL, {

@@ -8,10 +8,10 @@ const FULL_PART = 20_000, FULL_LINES = 500;
 
 const program = new Runner();
 let shownLetters = 0, shownLines = 0;
-// What was typed for the last run.
+// The input that was typed for the last run.
 let typedLines = "";
 
-// What comes is shown in parts, with pauses as long as it took to lay the last one out; and of a text without end its last part.
+// Output is shown in parts. The pause after each is as long as the layout of the last one took. Only the last part of a long text is shown.
 let waiting = [], waitingLetters = 0, waitingLines = 0, showing, pause = SHOW_DELAY;
 
 const newlinesOf = (text) => text.split("\n").length - 1;

@@ -10,7 +10,7 @@ const loadedOnce = (() => {
     return () => (promise ??= load(COOL_MODULE).then((it) => (compiledRules = it)));
 })();
 
-// What `cool` writes with these words over files, { name: text }, and its status.
+// Runs `cool` with these arguments over files, { name: text }. It returns a promise of the output and the status.
 async function triedOut(words, files, input = "") {
     await loadedOnce();
     const encoder = new TextEncoder(), decoders = { 1: new TextDecoder(), 2: new TextDecoder() };

@@ -1,13 +1,13 @@
-// The colours of the text. They are only a help for the eye: `cool` decides what is a program. A line is parted by the state in which it begins: 0, the
-// depth of the comments that are open, or IN_STRING behind a line that ends with `\` in a string.
+// Colours the text of the editor, for display only: `cool` decides what is a program. The colours of a line depend on the state in which it begins: the depth
+// of the open comments (0 outside of them), or IN_STRING if the line before ends with `\` in a string.
 "use strict";
 
 const IN_STRING = -1;
 const KEYWORD = /^(class|inherits|if|then|else|fi|while|loop|pool|let|in|case|of|esac|new|isvoid|not)$/i;
-// They begin with a small letter; True is the name of a class.
+// Matches true and false, which begin with a small letter. True is the name of a class.
 const TRUTH = /^(t[rR][uU][eE]|f[aA][lL][sS][eE])$/;
 
-// Answers { parts: [[kind, text]..], state: that of the next line }.
+// Returns { parts: [[kind, text]..], state }, where the state is that of the next line.
 function colouredLine(line, state) {
     const parts = [];
     let at = 0;
@@ -51,7 +51,7 @@ function kindOf(word) {
     return /^\d/.test(word) ? "number" : "";
 }
 
-// The lines of the text and the state in which each begins. What is as before at the front and at the end of `old` is taken from there.
+// The lines of the text and the state in which each begins. The function copies from `old` the unchanged lines at the beginning and at the end.
 function colouredLines(text, old = { lines: [], states: [] }) {
     const lines = text.split("\n");
     const states = [0];

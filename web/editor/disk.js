@@ -1,9 +1,9 @@
-// Files opened from the disk and saved to it.
+// Opens files from the disk, and saves them there.
 "use strict";
 
 const MOST_FILE_BYTES = 1 << 20;
 
-// A file as text. One that is not UTF-8 is read as Latin-1, in which each byte is a letter.
+// Reads a file as text. If it is not UTF-8, it is read as Latin-1, in which each byte is a character.
 async function fileFrom(file) {
     if (file.size > MOST_FILE_BYTES) throw new Error(`${file.name} is larger than all files of a program together may be.`);
     const bytes = await file.arrayBuffer();
@@ -14,7 +14,7 @@ async function fileFrom(file) {
     }
 }
 
-// The files that were chosen are the program.
+// Opens the chosen files as the program.
 async function openFiles(chosen) {
     if (chosen.length === 0) return;
     try {

@@ -8,8 +8,8 @@ let coloured = { lines: [""], states: [0] };
 const lineHeight = () => parseFloat(getComputedStyle(text).lineHeight);
 const cursorLine = () => text.value.slice(0, text.selectionStart).split("\n").length;
 
-// What is marked in the file that is shown: maps of a line's number to what is said of it, to its marked ranges, [from, to, kind], to what is said of the
-// breaks that stop there or elsewhere, and to the colour of its code; and the lines at which the machine stands, and whose code is marked.
+// The marks in the file that is shown. Maps from a line's number have its errors, its marked ranges ([from, to, kind]), the text about breaks that stop there
+// or elsewhere, and the colour of its code. `here` is the line of the machine, and `lit` the line whose code is marked.
 const marks = { faults: new Map(), ranges: new Map(), breaks: new Set(), stops: new Map(), tints: new Map(), here: undefined, lit: undefined };
 
 function paint() {
@@ -26,7 +26,7 @@ function paint() {
 
 const kindsOf = (...kinds) => kinds.filter(Boolean).join(" ");
 
-// The ranges stand in the row as text, for a row is compared by its text.
+// The row of a line. It contains the ranges as text, because rows are compared as text.
 function lineRow(i) {
     const kinds = kindsOf("line", marks.here === i + 1 && "here", marks.lit === i + 1 && "lit");
     return [kinds, coloured.states[i], coloured.lines[i], JSON.stringify(marks.ranges.get(i + 1) ?? [])];
@@ -37,8 +37,8 @@ function paintedLine(kinds, state, line, ranges) {
     return element("div", { className: kinds }, ...parts.map(([kind, part]) => (kind ? element("span", { className: kind }, part) : part)));
 }
 
-// The parts of a line, parted also where ranges begin and end, each with the kind of a range that it is in. A range has a letter at least, and at the end
-// of the line a blank stands for it; one without an end goes to that of the line.
+// The parts of a line, split also at the ends of ranges, each with the kind of its range. A range has at least one character. At the end of the line a blank
+// shows it. A range without an end goes to the end of the line.
 function markedParts(parts, line, ranges) {
     if (ranges.length === 0) return parts;
     const indent = line.length - line.trimStart().length;
@@ -67,7 +67,7 @@ function numberRow(line) {
 
 const paintedNumber = (kinds, line, words) => element("div", { className: kinds, textContent: line, title: words });
 
-// Takes up the text as it is in the text area.
+// Reads the text of the text area and paints it.
 function repaint() {
     coloured = colouredLines(text.value, coloured);
     at("gutter-room").style.width = `${Math.max(3, String(coloured.lines.length).length) + 3}ch`;
@@ -82,7 +82,7 @@ function showText(value, from = 0, to = from, top = 0) {
     paint();
 }
 
-// The place in the text area of a line and a column.
+// The offset in the text area of a line and a column.
 function indexOf({ line, column }) {
     return coloured.lines.slice(0, line - 1).reduce((sum, it) => sum + it.length + 1, 0) + column;
 }
@@ -101,12 +101,12 @@ function selectLine(line) {
     scrollToLine(line);
 }
 
-// Typed through the browser, so that it can be undone.
+// Inserts text through the browser, so that the user can undo it.
 function typed(what) {
     document.execCommand("insertText", false, what);
 }
 
-// Tab indents by two blanks, and Shift+Tab takes them away; after Escape the Tab key leaves the editor, so that nobody is caught in it.
+// The Tab key indents by two blanks, and Shift+Tab removes them. After Escape the Tab key leaves the editor, so that keyboard users can leave it.
 let tabLeaves = false;
 
 function editorKey(event) {

@@ -1,4 +1,4 @@
-// Elements of the page. Text enters the page here, and as text alone: nothing in these scripts makes markup of a text.
+// Creates elements of the page. All text enters the page here, only as text: no script makes markup from a text.
 "use strict";
 
 const at = (id) => document.getElementById(id);
@@ -13,7 +13,7 @@ function element(name, properties = {}, ...children) {
     return made;
 }
 
-// Has a room hold an element for each row, made of it. One whose row is as it was stays, for a new one is laid out and painted anew.
+// Makes a room contain an element for each row, made by `make`. It keeps an element whose row is unchanged, because a new one must be laid out and painted.
 function showRows(room, rows, make) {
     rows.forEach((row, i) => {
         const old = room.children[i], key = row.join("\n");
@@ -25,13 +25,13 @@ function showRows(room, rows, make) {
     while (room.children.length > rows.length) room.lastChild.remove();
 }
 
-// What the page says of what goes on, read aloud by a screen reader.
+// Shows the page's state line, which a screen reader reads aloud.
 function tell(words, bad = false) {
     if (at("state").textContent !== words) at("state").textContent = words;
     at("state").classList.toggle("bad", bad);
 }
 
-// Tabs in a row: the arrow keys go from one to the next, and only the chosen one is reached by the Tab key.
+// Makes tabs work by keyboard: the arrow keys go from one to the next, and the Tab key reaches only the chosen one.
 function arrowsIn(list, choose) {
     list.addEventListener("keydown", (event) => {
         const tabs = [...list.querySelectorAll('[role="tab"]')];

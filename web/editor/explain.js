@@ -1,4 +1,4 @@
-// Asks for explanations of the errors, by the program `cool_explain` in a worker of its own, after the errors arrived and the user stopped typing. An answer
+// Asks for explanations of the errors, by the program `cool_explain` in a separate worker, after the errors arrived and the user stopped typing. A reply
 // for an older text is dropped.
 "use strict";
 
@@ -6,7 +6,7 @@ const EXPLAIN_DELAY = 200, MOST_EXPLAIN_TIME = 5000;
 
 let explainModule;
 const explainer = new Runner(() => explainModule);
-// What is asked, or was dropped, last: an answer to what was asked before is old.
+// The number of the last question. A reply to an earlier question is dropped.
 let explainTimer, explainTurn = 0;
 
 async function loadExplainer() {
@@ -38,7 +38,7 @@ async function explain() {
     for (const it of explanation?.notices ?? []) if (turn === explainTurn) await tryEdit(it, turn);
 }
 
-// A promise of the program's status for these texts of the files, and of what it says.
+// Runs the program for these texts of the files. It returns a promise of the status and the output.
 async function askedToExplain(texts) {
     const numbered = new Map(texts.map((it, i) => [`${i}.cl`, encode(it)])), decoder = new TextDecoder();
     let said = "";
@@ -49,7 +49,7 @@ async function askedToExplain(texts) {
     return { status, said };
 }
 
-// Offers the edit that a notice suggests, if the program with it has no faults.
+// Offers the edit that a notice suggests, if the edited program has no errors.
 async function tryEdit(notice, turn) {
     const edit = likelyEdit(notice.words);
     if (!edit) return;
@@ -60,7 +60,7 @@ async function tryEdit(notice, turn) {
     showExplained();
 }
 
-// The explanation that these lines are, where its faults are those that are shown.
+// Parses the lines of an explanation. It returns undefined if their errors are not those that are shown.
 function fitting(lines) {
     try {
         const found = explanationOf(files, lines);

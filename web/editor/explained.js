@@ -1,12 +1,12 @@
-// The explanations of errors: those of the files as they are, and earlier ones of errors in lines that were not edited since.
+// The explanations of errors: those of the current files, and earlier ones for errors in lines that were not edited since.
 "use strict";
 
-// Of the files as they are, or undefined.
+// The explanation of the current files, or undefined.
 let explanation;
-// What is said of a fault whose line was not edited, until it is said anew: by its file, words and line.
+// The explanations of errors whose lines were not edited, until new ones arrive. The key has the error's file, words and line.
 let explainedBefore = new Map();
 
-// The lines of a text, which is parted once for all of its faults.
+// The last text that was split into lines, because all of its errors need the lines.
 let partedText = "", partedLines = [""];
 
 function linesOf(all) {
@@ -16,22 +16,22 @@ function linesOf(all) {
 
 const keyOf = ({ file, line, words }) => JSON.stringify([file, words, linesOf(fileNamed(file)?.text ?? "")[line - 1]]);
 
-// What is known of fault i of the list, or undefined.
+// The explanation of error `i` of the list, or undefined.
 const explainedOf = (i) => explanation?.faults[i] ?? explainedBefore.get(keyOf(faults[i]));
 
-// The lines that an edit changes, as they are with it.
+// The text of the lines that an edit changes, after the edit.
 function mendedLines({ from, to, text: put }) {
     const lines = linesOf(fileNamed(from.file)?.text ?? "");
     return (lines[from.line - 1] ?? "").slice(0, from.column) + put + (lines[to.line - 1] ?? "").slice(to.column);
 }
 
-// A text with an edit.
+// The text after an edit.
 function editedText(all, { from, to, text: put }) {
     const starts = [0, ...Array.from(all.matchAll(/\n/g), (it) => it.index + 1)], indexIn = ({ line, column }) => starts[line - 1] + column;
     return all.slice(0, indexIn(from)) + put + all.slice(indexIn(to));
 }
 
-// The ranges that are marked in a file, by lines: [from, to, kind], in columns.
+// Maps the lines of a file to the ranges that are marked there: [from, to, kind], in columns.
 function rangesIn(file) {
     const found = new Map();
     const add = (from, to, kind) => {

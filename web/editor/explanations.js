@@ -1,4 +1,4 @@
-// The explanations by `cool_explain --lines` of the files, with positions in the characters of the page.
+// Converts the explanations of `cool_explain --lines` to positions in the characters of the page.
 "use strict";
 
 class ExplanationPlaces {
@@ -8,7 +8,7 @@ class ExplanationPlaces {
         this.decoder = new TextDecoder("utf-8", { ignoreBOM: true });
     }
 
-    // The file, line and column of a byte.
+    // The file, line and column of an offset in bytes.
     place(file, at) {
         const before = this.decoder.decode(this.bytes[file].subarray(0, at));
         return { file: this.names[file], line: before.split("\n").length, column: before.length - before.lastIndexOf("\n") - 1 };
@@ -27,8 +27,8 @@ class ExplanationPlaces {
     }
 }
 
-// { faults, notices } of the lines about these files; it throws where they are of no form that is known. A fault has { line, words, from, to, facts }, and may
-// have { rule: { name, premise }, other, cure, mend: { words, from, to, text } }.
+// Parses lines about these files to { faults, notices }, and throws if a line has no known form. A fault has { line, words, from, to, facts }, and may have
+// { rule: { name, premise }, other, cure, mend: { words, from, to, text } }.
 function explanationOf(files, lines) {
     const { faults, notices } = explanationLines(lines), places = new ExplanationPlaces(files);
     return { faults: faults.map((it) => places.fault(it)), notices: notices.map((it) => ({ words: it.words, ...places.range(it) })) };

@@ -3,15 +3,15 @@
 
 const MOST_CHANGED = 8;
 
-// Words with what stands between ` as code.
+// Splits words into text, and code for the parts between grave accents.
 const spoken = (words) => words.split("`").map((part, i) => (i % 2 === 1 ? element("code", {}, part) : part));
 
 const placeWords = ({ file, line }) => (files.length > 1 ? `${file}:${line}` : `line ${line}`);
 
-// What stands from a place up to another of its line.
+// The text from a place to another place in the same line.
 const textBetween = ({ file, line, column }, to) => (linesOf(fileNamed(file)?.text ?? "")[line - 1] ?? "").slice(column, to.column);
 
-// The items of the list below the place and words of a fault.
+// The items below the place and the words of an error.
 function detailsOf({ facts, other, cure, mend }) {
     const items = facts.map((it) => element("div", { className: "fact" }, ...spoken(it)));
     if (other) items.push(element("button", { className: "other", onclick: () => goTo(other.file, other.line) }, `defined at ${placeWords(other)}, too`));
@@ -19,21 +19,21 @@ function detailsOf({ facts, other, cure, mend }) {
     return mend ? [...items, ...mendItems(mend)] : items;
 }
 
-// The button that puts an edit in, and the lines that this changes.
+// The button that makes an edit, and the lines that the edit changes.
 function mendItems(mend) {
     const title = `${mendedLines(mend)}\n\nCtrl+Z takes it back`;
     const fix = { className: "fix", disabled: !explanation, title, onclick: () => putMend(mend) };
     return [element("button", fix, "Mend: ", ...spoken(mend.words)), changedLines(mend)];
 }
 
-// How many lines two lists begin with alike.
+// The number of equal lines at the beginning of two lists.
 function commonLines(one, other) {
     let count = 0;
     while (count < Math.min(one.length, other.length) && one[count] === other[count]) count += 1;
     return count;
 }
 
-// The lines that an edit changes, as they are and as they become.
+// The lines that an edit changes, before and after it.
 function changedLines(mend) {
     const old = linesOf(fileNamed(mend.from.file)?.text ?? "").slice(mend.from.line - 1, mend.to.line), made = mendedLines(mend).split("\n");
     const front = commonLines(old, made), back = commonLines(old.slice(front).reverse(), made.slice(front).reverse());
@@ -44,7 +44,7 @@ function changedLines(mend) {
     return element("pre", { className: "changes" }, files.length > 1 ? `${mend.from.file}\n` : "", ...all.slice(0, MOST_CHANGED), ...rest);
 }
 
-// Puts an edit into its file, as if it was typed.
+// Makes an edit in its file, as if the user typed it.
 function putMend(mend) {
     goTo(mend.from.file, mend.from.line);
     text.setSelectionRange(indexOf(mend.from), indexOf(mend.to));
@@ -57,7 +57,7 @@ function noticeItem(place, words, file, line, i) {
     return element("li", { className: "notice" }, button, ...(mend ? mendItems(mend) : []));
 }
 
-// Shows the faults with what is known of each, and the notices, in the list and in the text.
+// Shows the errors with their explanations, and the notices, in the list and in the text.
 function showExplained() {
     const rows = faults.map((it, i) => [faultItem, placeWords(it), it.words, it.file, it.line, i, shownOf(explainedOf(i))]);
     const notices = (explanation?.notices ?? []).map((it, i) => [noticeItem, placeWords(it.from), it.words, it.from.file, it.from.line, i, shownOf(it)]);
@@ -68,7 +68,7 @@ function showExplained() {
     happened("explained");
 }
 
-// What a row shows of what is known, as text, for a row is compared by its text.
+// The part of a row that shows the explanation, as text, because rows are compared as text.
 const shownOf = (known) => JSON.stringify([known ?? "", known?.mend ? mendedLines(known.mend) : ""]);
 
 function faultItem(place, words, file, line, i) {

@@ -2,18 +2,18 @@
 "use strict";
 
 const checker = new Runner(), session = new Session();
-// What the list shows: where that is so already, nothing is laid out anew.
+// The list that is shown. If the new list equals it, the page is not changed.
 let shownFaults;
 let checking = false, checkIsDue = false;
 
-// { file, line, words } of a line of the form NAME:LINE: WORDS that names one of the files; the longest name counts.
+// Parses a line of the form NAME:LINE: WORDS to { file, line, words }, if it names one of the files. If several names fit, the longest is taken.
 function placed(line) {
     const file = fileNames().filter((it) => line.startsWith(`${it}:`)).sort((a, b) => b.length - a.length)[0];
     const found = file === undefined ? null : /^(\d+): (.*)$/.exec(line.slice(file.length + 1));
     return found ? { file, line: Number(found[1]), words: found[2] } : undefined;
 }
 
-// The faults by a `check` of its own, and why there are none where it came to no end.
+// Runs `check`. It returns the errors, and a text as `end` if the check did not succeed.
 async function foundAnew() {
     const notes = [];
     const came = await checker.run(["check", "--", ...fileNames()], sources(), { pieces: (all) => notes.push(...all.map((it) => decode(it.bytes))) });
@@ -26,7 +26,7 @@ async function foundNow() {
     return found ? { found } : foundAnew();
 }
 
-// Checks the files as they are. One check goes at a time: what is typed meanwhile is checked once after it.
+// Checks the current files. Only one check runs at a time. Changes during a check are checked once after it.
 async function check() {
     checkIsDue = true;
     if (checking) return;
@@ -51,7 +51,7 @@ function showFaults({ found, end }) {
         showHelp();
     }
     if (found.length > 0 || end === undefined) explainSoon();
-    // While the program runs the page tells of that.
+    // While the program runs, the state line is about the run.
     if (!at("stop").disabled) return;
     if (faults.length > 0) tell(faults.length === 1 ? "1 fault" : `${faults.length} faults`, true);
     else tell(end ?? "no faults", end !== undefined);

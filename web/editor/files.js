@@ -1,10 +1,10 @@
-// The files of the program, as tabs above the editor: they are one program, in the order of the tabs.
+// The files of the program, as tabs above the editor. The order of the tabs is the order of the files in the program.
 "use strict";
 
-// Each has a name, a text, breaks (a map of line numbers to conditions, "" for none), and from, to and top: what was selected, and how far it was scrolled.
+// A file has a name, a text, breaks (a map from line numbers to conditions, "" for none), its selection (from, to), and its scroll position (top).
 const files = [];
 let shownFile;
-// Those of the program as it was checked last: { file, line, words }.
+// The errors of the last check: { file, line, words }.
 let faults = [];
 
 const newFile = (name, value) => ({ name, text: value, breaks: new Map(), from: 0, to: 0, top: 0 });
@@ -13,13 +13,13 @@ const fileNames = () => files.map((it) => it.name);
 const lineIn = (file, place) => (place?.file === file.name ? place.line : undefined);
 const sources = () => new Map(files.map((it) => [it.name, encode(it.text)]));
 
-// A file was changed, added, renamed or removed, or the input: by the user, unless it is said otherwise.
+// Tells other scripts that a file was changed, added, renamed or removed, or the input was changed. `isEdited` says whether the user did it.
 function changedFiles(isEdited = true) {
     showTabs();
     happened("changed", isEdited);
 }
 
-// Why a name cannot be taken for the file, or undefined.
+// The reason why a file cannot have a name, or undefined.
 function nameFault(name, file) {
     if (name === "") return "A file needs a name.";
     if (/[\0-\x1f]/.test(name)) return "A name has no control characters.";
@@ -31,7 +31,7 @@ function freeName() {
     for (let i = 1; ; i += 1) if (!fileNamed(`new${i}.cl`)) return `new${i}.cl`;
 }
 
-// Takes up other files in the place of those that are there.
+// Replaces all files.
 function setFiles(all) {
     files.splice(0, files.length, ...all.map((it) => newFile(it.name, it.text)));
     shownFile = undefined;
@@ -50,7 +50,7 @@ function showFile(file) {
     showText(file.text, file.from, file.to, file.top);
 }
 
-// While a name is typed its field stands there still.
+// Shows the tabs. If the user is typing a name, its field stays.
 function showTabs() {
     if (at("names").querySelector("input")) return;
     const bad = new Set(faults.map((it) => it.file));
@@ -84,7 +84,7 @@ function removeFile() {
     changedFiles();
 }
 
-// A field stands in the place of the tab until Enter, Escape, or the end of its focus.
+// Replaces the tab by a field for the name, until Enter, Escape, or the loss of its focus.
 function renameFile() {
     const file = shownFile;
     const field = element("input", { value: file.name, "aria-label": "Name of the file", size: 14, spellcheck: false });
@@ -112,7 +112,7 @@ function renameFile() {
     field.select();
 }
 
-// What is marked in the file that is shown.
+// Computes the marks of the file that is shown.
 function showMarks() {
     marks.faults = new Map(faults.filter((it) => it.file === shownFile.name).map((it) => [it.line, it.words]));
     marks.breaks = shownFile.breaks;
@@ -127,7 +127,7 @@ function goTo(name, line) {
     selectLine(line);
 }
 
-// A break stays at its line where lines are added or taken away before it.
+// Moves the breaks of a file with their lines, if lines are added or removed before them.
 function moveBreaks(file, before, after) {
     if (file.breaks.size === 0) return;
     const old = before.split("\n"), now = after.split("\n");

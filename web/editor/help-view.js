@@ -1,4 +1,4 @@
-// The view "Help": sections of the documents, from help.js, and above them the rows of the errors that the program has.
+// The view "Help": sections of the documents, from help.js. Above them are the rows for the errors of the current program.
 "use strict";
 
 const HELP = typeof COOL_HELP === "undefined" ? [] : COOL_HELP;
@@ -13,7 +13,7 @@ function helpPart(part) {
     return isTable(part) ? helpTable([helpRow(part[0], "th")], part.slice(1)) : element("p", {}, ...helpText(part));
 }
 
-// The rows of kinds of faults, by the kind and its words: `E1: unknown name`.
+// Maps kinds of errors, as in `E1: unknown name`, to their rows.
 const ROWS_OF_FAULTS = new Map(HELP.flatMap(({ parts }) => parts.filter(isTable).flat()).map((row) => [row[0][1], row])
     .filter(([kind]) => /^[A-Z]\d+: /.test(kind ?? "")));
 

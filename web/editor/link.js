@@ -1,4 +1,4 @@
-// A link carries the program in its fragment, deflated, in base 64 of addresses. A browser does not send the fragment of an address.
+// Makes and reads links that contain the program in their fragment, deflated, in base 64 for addresses. A browser does not send the fragment to a server.
 "use strict";
 
 const MOST_LINK_BYTES = 3 << 20;
@@ -16,7 +16,7 @@ async function bytesThrough(bytes, stream, most) {
     return new Uint8Array(await new Blob(parts).arrayBuffer());
 }
 
-// The fragment that carries a program.
+// The fragment that contains a program.
 async function fragmentOf(json) {
     const packed = await bytesThrough(encode(json), new CompressionStream("deflate-raw"), MOST_LINK_BYTES);
     let letters = "";
@@ -24,7 +24,7 @@ async function fragmentOf(json) {
     return `#${btoa(letters).replace(/\+/g, "-").replace(/\//g, "_").replace(/=+$/, "")}`;
 }
 
-// The program in the fragment, or undefined where there is none or it is no program.
+// The program in the fragment of the page's address. It is undefined if there is none or it is not valid.
 async function programOfLink() {
     const fragment = location.hash.slice(1);
     if (fragment === "") return undefined;
@@ -36,13 +36,13 @@ async function programOfLink() {
     }
 }
 
-// The address that links begin with: that of the options, if it is one of the web; else the page's own.
+// The address that links begin with: the one in the options if it is a web address, else the page's own.
 function addressOfLinks() {
     const given = at("hosted").value.trim();
     return (/^https?:\/\/[^\s\/]/.test(given) ? given : location.href).split("#")[0];
 }
 
-// Makes the link, and copies it if the browser lets it. The address of the page has the program, too.
+// Makes the link, and copies it if the browser allows that. The address of the page then contains the program, too.
 async function makeLink() {
     const fragment = await fragmentOf(programText()), link = addressOfLinks() + fragment;
     history.replaceState(null, "", location.href.split("#")[0] + fragment);

@@ -1,7 +1,7 @@
-// Stores the program in the browser's own storage. Where that is refused, as in a private window, nothing is kept, and all else goes on.
+// Stores the program in the browser's local storage. If the browser refuses that, as in a private window, nothing is stored, and all else works.
 "use strict";
 
-// As many as a command takes.
+// The most files that a command takes.
 const MOST_FILES = 64;
 const KEPT = "cool-program", BEFORE = "cool-program-before", THEME = "cool-theme", HOSTED = "cool-hosted", KEEP_DELAY = 400;
 
@@ -17,16 +17,16 @@ function keep(key, value) {
     try {
         localStorage.setItem(key, value);
     } catch {
-        // Refused, or full.
+        // The storage is refused or full.
     }
 }
 
-// Whether the program is the user's own work, and no example or link just as it was opened.
+// Whether the user has edited the program. It is false for an example or a link after it is opened.
 let edited = false;
 
 const programText = () => JSON.stringify({ files: files.map(({ name, text }) => ({ name, text })), input: at("input").value, edited });
 
-// Not at each key, since that may take as long as a check.
+// The timer of the delayed store. The page does not store at each key, because that may take as long as a check.
 let keeping;
 
 function keepProgram() {
@@ -39,7 +39,7 @@ function keepProgramSoon() {
     keeping = setTimeout(keepProgram, KEEP_DELAY);
 }
 
-// A program from a text that need not be one: { files, input, edited }, or undefined.
+// Parses a program, { files, input, edited }. Returns undefined if the text is not one.
 function programFrom(json) {
     let it;
     try {
@@ -53,7 +53,7 @@ function programFrom(json) {
     return { files: it.files, input: typeof it.input === "string" ? it.input : "", edited: it.edited === true };
 }
 
-// Takes up another program. The user's own that was there can be chosen among the examples.
+// Opens another program. If the user has edited the current one, it is stored, and the user can choose it among the examples.
 function openProgram({ files: all, input = "" }, isEdited = false) {
     if (edited) keep(BEFORE, programText());
     happened("opened");

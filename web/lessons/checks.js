@@ -47,7 +47,7 @@ const CHECKS = {
     },
 };
 
-// What is wrong with an answer to a task: a text, or undefined.
+// A promise of the problem with a solution of a task: a text, or undefined.
 async function judged(task, text, run) {
     for (const it of task.checks) {
         const kind = Object.keys(CHECKS).find((name) => name in it);

@@ -1,10 +1,11 @@
-// Moves back, by source lines and to breakpoints, as stops.js moves forward: it runs a part of the run before the state again, longer each time, until it
-// contains the stop. Each answers a stop, or undefined where there is none before.
+// Moves back through a run, by source lines and to breakpoints. A move runs a part of the run before the current state again, a longer part each time,
+// until the part contains the stop. Each move returns a promise of the stop, or of undefined if no such stop is earlier in the run.
 "use strict";
 
 const FIRST_PART = 8000, PART_GROWS = 8, STOPS_OF_PART = 400;
 
-// What `choose` makes of the stops at these addresses in the last part of the run before the state; where it answers undefined, in a longer part.
+// Collects the stops at these addresses in the last part of the run before the current state, and returns the one that `choose(stops, isAll)` returns.
+// `isAll` is true if the part begins with the run. If `choose` returns undefined, the function repeats this with a longer part.
 async function lastOf(from, addresses, choose) {
     const { steps } = from.state;
     for (let size = FIRST_PART; ; size *= PART_GROWS) {
@@ -20,7 +21,8 @@ async function lastOf(from, addresses, choose) {
     }
 }
 
-// To the beginning of the last pass over another line of this frame, or to the line of its caller; to the beginning of its own line where that is not here.
+// Moves to the beginning of the previous pass over another line of this frame, or to the line of the caller.
+// If the state is within a line, the move ends at the beginning of this line.
 function backOver(from) {
     const { pc } = from.state.registers, entry = unitAt(from.listing, pc)?.from, fp = frameNow(from);
     const place = from.table.stopAt.get(pc), callers = new Set(from.frames.slice(1).map((it) => it.fp));
@@ -35,13 +37,13 @@ function backOver(from) {
     });
 }
 
-// To the last break before.
+// Moves to the last break before the current state.
 function backTo(from, breaks) {
     const broken = new Set(breaks.places), named = new Set(breaks.addresses);
     const { isOpen = isSure, last } = breaks;
     return lastOf(from, [...addressesOf(breaks.places), ...breaks.addresses], (stops, isAll) => {
         const begins = firstOfPass(undefined, undefined);
-        // Of the first stop in a frame it is seen in the whole run alone whether it begins a pass.
+        // Only the whole run shows whether the first stop in a frame begins a pass over its line.
         const known = new Set(), found = [];
         for (const it of stops) {
             const isFirst = it.place !== undefined && begins(it) && (isAll || known.has(it.fp));

@@ -1,4 +1,4 @@
-// Texts as bytes of UTF-8, and back; and such bytes as a string in which each is a letter, as patterns read them.
+// Converts texts to bytes of UTF-8 and back. Patterns read bytes as a string with one character for each byte.
 "use strict";
 
 const encode = (text) => new TextEncoder().encode(text);

@@ -1,9 +1,9 @@
-// Why an expression has its type: the rule, the types of its parts, and what else the rule asks for. The types and the methods are those that the program
-// told; only the chains of classes are put together here, to show them.
+// Explains why an expression has its type: the rule, the types of its parts, and the other conditions of the rule. The types and the methods come from
+// `cool_editor`; this script only puts together the chains of classes, to show them.
 "use strict";
 
 class Derivations {
-    // Of the trees of a legal program, of its names, and of the rules.
+    // Takes the trees of a legal program (trees.js), its names (marks.js), and the rules (rules-of-forms.js).
     constructor(trees, marks, rules) {
         Object.assign(this, { trees, rules });
         this.marks = new Map(marks.map((it) => [`${it.byte}:${it.file}`, it]));
@@ -13,8 +13,8 @@ class Derivations {
 
     ruleName = (node) => this.rules.typed(node)?.name ?? node.form;
 
-    // What the rule asks for beside the types of the parts, in order: { words, more, place }, where `more` says how it holds, and the place is where
-    // it is declared: { file, line, words }.
+    // The conditions of the rule besides the types of the parts, in order: { words, more, place }. `more` says how the condition holds.
+    // `place` is the declaration that it depends on: { file, line, words }.
     conditions(node) {
         const { form, parts, type } = node, [first] = parts;
         if (form === "name") return node.name === "self" ? [] : [{ words: `O(${node.name}) = ${type}`, place: this.declaration(node) }];
@@ -28,7 +28,7 @@ class Derivations {
         return form === "call" ? this.called(node, first.type) : [];
     }
 
-    // That a type conforms to another one, with the chain from the one to the other.
+    // The condition that one type conforms to another, with the chain of classes from the first to the second.
     conforms(found, due, node) {
         const words = `${found} ≤ ${due}`, chain = this.chainTo(found, due, node);
         return { words, more: chain === words || found === due ? "" : chain };
@@ -44,7 +44,7 @@ class Derivations {
         return { words: `${types.join(" ⊔ ")} = ${node.type}`, more: below.map((it) => this.chainTo(it, node.type, node)).join(", ") };
     }
 
-    // Of a call: the method, that the arguments conform, and the type of the result where it is that of the receiver.
+    // The conditions of a call: the method, that each argument conforms to its formal, and the type of the result if the method returns SELF_TYPE.
     called(node, receiver) {
         const [first, ...given] = node.parts, { formals, result, owner } = this.method(node, receiver);
         const of = `M(${receiver === "SELF_TYPE" ? node.feature.owner.name : receiver}, ${node.name})`, more = owner ? "" : "of a basic class";
@@ -55,8 +55,8 @@ class Derivations {
         return [method, ...given.map((it, i) => this.conforms(it.type, formals[i], node)), ...(result === "SELF_TYPE" ? [self] : [])];
     }
 
-    // The method of a call, { formals, result, owner }, where the owner is its declaration in the files. The names do not tell it of each form of receiver:
-    // then it is that of the nearest class on the chain that has one of this name.
+    // The method of a call: { formals, result, owner }. `owner` is its declaration in the files. For some forms of receivers the names do not include the
+    // method. Then the function takes the method of this name in the nearest class on the chain.
     method(node, receiver) {
         const { type, target } = this.markOf(node);
         const above = () => this.trees.chain(receiver, node).flatMap((it) => this.trees.byName.get(it)?.features ?? []);
@@ -66,11 +66,11 @@ class Derivations {
         return { formals: formals.split(","), result };
     }
 
-    // Where a variable is declared.
+    // The place where a variable is declared.
     declaration = (node) => declaredPlace(this.trees.declaredAt(this.markOf(node).target), node, "declared in");
 }
 
-// A place with its words as they are told beside an expression.
+// A place with the text that is shown for it beside an expression.
 function declaredPlace({ file, line }, node, words) {
     return { file, line, words: `${words} line ${line}${file === node.file ? "" : ` of ${file.split(/[\\/]/).at(-1)}`}` };
 }

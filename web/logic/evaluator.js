@@ -1,8 +1,8 @@
-// The value of an expression over the names in scope at a stop, for watches, conditions of breakpoints and log messages: names, constants and operators.
-// It reads only these expressions (docs/debug-adapter.md lists the forms): no calls, and nothing else of Cool.
+// Computes the value of an expression over the names in scope at a stop, for watches, conditions of breakpoints and log messages. An expression consists of
+// names, constants and operators (docs/debug-adapter.md lists the forms). Calls and all other forms of Cool are rejected.
 "use strict";
 
-// Why an expression has no value at a stop; a text that is no expression of these forms.
+// NotTold says why an expression has no value at a stop. Unread is thrown for a text that is not an expression of these forms.
 class NotTold extends Error {}
 class Unread extends Error {}
 
@@ -13,8 +13,8 @@ const COMPARED = new Set(["Int", "Bool", "String"]), LEAST_INT = -(2 ** 31), MOS
 const STRING_ESCAPES = { n: "\n", t: "\t", b: "\b", f: "\f" };
 const FORMS_TAKEN = "names, constants and operators, as count + 1 or isvoid self.next; no calls";
 
-// A value is { is, type, value }: what `described` tells of it, its class, and of an Int the number, of a Bool whether it is true, of a String its bytes, each
-// as a letter. One that stands in memory has its `word`, and the `declared` type of its name.
+// A value is { is, type, value }: its description by `described`, its class, and its content. The content is a number for an Int, a boolean for a Bool,
+// and for a String its bytes, one character each. A value that is read from memory also has its `word`, and the `declared` type of its name.
 const intValue = (value) => {
     if (value < LEAST_INT || value > MOST_INT) throw new NotTold("arithmetic overflow");
     return { type: "Int", value, is: { text: `Int ${value}`, type: "Int", value: String(value) } };
@@ -36,13 +36,13 @@ function valueInMemory(word, declared, view) {
 
 const shownValue = ({ is }) => is.value ?? is.text;
 
-// The value, if it is of this class.
+// Returns the content of a value. It throws NotTold if the value is not of this class.
 function ofClass(it, type) {
     if (it.type !== type) throw new NotTold(`${shownValue(it)} is no ${type}`);
     return it.value;
 }
 
-// Ints, Bools and Strings are equal by value, other objects only to themselves.
+// Ints, Bools and Strings are compared by value. Two other objects are equal only if they are the same object.
 function areEqual(left, right) {
     if (!COMPARED.has(left.type) && !COMPARED.has(right.type)) return left.word === right.word;
     if (left.type !== right.type) throw new NotTold(`${shownValue(left)} and ${shownValue(right)} are of two types`);
@@ -77,13 +77,13 @@ function tokensOf(text) {
     return found;
 }
 
-// Makes a function of an expression's text: it answers the value for a scope, { frame, view, contents }.
+// Parses the text of an expression. `whole` returns a function from a scope, { frame, view, contents }, to the value.
 class ExpressionReader {
     constructor(text) {
         Object.assign(this, { tokens: tokensOf(text), at: 0 });
     }
 
-    // The next token, if it is one of these signs or keywords.
+    // Consumes the next token and returns its sign if it is one of these signs or keywords. Otherwise it returns undefined.
     takes(...signs) {
         const sign = this.tokens[this.at]?.sign;
         if (!signs.includes(sign)) return undefined;
@@ -97,7 +97,7 @@ class ExpressionReader {
         return found;
     }
 
-    // Comparisons do not follow one another.
+    // Parses operators of this level and tighter ones. A comparison cannot be an operand of another comparison without parentheses.
     operated(level) {
         if (level === LEVELS.length) return this.prefixed();
         let found = this.operated(level + 1);
@@ -131,7 +131,7 @@ class ExpressionReader {
         return this.path(name);
     }
 
-    // A name, and the attributes behind it.
+    // Parses the names of attributes that follow a name, and returns the function that reads their value.
     path(name) {
         const path = [name];
         while (this.takes(".")) path.push(this.tokens[this.at++]?.name);
@@ -140,7 +140,7 @@ class ExpressionReader {
     }
 }
 
-// The innermost variable of a name counts, then the attribute of self.
+// The value of a path of names. The innermost variable with the first name is used, else the attribute of self with this name.
 function valueOfPath(path, { contents, view }) {
     const { variables, attributes } = contents, [name, ...parts] = path;
     const first = variables.findLast((it) => it.name === name) ?? attributes.find((it) => it.name === name);
@@ -149,8 +149,8 @@ function valueOfPath(path, { contents, view }) {
     return valueInMemory(found.word, found.type, view);
 }
 
-// A function of a frame and a view, which peeks at memory (State.settled): it answers the value, or { wrong }, why there is none. It is undefined for a text
-// that is no expression of these forms.
+// Returns a function from a frame and a view to the value of the expression, or to { wrong } with the reason if it has no value. The function peeks at
+// memory (see State.settled). Returns undefined if the text is not an expression of these forms.
 function expressionOf(text) {
     let value;
     try {
@@ -169,7 +169,7 @@ function expressionOf(text) {
     };
 }
 
-// Whether a condition with this value holds; or { wrong }, why that cannot be told.
+// Returns whether a condition with this value holds, or { wrong } with the reason if the value is not a Bool.
 function truthOf(found) {
     if (found.wrong) return found;
     return found.type === "Bool" ? found.value : { wrong: `${shownValue(found)} is no Bool` };

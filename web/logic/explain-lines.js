@@ -1,11 +1,11 @@
-// Reads the lines of `cool_explain --lines` (docs/explain.md): positions are bytes of the files, which have numbers. The page and the language
-// server use it.
+// Reads the lines of `cool_explain --lines` (docs/explain.md), for the page and the language server. Positions are offsets in bytes,
+// and each file is given by its number.
 "use strict";
 
-// In words and texts of a line a newline is \n, and a backslash \\.
+// Decodes the words and texts of a line, in which \n is a newline and \\ a backslash.
 const plainWords = (words) => words.replace(/\\([n\\])/g, (_, it) => (it === "n" ? "\n" : "\\"));
 
-// The two parts of a line around its first blank.
+// Splits a line at its first blank.
 function parted(line) {
     const blank = line.indexOf(" ");
     return blank < 0 ? [line, ""] : [line.slice(0, blank), line.slice(blank + 1)];
@@ -17,7 +17,7 @@ function numbersOf(place) {
     return place.split(":").map(Number);
 }
 
-// By the first word of a line how it adds to what was found.
+// The reader for each first word of a line. A reader adds the line to the explanation that was read before.
 const EXPLAIN_READERS = {
     fault({ faults }, rest) {
         const [place, all] = parted(rest), [kind, words] = parted(all);
@@ -51,8 +51,8 @@ const EXPLAIN_READERS = {
     },
 };
 
-// { faults, notices } of lines; it throws where they are of no form that is known. A fault has { file, line, start, end, kind, words, facts }, and may have
-// { rule: { name, premise }, other: { file, at }, cure, mend: { words, file, start, end, text } }; a notice has { file, start, end, words }.
+// Parses lines to { faults, notices }, and throws if a line has no known form. A fault has { file, line, start, end, kind, words, facts }, and may have
+// { rule: { name, premise }, other: { file, at }, cure, mend: { words, file, start, end, text } }. A notice has { file, start, end, words }.
 function explanationLines(lines) {
     const found = { faults: [], notices: [] };
     for (const line of lines.split("\n").slice(0, -1)) {

@@ -1,7 +1,7 @@
-// The words of faults as lists show them, and the edit that a notice suggests.
+// Formats the words of faults for lists, and returns the edit that a notice suggests.
 "use strict";
 
-// The name that words are about, which stands at their place, as they go on with it; "" where they name none.
+// The name at the place of a fault, in the form that follows the words of the fault. It is "" if the fault is not about a name.
 function nameBehind(words, lexeme) {
     if (/^self/i.test(words) || !/^[A-Za-z][A-Za-z0-9_]*$/.test(lexeme)) return "";
     return words.startsWith("unknown ") ? ` \`${lexeme}\`` : `: \`${lexeme}\``;
@@ -10,7 +10,7 @@ function nameBehind(words, lexeme) {
 // The first fact that says what was found.
 const findingOf = (facts) => facts.find((it) => it.startsWith("found "));
 
-// The edit that is likely meant at the place of a notice: { text, words }, or undefined. Whether the program with it is legal is to be tried.
+// The edit that is likely meant at the place of a notice: { text, words }, or undefined. The caller must check that the edited program is legal.
 function likelyEdit(words) {
     return words.startsWith("`=` compares, and the answer is not used") ? { text: "<-", words: "`<-` in the place of `=`" } : undefined;
 }

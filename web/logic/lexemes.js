@@ -1,23 +1,23 @@
-// The positions of comments and strings in a file, to distinguish names from text that only looks like one (docs/language.md). A file is a text, or its bytes
-// as a string in which each is a letter.
+// The positions of comments and strings in a file, to distinguish names from text that only looks like one (docs/language.md). A file is given as text, or
+// as a string with one character for each of its bytes.
 "use strict";
 
 const STRING_FORM = String.raw`"(?:[^"\\\n\0]|\\[^\0])*`;
-// What may hide what looks like a token. `<-` is here, since `<--` begins no comment.
+// Matches strings and the beginnings of comments, in which text only looks like tokens. It includes `<-`, because `<--` does not begin a comment.
 const HIDING = new RegExp(String.raw`<-|--[^\n]*|${STRING_FORM}"?|\(\*`, "g");
 const CLOSED_STRING = new RegExp(`^${STRING_FORM}"$`);
 const COMMENT_BRACKET = /\(\*|\*\)/g;
 const LEXEME = new RegExp(String.raw`${STRING_FORM}"|\w+|[^]`, "y");
-// What begins no token, or closes a comment that is not open.
+// Matches a character that begins no token, and a `*)` without an open comment.
 const NO_TOKEN = /\*\)|(?<![A-Za-z0-9_])_|[^A-Za-z0-9_{}();:,.@~*/+\-<= \n\f\r\t\v]/;
 
-// The first match of a pattern, which is sticky or global, from a place on.
+// Returns the first match of a sticky or global pattern at or after an offset.
 function matchAt(pattern, data, at) {
     pattern.lastIndex = at;
     return pattern.exec(data);
 }
 
-// The end of the block comment that begins at a place, or undefined where it is not closed.
+// The offset behind the block comment that begins at an offset, or undefined if the comment is not closed.
 function commentEnd(data, at) {
     for (let depth = 1, end = at + 2; ; ) {
         const bracket = matchAt(COMMENT_BRACKET, data, end);
@@ -28,7 +28,7 @@ function commentEnd(data, at) {
     }
 }
 
-// The comments and strings of a file, as [start, end], up to a comment that is not closed: its end is undefined.
+// The comments and strings of a file, as [start, end]. If a comment is not closed, it is the last one, and its end is undefined.
 function hidden(data) {
     const found = [];
     for (let at = 0; at !== undefined; ) {
@@ -42,7 +42,7 @@ function hidden(data) {
     return found;
 }
 
-// The file with blanks for its comments and strings, each byte at its place, and whether each comment is closed.
+// Returns the file with blanks in place of its comments and strings, so that all offsets stay, and whether each comment is closed.
 function bare(data) {
     const pieces = [];
     let at = 0;
@@ -53,10 +53,10 @@ function bare(data) {
     return at === undefined ? [pieces.join(""), false] : [pieces.join("") + data.slice(at), true];
 }
 
-// The end of the word, string or sign of one letter that begins at a place.
+// The offset behind the word, string or sign of one character that begins at an offset.
 const lexemeEnd = (data, at) => at + matchAt(LEXEME, data, at)[0].length;
 
-// Whether a file has a lexeme that is none, sizes aside, which may hide names.
+// Whether a file has a lexical error that may hide names. Errors about the length of tokens are not checked.
 function hasFault(data) {
     const [code, closed] = bare(data);
     const strings = hidden(data).filter(([start]) => data[start] === '"');

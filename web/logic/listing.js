@@ -1,12 +1,12 @@
-// Facts from the assembly of a program: the address of each instruction, label and word of data, and the classes by their tags (docs/runtime.md has the
-// conventions, docs/assembly.md the sizes).
+// Facts from the assembly of a program: the address of each instruction, label and word of data, and the classes in the order of their tags
+// (docs/runtime.md has the conventions, docs/assembly.md the sizes).
 "use strict";
 
 const TEXT_START = 0x00400000, DATA_START = 0x10000000, HEAP_START = 0x20000000, STACK_END = 0x80000000;
-// The label of a line of the assembly, and its statement.
+// Matches the label and the statement of a line of assembly.
 const LINE = /^\s*(?:([A-Za-z_.][\w.]*):\s*)?([^]*)$/;
 const TWO_WORDS = /^(la|li|mul|bgt|ble|blt|bge)\b/;
-// The routines by which a run ends before its end.
+// The routines that end a run with an error, and the texts that the page shows for them.
 const ERRORS = {
     dispatch_abort: "dispatch to void", case_abort2: "case on void", case_abort: "no matching branch", div_abort: "division by zero",
     substr_abort: "substring out of range", overflow_abort: "arithmetic overflow", heap_limit: "heap used up", stack_limit: "stack used up",
@@ -14,13 +14,14 @@ const ERRORS = {
 };
 const ROUTINE = /\.|_init$|^__start$|^equality_test$|_abort2?$|_limit$/;
 
-// Answers
-//   rows      the instructions in order: { address, words, text, labels, number: of the line of the assembly, from 0 }
-//   labels    a map of labels to addresses, those of the data too
+// Parses the assembly of a program. It returns
+//   rows      the instructions in order: { address, words, text, labels, number }, where the number counts lines of the assembly from 0
+//   labels    a map from labels to addresses, also of data
 //   units     the methods, initializers and routines in order: { name, from, to, formals, body: [from, to], leave }
-//   classes   by tag: { name, methods: labels by slot }
-//   strings   a map of addresses to the texts of the Strings there
-//   rowAt, errorAt: maps of addresses to the number of the row there, and to the routine there that ends the run by an error
+//   classes   an array by tag: { name, methods }, where `methods` are the labels by slot
+//   strings   a map from the addresses of Strings to their texts
+//   rowAt     a map from addresses to indices of rows
+//   errorAt   a map from addresses to the routines there that end the run with an error
 function listingOf(assembly) {
     const lines = assembly.split("\n");
     const data = lines.findIndex((it) => it.trimStart() === ".data");
@@ -52,8 +53,8 @@ function textOf(lines) {
 const ESCAPES = { n: "\n", t: "\t" };
 const unescaped = (text) => text.replace(/\\(.)/g, (_, it) => ESCAPES[it] ?? it);
 
-// Gives the labels of the data their addresses, and answers the words behind each of them, and the text of each String. A word stands at a multiple
-// of 4, and a label names what comes next, behind the zeros before it.
+// Adds the addresses of the data's labels to `labels`. It returns the words behind each label, and the text of each String. A word is aligned to
+// 4 bytes, and a label names the data after it, behind the zeros that align the data.
 function dataOf(lines, labels) {
     const words = new Map(), strings = new Map();
     let address = DATA_START, last;
@@ -75,7 +76,7 @@ function dataOf(lines, labels) {
     return { words, strings };
 }
 
-// Behind a table comes the -1 before the next object.
+// The classes by tag. The words behind a table's label end with the -1 of the next object, which `filter` removes.
 function classesOf({ words, strings }) {
     const names = (words.get("class_nameTab") ?? []).map((it) => strings.get(it));
     return names.map((name) => ({ name, methods: (words.get(`${name}_dispTab`) ?? []).filter((it) => it.includes(".")) }));
@@ -98,7 +99,7 @@ function unitsOf(rows) {
     return units;
 }
 
-// The labels that the instruction at an address may call: `jal` names its callee, and `jalr` calls what a slot of the receiver's table has.
+// The labels that the instruction at an address may call. `jal` names its callee; `jalr` calls the method in one slot of the receiver's table.
 function calleesAt(listing, address) {
     const i = listing.rowAt.get(address), fixed = /^jal (.*)$/.exec(listing.rows[i].text);
     const slot = /^lw \$t0, (\d+)\(\$t0\)$/.exec(listing.rows[i - 1].text);
@@ -106,7 +107,7 @@ function calleesAt(listing, address) {
     return [...new Set(found.filter(Boolean))];
 }
 
-// The last of these, which are in the order of their addresses, whose `key` is not above the address.
+// The last element whose `key` is at most the address, or undefined. The elements are sorted by this key.
 function lastBefore(all, address, key) {
     let low = 0, high = all.length;
     while (low < high) {

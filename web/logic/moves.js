@@ -1,18 +1,18 @@
-// Steps of the debugger. A run is the same each time, so a state of the machine is a number: how many instructions were executed since the start.
-// Each look, and each move, runs the program anew by `debug` up to there, with a script of its own; so it can go back, too.
+// Steps of the debugger. Each run of a program is the same, so a number identifies a state of the machine: the count of instructions executed since the
+// start. To read a state, or to move, the script runs the program again from the start by `debug`. Therefore a move can also go back.
 //
-// What uses this file gives it a function debug(lines, wanted, { seen, budget }): it runs a script of these lines, and answers { notes, output }, the notes
-// that they ask for and the output up to the last. `seen` is called with each of the notes, and where it answers true the rest is not needed. No more than
-// `budget` instructions are executed.
+// The user of this script must set the function debug(lines, wanted, { seen, budget }). It runs a script of these lines and returns { notes, output }: the
+// first `wanted` notes, and the output up to the last one. It calls `seen` with each note; if `seen` returns true, the remaining notes are not needed. It
+// executes at most `budget` instructions.
 "use strict";
 
 let debug;
 
 const MOST_SCRIPT_BYTES = 65_000, MOST_STEP = 1_000_000_000, USUAL_STOPS = 40;
-// Memory is read in blocks, each by a line of a script.
+// A state reads memory in blocks, each by one line of a script.
 const MOST_BLOCKS = 2500, MOST_READS = 12, BLOCK_WORDS = 16, BLOCK_BYTES = 4 * BLOCK_WORDS, STACK_BLOCKS = 32, LOW_STACK = 0x70000000;
 const MOST_ADDRESS = 0xffffffff;
-// In the order of `regs`.
+// The names of the registers, in the order of `regs`.
 const REGISTERS = "pc zero at v0 v1 a0 a1 a2 a3 t0 t1 t2 t3 t4 t5 t6 t7 s0 s1 s2 s3 s4 s5 s6 s7 t8 t9 k0 k1 gp sp fp ra".split(" ");
 
 const hex = (number) => `0x${(number >>> 0).toString(16).padStart(8, "0")}`;
@@ -25,18 +25,18 @@ function linesTo(steps) {
     return lines;
 }
 
-// How far a note of `step` or `run` came: { steps, pc }, without pc where the program ended.
+// Parses a note of `step` or `run` to { steps, pc }. `pc` is undefined if the program has ended.
 function reached(note) {
     const [, pc, steps] = /^(?:at (0x\w+)|ended) after (\d+)$/.exec(note);
     return { steps: Number(steps), pc: pc === undefined ? undefined : Number(pc) };
 }
 
-// A register, or all of them, in a note of `regs`.
+// Parses one register, or all, from a note of `regs`.
 const registerIn = (note, name) => parseInt(note.slice(5 + 9 * REGISTERS.indexOf(name)).slice(0, 8), 16);
 const registersIn = (note) => Object.fromEntries(REGISTERS.map((it) => [it, registerIn(note, it)]));
 
-// What `lines` note after so many instructions: { steps, pc } as reached, their notes, and the output up to there. What is asked for at the same time is
-// one run, as far as it fits into a script; the output is then that up to the last.
+// Returns the notes of `lines` after this number of instructions: { steps, pc, notes, output }, with the output up to there. Requests that are made at the
+// same time share one run, if they fit into one script. Then `output` is that of the last request.
 let waitingLooks = [];
 function noted(steps, lines) {
     return new Promise((answer, fail) => {
@@ -75,14 +75,14 @@ async function runPart(part) {
 
 const wordsLine = (from) => `words ${hex(from)} ${BLOCK_WORDS}`;
 
-// The state after so many instructions, or at the end where the program ended before. Words of memory are read when they are asked for:
-// `peek` answers undefined for one that is yet to be read, and null for one that cannot be.
+// The state after a number of instructions, or at the end if the program ended before. The state reads words of memory on demand: `peek` returns
+// undefined for a word that is not yet read, and null for a word that cannot be read.
 class State {
     words = new Map();
     wanted = new Set();
     used = new Set();
 
-    // `before` is a state whose words are read at once again, since most looks are at the same.
+    // Reads the state. `before` is an earlier state: the blocks that it used are read at once, because most views use the same ones.
     static async after(steps, before) {
         const state = new State();
         const blocks = before ? [...before.used].slice(0, MOST_BLOCKS - 1) : [];
@@ -92,7 +92,7 @@ class State {
         return state;
     }
 
-    // Behind the first word of a block that cannot be read there is none.
+    // Stores the words of `words` notes. If a word of a block cannot be read, the words behind it cannot either.
     takeUp(notes) {
         for (const it of notes) {
             const from = parseInt(it.slice(2, 10), 16), words = it.slice(12).split(" ");
@@ -108,7 +108,7 @@ class State {
         return found;
     }
 
-    // Of the stack, what stands behind is read at once as well, more each time: the frames of the callers, each of which leads to the next.
+    // Reads the blocks that `peek` asked for. For the stack it also reads the blocks behind them, more in each round, because they have the frames of callers.
     async read(round = 0) {
         const blocks = new Set(this.wanted), ahead = Math.min(STACK_BLOCKS << round, MOST_BLOCKS);
         for (const from of this.wanted) if (from >= LOW_STACK) for (let i = 1; i < ahead; i += 1) blocks.add(from + BLOCK_BYTES * i);
@@ -117,7 +117,7 @@ class State {
         this.takeUp(notes);
     }
 
-    // What `compute` answers once all words that it peeks at are read.
+    // Calls `compute` again until all words that it peeks at are read (at most MOST_READS rounds), and returns its last result.
     async settled(compute) {
         for (let round = 0; ; round += 1) {
             this.wanted.clear();
@@ -128,9 +128,9 @@ class State {
     }
 }
 
-// Runs on from a state to the first stop at one of the addresses that `accept` answers something for, and answers that, or { steps, ended } or
-// { steps, limit } at the end of the run or of the budget. A stop has steps, pc, and registers, a note of them. The first script goes on to so many `stops`
-// at most, and a later one to more. After each script `settle` makes the answer, where there is one, of what was found by it.
+// Runs on from a state to the first stop at one of the addresses for which `accept` returns a value, and returns this value. At the end of the run it
+// returns { steps, ended }, and at the end of the budget { steps, limit }. A stop has steps, pc, and registers, which is a note of `regs`.
+// The first script contains `stops` stops, and later ones more. After each script `settle` may replace the result.
 async function runOn(steps, addresses, accept, { tellProgress = () => {}, budget, settle = (found) => found, stops = USUAL_STOPS } = {}) {
     const breaks = [...new Set(addresses)].map((it) => `break ${hex(it)}`);
     const size = breaks.length * "break 0x00000000\n".length + 100;

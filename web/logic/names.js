@@ -1,8 +1,8 @@
-// The classes and features that a file defines, and the types that it names, as its words show them: no parser.
+// Finds the classes and features that a file defines, and the types that it names, by its words, without a parser.
 //
-// All functions take the file with blanks for its comments and strings (`bare`), so that places stay. The word `class` begins a class in every file that
-// parses, and nothing else; a type identifier names a class wherever it stands. In a file that parses a feature begins behind the brace that opens its
-// class, or behind a `;` that is in no brace but this and in no `case`.
+// All functions take the file with blanks in place of its comments and strings (`bare`), so that offsets stay. In a file that parses, each word `class`
+// begins a class, and each type identifier names a class. A feature begins behind the brace that opens its class, or behind a `;` that is in no other
+// brace and in no `case`.
 "use strict";
 
 const BASIC_CLASSES = new Set(["Object", "IO", "Int", "Bool", "String", "SELF_TYPE"]);
@@ -14,7 +14,7 @@ const OPENS_FORMALS = /[ \t\n\r\f\v]*\(/y;
 const FEATURE_MARK = /[{};]|[A-Za-z][A-Za-z0-9_]*/g;
 const DEEPER = { "{": 1, case: 1, "}": -1, esac: -1 };
 
-// What a sticky pattern finds at a place.
+// The match of a sticky pattern at an offset, or null.
 const stuckAt = (pattern, code, at) => ((pattern.lastIndex = at), pattern.exec(code));
 
 const isKeyword = (word) => KEYWORDS.has(word.toLowerCase());
@@ -25,19 +25,19 @@ function gathered(pairs) {
     return found;
 }
 
-// The places of the names of the classes that are defined, by name.
+// A map from the names of the defined classes to the places of these names, [start, end].
 function defined(code) {
     return gathered(Array.from(code.matchAll(CLASS_NAMED), (it) => [it[1], it.index + it[0].length - it[1].length, it.index + it[0].length]));
 }
 
-// The places of the type identifiers, by name; the classes that are always there are left out.
+// A map from type identifiers to their places, without the basic classes.
 function named(code) {
     const types = [...code.matchAll(TYPE_NAME)].filter((it) => !BASIC_CLASSES.has(it[0]) && !isKeyword(it[0]));
     return gathered(types.map((it) => [it[0], it.index, it.index + it[0].length]));
 }
 
-// The classes of a file that parses, with their features, as { kind, name, start, end, at, parts }: places of the whole, and of the name. The kind is
-// "class", "method" or "attribute".
+// The classes of a file that parses, with their features: { kind, name, start, end, at, parts }. `start` and `end` are the offsets of the whole, and `at` of
+// the name. The kind is "class", "method" or "attribute".
 function outline(code) {
     const classes = [];
     let depth = 0, isFirst = false;

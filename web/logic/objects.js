@@ -1,10 +1,11 @@
-// The contents of the machine's memory, by the conventions of docs/runtime.md: objects with the names of their classes and attributes, and the
-// stack as frames. Functions of a view, { state, listing, table, numbers, textOf }; they peek at memory, and are called again once what they lacked is read.
+// Interprets the machine's memory by the conventions of docs/runtime.md: objects with the names of their classes and attributes, and the stack as frames.
+// The functions take a view, { state, listing, table, numbers, textOf }. They peek at memory; State.settled calls them again after the words are read.
 "use strict";
 
 const MOST_LETTERS = 80, MOST_STRING_BYTES = 65_535, MOST_PUSHED = 100, MOST_FRAMES = 40, FRAME_BYTES = 12;
 
-// Describes a word: its text, and of an object its type, of an Int its value, and of others but Bools and Strings { object, class }, the address.
+// Describes a word as { text }, with the `type` if it is an object. An Int also has its `value`. An object that is no Int, Bool or String has its address
+// as `object`, and its class.
 function described(word, view) {
     const { state, listing } = view;
     if (word === undefined || word === null) return { text: "" };
@@ -19,7 +20,7 @@ function described(word, view) {
     return { text: `${type}#${ordinalOf(word, type, view)}`, type, object: word, class: found };
 }
 
-// Which of its class an object is: the first that was shown has the number 1, and each has one number in all states, for objects do not move.
+// The number of an object within its class. The first object shown has the number 1. The number is the same in all states, because objects do not move.
 function ordinalOf(object, type, { numbers }) {
     if (!numbers.has(type)) numbers.set(type, new Map());
     const shown = numbers.get(type);
@@ -33,7 +34,7 @@ function inText(address, listing) {
     return address === unit.from ? unit.name : `${unit.name} + ${address - unit.from}`;
 }
 
-// The class of the object at an address: before it stands -1, at it the tag, and behind that its table.
+// The class of the object at an address, or undefined. An object has -1 before it, its tag at the address, and its dispatch table 8 bytes behind.
 function classAt(address, { state, listing }) {
     const inData = address >= DATA_START && address < HEAP_START, inHeap = address >= HEAP_START && address < state.registers.gp;
     if (address % 4 !== 0 || (!inData && !inHeap)) return undefined;
@@ -42,7 +43,7 @@ function classAt(address, { state, listing }) {
     return found && state.peek(address + 8) === listing.labels.get(`${found.name}_dispTab`) ? found : undefined;
 }
 
-// The bytes of the String at an address, so many at most.
+// The first bytes of the String at an address, at most `most`.
 function bytesAt(address, state, most) {
     const bytes = new Uint8Array(Math.min(lengthAt(address, state), most));
     return bytes.map((_, i) => (state.peek(address + 16 + (i & ~3)) ?? 0) >>> (8 * (i % 4)));
@@ -61,13 +62,13 @@ const attributesAt = (object, its, { state, table }) => attributesOf(its, table)
 
 const attributesOf = (its, table) => table.attributes.get(its.name) ?? [];
 
-// The attributes of the object that a word is the address of; of another word none.
+// The attributes of the object at the address that a word contains. The list is empty for other words.
 function partsOf(word, view) {
     const { object, class: its } = described(word, view);
     return object === undefined ? [] : attributesAt(object, its, view);
 }
 
-// A line of the view: a name, a word and what it is; the attributes below an object whose path is open.
+// An entry of the view: a name, a word and its description. If the path is open, the entry has the attributes of the object as `entries`.
 function entry(name, word, path, view) {
     const { text, object, class: its } = described(word, view);
     const made = { name, word, text, path, opens: its !== undefined && attributesOf(its, view.table).length > 0 };
@@ -75,12 +76,12 @@ function entry(name, word, path, view) {
     return made;
 }
 
-// A frame that stands: the words at its $fp are the caller's $s0 and $fp and the return address. Without a frame of its own a routine has no fp.
+// A complete frame. The words at its $fp are the caller's $s0 and $fp and the return address. A routine without a frame has no fp.
 function frameOf(unit, pc, fp, self, { state }) {
     return { unit, pc, fp, self, caller: state.peek(fp), next: state.peek(fp + 4), returns: state.peek(fp + 8) };
 }
 
-// The innermost frame. That of a method is made by its first instructions, up to the one that sets $fp, and taken away by its last.
+// The innermost frame. The first instructions of a method build its frame, up to the one that sets $fp, and its last instructions remove it.
 function innermost(view) {
     const { pc, sp, fp, s0, a0, ra } = view.state.registers;
     const unit = unitAt(view.listing, pc);
@@ -89,8 +90,9 @@ function innermost(view) {
     return frameOf(unit, pc, fp, pc <= unit.leave ? s0 : undefined, view);
 }
 
-// The frames from the innermost one on, so many at most: { title, place } and, but for that of an error and the one that stands for more, what frameOf
-// tells, and `below`, the last word of the stack that is the frame's. Frames whose words are read stand in `known` then, and are not made anew.
+// The frames from the innermost one, at most `most`: the values of frameOf with { title, place } and `below`, the address of the frame's last word on the
+// stack. At an error the only frame is { title, place }. If there are more frames, the last one is { title: "…" }.
+// Complete frames are added to `known`, and a repeated call takes them from there.
 function stackOf(view, most, known = []) {
     const { state, listing, table } = view;
     if (state.ended) return [];
@@ -113,7 +115,7 @@ function callerOf({ unit, fp, below, returns, next, caller }, view) {
     return { ...frameOf(its, returns - 4, next, caller, view), below: fp === undefined ? below : fp + FRAME_BYTES + 4 * unit.formals };
 }
 
-// The frames with what stands in each as `entries`.
+// The frames, each with its words as `entries`.
 const framesOf = (view) => stackOf(view, MOST_FRAMES).map((it, number) => ({ ...it, entries: entriesOf(it, number, view) }));
 
 function entriesOf(frame, number, view) {
@@ -121,7 +123,7 @@ function entriesOf(frame, number, view) {
     return frame.self === undefined ? words : [entry("self", frame.self, `${number}.self`, view), ...words];
 }
 
-// The words of a frame: { name, type, word, key, isVariable }; the arguments by their names, and what was pushed in the body, the last at `below`.
+// The words of a frame: { name, type, word, key, isVariable }. They are the arguments, and then the words that the body pushed, down to `below`.
 function wordsIn({ pc, fp, below }, { state, table, textOf }) {
     if (fp === undefined) return [];
     const formals = featureAt(table, pc)?.formals ?? [], spans = spansAt(table, pc);
@@ -133,14 +135,14 @@ function wordsIn({ pc, fp, below }, { state, table, textOf }) {
     return words;
 }
 
-// The contents of a frame: { variables, computed, attributes }, each with its name, word and type; the attributes are those of self.
+// The contents of a frame: { variables, computed, attributes }, each a list with name, word and type. The attributes are those of self.
 function contentsOf(frame, view) {
     const words = frame === undefined ? [] : wordsIn(frame, view), self = frame?.self === undefined ? [] : [{ name: "self", word: frame.self }];
     const [variables, computed] = [true, false].map((is) => words.filter((it) => (it.isVariable ?? false) === is));
     return { variables: [...self, ...variables], computed, attributes: partsOf(frame?.self, view) };
 }
 
-// The name in the text at the place of an expression, of a program's files.
+// Returns a function from the place of an expression, { file, byte }, to the name in the text there.
 function textsOf(files) {
     const bytes = new Map(files.map((it) => [it.name, encode(it.text)]));
     return ({ file, byte }) => /^\w*/.exec(decode(bytes.get(file).subarray(byte, byte + MOST_LETTERS)))[0];

@@ -1,28 +1,28 @@
 // Splits large files into pieces, so that only the edited piece is sent to the session, and has the session hold pieces.
 //
-// The session takes each piece for a file, and finds the faults of the one file all the same. A piece begins with a class at the beginning of a line, and
-// all before it is balanced: its braces, `case` and `esac` are closed, no comment or string is open, and it ends with `};`. So the tokens of the pieces
-// are those of the file, and none comes after 8,000 others of its run (L8) in the one that does not in the other. Where all pieces before one parse, they
-// are a file together, so the first fault of syntax or of lexemes in the file is that of the first piece which has one. What later phases find depends
-// only on the classes and their order.
+// The session treats each piece as a file, and finds the same faults as in the whole file. A piece begins with a class at the beginning of a line. The text
+// before it is balanced: its braces, `case` and `esac` are closed, no comment or string is open, and it ends with `};`. Therefore the pieces have the tokens
+// of the file, and the limit of 8,000 tokens in a run (L8) is exceeded in a piece if and only if it is exceeded in the file. If all pieces before one parse,
+// they also parse together. Therefore the first fault of syntax or of lexemes in the file is that of the first piece that has one. The result of later
+// phases depends only on the classes and their order.
 //
-// A file is a text, or its bytes as a string in which each is a letter.
+// A file is given as text, or as a string with one character for each of its bytes.
 "use strict";
 
 const WORDS_OF_PIECES = typeof module === "object" ? { ...require("./lexemes.js"), ...require("./names.js") } : { bare, hidden, DEEPER, MARK: FEATURE_MARK };
-// What a session holds at most.
+// The limits of a session.
 const MOST_HELD_FILES = 64, MOST_HELD_BYTES = 1 << 20;
 const MOST_TRIES = 3;
-// Letters of the run of tokens that goes on in the next piece, which adds the few that PIECE_CLASS takes.
+// The most characters after the last `{` or `;` of depth 1, because their tokens belong to a run that continues in the next piece.
 const MOST_BEHIND = 4000;
 const B = String.raw`[ \t\n\r\f\v]`, TYPE_FORM = "[A-Z][A-Za-z0-9_]*", INHERITS_FORM = "[iI][nN][hH][eE][rR][iI][tT][sS]";
 const PIECE_CLASS = new RegExp(String.raw`\n(?=[cC][lL][aA][sS][sS]${B}+${TYPE_FORM}(?:${B}+${INHERITS_FORM}${B}+${TYPE_FORM})?${B}*\{)`, "g");
 const PIECE_END = new RegExp(String.raw`\}${B}*;${B}*$`);
 
-// How many lines end before a place.
+// The number of lines that end before an offset.
 const linesBefore = (data, place) => data.slice(0, place).split("\n").length - 1;
 
-// Whether a new file can begin behind this one, which ends with a new line.
+// Whether a new file can begin behind this text, which ends with a newline.
 function isBalanced(data) {
     const { bare, hidden, DEEPER, MARK } = WORDS_OF_PIECES, [code, closed] = bare(data);
     if (!closed || !PIECE_END.test(code) || hidden(data).some(([, end]) => end === data.length)) return false;
@@ -36,13 +36,13 @@ function isBalanced(data) {
 }
 
 class Pieces {
-    // The least letters of a piece, and the most pieces of a file.
+    // Takes the least number of characters of a piece, and the most pieces of a file.
     constructor(least = 8192, most = 16) {
         Object.assign(this, { least, most });
         this.known = new Map(); // by a piece: whether it is balanced
     }
 
-    // Files, a map of texts by name, in pieces: [{ key, path, before, data }], with the name of the file and the lines before each.
+    // Splits files, a map from names to texts, into pieces: [{ key, path, before, data }], with the name of the file and the number of lines before the piece.
     of(files) {
         const used = new Map(), found = [];
         for (const [path, data] of files) {
@@ -56,7 +56,7 @@ class Pieces {
         return Array.from(files, ([path, data]) => ({ key: `0:${path}`, path, before: 0, data }));
     }
 
-    // Where the pieces of a file begin. What is looked at is put down as used.
+    // The offsets at which the pieces of a file begin. The function records each text that it checked in `used`.
     cuts(data, used) {
         const starts = [0], least = Math.max(this.least, Math.floor(data.length / this.most));
         if (data.length <= 2 * least) return starts;
@@ -76,8 +76,8 @@ class Pieces {
     }
 }
 
-// The faults of pieces, as [key, line, kind, words] in the order of the session, as those of their files, [path, line, kind, words]: of lexemes and syntax a
-// file has the first one only.
+// Converts the faults of pieces, [key, line, kind, words] in the order of the session, to those of their files, [path, line, kind, words].
+// For lexemes and syntax only the first fault of a file is kept.
 function faultsOfFiles(rows, pieces) {
     const byKey = new Map(pieces.map((it) => [it.key, it])), found = [];
     let last;
@@ -90,14 +90,14 @@ function faultsOfFiles(rows, pieces) {
     return found;
 }
 
-// The files that a session holds (docs/session.md). `bytesIn` counts the bytes of a text.
+// The files that a session holds (docs/session.md). `bytesIn` returns the number of bytes of a text.
 class HeldFiles {
     constructor(bytesIn) {
         Object.assign(this, { bytesIn, number: 0 });
-        this.held = new Map(); // by key: { name, data }, what each is held as, in their order
+        this.held = new Map(); // from a key to { name, data }: the name and the text in the session, in the session's order
     }
 
-    // The commands that have the session hold these files, texts by keys, in this order.
+    // The commands after which the session holds these files, in this order. `files` maps keys to texts.
     edits(files) {
         const lines = [], keys = [...files.keys()], size = (data) => (data === undefined ? 0 : this.bytesIn(data));
         let stay = [...this.held.keys()].filter((it) => files.has(it));
@@ -118,7 +118,7 @@ class HeldFiles {
         return lines.join("");
     }
 
-    // A map of the names in the session to keys.
+    // A map from the names in the session to keys.
     get keys() {
         return new Map([...this.held].map(([key, { name }]) => [name, key]));
     }

@@ -1,16 +1,16 @@
-// The rules of rules.js by the forms of expressions, and by the errors that break them.
+// Finds the rules of rules.js by the forms of expressions, and by the errors that break them.
 "use strict";
 
-// By the forms of operators and constants how the names of their own rules begin.
+// The beginning of the names of the rules for each operator and constant.
 const RULE_NAMES = { "+": "Add", "-": "Sub", "*": "Mul", "/": "Div", "<": "Less", "<=": "LessEqual", "=": "Equal", integer: "Int", string: "String",
     bool: "Bool" };
-// By a rule of the page the rule of the program that it is one of: these by the table, and others by their own name up to a dash.
+// The name of the program's rule for each rule of the page that has another name. The name of each other rule is its text up to the first dash.
 const RULES_TOLD = { Less: "Compare", LessEqual: "Compare", Equal: "Compare" };
 
 const toldName = (name) => RULES_TOLD[name.split("-")[0]] ?? name.split("-")[0];
 
 class RulesOfForms {
-    // Of the sections of rules.js.
+    // Takes the sections of rules.js.
     constructor(sections) {
         const entries = sections.flatMap((it) => it.entries);
         this.entries = entries.filter((it) => it.kind === "form");
@@ -19,13 +19,13 @@ class RulesOfForms {
 
     entryOf = (form) => this.entries.find((it) => it.forms.includes(form));
 
-    // The rules of a form, for its "typing" or "running": of an operator those of its own name.
+    // The rules of a form on one side, "typing" or "running". For an operator they are the rules with its name.
     of(form, side) {
         const all = this.entryOf(form)?.[side] ?? [], own = all.filter((it) => it.name.split("-")[0] === RULE_NAMES[form]);
         return own.length > 0 ? own : all;
     }
 
-    // The type rules that may be that of an expression, of which the forms of its parts are known.
+    // The type rules that can apply to an expression, by its form and the forms of its parts.
     typing(node) {
         const all = this.of(node.form, "typing"), named = (name) => all.filter((it) => it.name === name);
         if (node.form === "name") return named(node.name === "self" ? "Self" : "Id");
@@ -39,8 +39,8 @@ class RulesOfForms {
         return all.length > 1 && left?.type !== right?.type ? all[1] : all[0];
     }
 
-    // The rules with the premise that an error of a kind breaks, among those of the rule that the program names. The expression at the error, if it is known,
-    // tells the operator, and whether a `let` has an initial value. Without a name, all rules that an error of this kind breaks.
+    // The rules with the premise that an error of a kind breaks, among those of the rule that the program names (`told`). If the expression at the error is
+    // known, its operator and the presence of an initial value select among them. Without a name these are all rules that an error of this kind breaks.
     broken(kind, told, node) {
         const breaks = (rule) => rule.premises.some((it) => it.faults?.includes(kind)), others = this.others.filter(breaks);
         const all = this.entries.flatMap((it) => it.typing).filter(breaks), own = all.filter(({ name }) => toldName(name) === told);
@@ -50,10 +50,10 @@ class RulesOfForms {
     }
 }
 
-// The words of a premise or a conclusion, without subscripts.
+// The text of a premise or a conclusion, without subscripts.
 const wordsOfPieces = (pieces) => pieces.filter(([kind]) => kind !== "s").map(([, it]) => it).join("");
 
-// What a premise of conformance says at an error, by the types that were found and due; undefined where the facts do not tell them.
+// The failed premise of conformance, with the types that were found and required. It is undefined if the facts do not include them.
 function failingOf(kind, facts) {
     const [, found, due] = facts.map((it) => /^found (\S+), where (\S+) is due/.exec(it)).find(Boolean) ?? [];
     if (found === undefined) return undefined;

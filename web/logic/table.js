@@ -1,19 +1,19 @@
-// The table of code, as `cool_editor --code` tells it (docs/editor.md): which code is of which expression, which names are in scope there, and where they
-// stand. Of it come the places at which a run stops by lines.
+// Parses the table of code from the output of `cool_editor --code` (docs/editor.md): the code of each expression, the names in scope there, and where their
+// values are stored. It computes the places at which a run stops by lines.
 "use strict";
 
-// The forms whose parts come first: what is left to do behind the last part is the operation itself.
+// The forms that compute their parts first. After the last part only the operation itself remains.
 const OPERATIONS = new Set(["assign", "call", "static", "isvoid", "+", "-", "*", "/", "~", "<", "<=", "=", "not"]);
 const CALLS = new Set(["call", "static"]);
 
-// Of the rows, of files { name, text } in the order in which they were told, and of the listing, it answers
-//   attributes  a map of the names of classes to the attributes of their objects, in the order of their words: { name, offset, type }
-//   features    the methods and initial values in the order of their code: { kind, "method" or "initial"; name, as the assembly has it; from, to; formals, in
-//               the order of the text; spans; stops; lines, a map of lines to the stop for each }
+// Takes the rows, the files { name, text } in the order of the command, and the listing. It returns
+//   attributes  a map from the names of classes to the attributes of their objects, in the order of their words: { name, offset, type }
+//   features    the methods and initial values in the order of their code: { kind, from, to, name, formals, spans, stops, lines }. The kind is "method" or
+//               "initial", the name is that in the assembly, the formals are in the order of the text, and `lines` maps each line to its stop.
 //   stops       the places at which a run stops by lines, of all features
-//   stopAt      a map of addresses to the stop there
-// A span is an expression: { from, to, form, file, line, byte, depth, latest, entered, feature, parent, parts, begins }, where `entered` is whether its
-// latest name is not in scope in its parent, and `begins` its leftmost place. A stop is { address, file, line, span, feature }.
+//   stopAt      a map from addresses to the stop there
+// A span is an expression: { from, to, form, file, line, byte, depth, latest, entered, feature, parent, parts, begins }. `entered` says whether its latest
+// name is not in scope in its parent, and `begins` is its leftmost place. A stop is { address, file, line, span, feature }.
 function tableOf(rows, files, listing) {
     const attributes = new Map(), features = [];
     let owner;
@@ -33,7 +33,7 @@ function tableOf(rows, files, listing) {
     return { attributes, features, stops, stopAt: new Map(stops.map((it) => [it.address, it])) };
 }
 
-// A variable: its name, where its word is, as an offset from a register, and its type.
+// A variable: its name, the offset of its word from a register, and its type.
 function variableOf([name, place, type]) {
     const [, offset, base] = /^(-?\d+)\(\$(\w+)\)$/.exec(place);
     return { name, offset: Number(offset), base, type };
@@ -52,7 +52,7 @@ function addSpan(feature, [from, to, form, place, depth, names, ...latest], file
     feature.spans.push(span);
 }
 
-// An expression begins at its leftmost part, and a block with its first one.
+// Sets where each expression begins: at its leftmost part, and a block at its first expression.
 function findBeginnings(spans) {
     for (const it of spans.slice().reverse()) {
         const own = it.form === "block" ? it.parts[0].begins : it;
@@ -60,8 +60,8 @@ function findBeginnings(spans) {
     }
 }
 
-// A line is stopped at where the outermost expression that begins on it begins. Where that is the beginning of one of another line, too, it is where the
-// first operation of the line is done; and where it has none `lines` has the stop of that other line for it.
+// Finds the stops of a feature. The stop of a line is the beginning of the outermost expression that begins on it. If an expression of another line begins
+// at the same address, the stop is the first operation of the line. If the line has no operation, `lines` has the stop of that other line for it.
 function findStops(feature) {
     const { spans } = feature, found = new Map(), lines = new Set(), others = new Map();
     findBeginnings(spans);
@@ -80,13 +80,13 @@ function findStops(feature) {
     feature.lines = new Map([...others, ...feature.stops.map((it) => [it.line, it])]);
 }
 
-// The method or initial value in whose code an address is.
+// The method or initial value whose code contains an address.
 function featureAt(table, address) {
     const feature = lastBefore(table.features, address, "from");
     return feature && address < feature.to ? feature : undefined;
 }
 
-// The expressions in whose code an address is, the outermost first.
+// The expressions whose code contains an address, the outermost first.
 function spansAt(table, address) {
     const found = [];
     const holds = (it) => it.from <= address && address < it.to;
@@ -94,8 +94,8 @@ function spansAt(table, address) {
     return found;
 }
 
-// The place, { file, line }, of the code at an address: that of the stop there, or of the innermost expression; before the first expression of a feature or
-// of an initializer that of its first stop, and behind the last expression of a method that of its last one.
+// The place, { file, line }, of the code at an address: the stop there, else the innermost expression. Before the first expression of a feature, and in an
+// initializer, it is the first stop. Behind the last expression of a method it is the last stop.
 function placeAt(table, address, listing) {
     const own = table.stopAt.get(address) ?? spansAt(table, address).at(-1);
     if (own) return own;
@@ -105,7 +105,7 @@ function placeAt(table, address, listing) {
     return table.features.find((it) => it.name === unit?.name && it.from > address)?.stops[0];
 }
 
-// The line that an instruction is of: that of its expression, or in front of the expressions and behind them that of the method.
+// The line of the expression that an instruction belongs to. Before and behind the expressions it is the line of the method.
 function lineOfCode(address, { table, listing, outline }) {
     const span = table.stopAt.get(address) ?? spansAt(table, address).at(-1);
     return span ?? outline.get(unitAt(listing, address)?.name);
@@ -114,8 +114,8 @@ function lineOfCode(address, { table, listing, outline }) {
 // The variables of `let` and `case` in scope at an address, the latest last.
 const variablesAt = (spans) => spans.filter((it) => it.entered).map((it) => it.latest);
 
-// The name of the word that is pushed at a depth by one of these expressions, which are around an address: { name, type, isVariable }. `textAt` gives the
-// name in the text at the place of an expression.
+// The name of the word that was pushed at a depth: { name, type, isVariable }. `spans` are the expressions around an address. `textAt` returns the name in
+// the text at the place of an expression.
 function pushedBy(spans, depth, textAt) {
     const variable = variablesAt(spans).find((it) => it.offset === -4 * (depth + 1));
     if (variable) return { ...variable, isVariable: true };
@@ -126,7 +126,7 @@ function pushedBy(spans, depth, textAt) {
     return { name: span.form === "case" ? "value of case" : `left of ${span.form}` };
 }
 
-// Whether a run may come by only one of two expressions: where they are of different branches.
+// Whether each run comes by at most one of two expressions, because they are in different branches.
 function areExclusive(one, other) {
     const above = new Map();
     for (let it = one; it; it = it.parent) above.set(it.parent, it);
@@ -137,7 +137,7 @@ function areExclusive(one, other) {
     return false;
 }
 
-// Whether there is something to do behind an expression before the next stop, or the end of the method.
+// Whether work remains behind an expression before the next stop or the end of the method.
 function leavesWork(span, table) {
     const { parent } = span;
     if (parent === undefined) return span.feature.kind === "initial";

@@ -1,30 +1,30 @@
-// The classes, features and expressions of a program, as `cool_editor --trees` tells them (docs/phases.md): each expression with its type and its parts, and
-// where its text begins and ends.
+// Parses the classes, features and expressions of a program from the output of `cool_editor --trees` (docs/phases.md). Each expression has its type, its
+// parts, and the places where its text begins and ends.
 "use strict";
 
 const LEXEMES = typeof module === "object" ? { ...require("./bytes.js"), ...require("./lexemes.js") } : { hidden, lexemeEnd, textOfLetters };
 
 const TREE_LINE = /^(\w+) (\d+):(\d+):(\d+) (.*)$/;
 const TREE_NODE = /^\d+:\d+:(\d+) \d+:\d+:(\d+) \d+ (\S+) (\S+) ?(.*)$/;
-// The names that stand in the line of a form before the numbers of its parts.
+// The names of a form that precede the numbers of its parts in a line.
 const TREE_NAMES = { assign: ["name"], call: ["name"], static: ["declared", "name"], let: ["name", "declared"], new: ["declared"], name: ["name"],
     integer: ["value"], bool: ["value"], string: ["value"] };
-// The bytes of an expression that are looked at for its text.
+// The most bytes of an expression that are read for its text.
 const MOST_LOOKED_AT = 2000;
 
 const treeKey = (...words) => words.join(":");
 
-// The receiver `self` that a call does not name has the place of the method's name.
+// Whether a name is a receiver `self` that the text omits. Such a name has the place of the method's name.
 const isUnnamed = ({ form, byte, parent }) => form === "name" && parent?.form === "call" && parent.byte === byte;
 
-// The parts of a line of a form that is known.
+// The groups that a form matches in a line. It throws if the line has another form.
 function readLine(form, line) {
     const found = form.exec(line);
     if (!found) throw new Error(`no line of trees: ${line}`);
     return found.slice(1);
 }
 
-// An expression with the names of its form. Its parts are numbers of the expressions of its feature; those of a `case` are its value, and of each branch a
+// An expression with the names of its form. Its parts are numbers of expressions of its feature. Those of a `case` are its value, and for each branch a
 // place, a name, a type, and the expression.
 function readNode(place, rest) {
     const [first, last, type, form, words] = readLine(TREE_NODE, rest), names = TREE_NAMES[form] ?? [];
@@ -36,12 +36,11 @@ function readNode(place, rest) {
 }
 
 class Trees {
-    // Of the rows, and of the files { name, data } in the order in which they were told: their bytes, each as a letter. It throws where a row has no form
-    // that is known. It has
+    // Takes the rows, and the files { name, data } in the order of the command, with one character for each byte. It throws if a row has no known form. It has
     //   classes   { file, line, byte, name, parent, features }, in their order
-    //   features  { kind, "method" or "attribute"; file, line, byte, name, type, formals, owner, nodes }: the last node is the whole expression
-    // and of each node { file, line, byte, first, last, type, form, parts, parent, feature } and its names, where first and last are the bytes at which its
-    // first and its last token begin.
+    //   features  { kind, file, line, byte, name, type, formals, owner, nodes }: the kind is "method" or "attribute", and the last node is the whole expression
+    // A node is { file, line, byte, first, last, type, form, parts, parent, feature } with its names. `first` and `last` are the offsets at which its first and
+    // its last token begin.
     constructor(rows, files) {
         Object.assign(this, { classes: [], features: [], placed: new Map(), declared: new Map() });
         this.data = new Map(files.map((it) => [it.name, it.data]));
@@ -76,21 +75,21 @@ class Trees {
         }
     }
 
-    // Whether the files are a legal program: their expressions have types.
+    // Whether the files are a legal program, so that their expressions have types.
     get isTyped() {
         return this.features.some((it) => it.nodes.length > 0) && this.features.every((it) => it.nodes.at(-1)?.type !== "?");
     }
 
-    // The expression of a form at its place.
+    // The expression of a form at a place.
     nodeAt = ({ file, byte, form }) => this.placed.get(treeKey(file, byte, form));
 
-    // What is declared at a place: a feature, a formal, a `let`, or a branch of a `case`.
+    // The declaration at a place: a feature, a formal, a `let`, or a branch of a `case`.
     declaredAt = ({ file, byte }) => this.declared.get(treeKey(file, byte));
 
-    // The place behind the last token of an expression.
+    // The offset behind the last token of an expression.
     endsAt = (node) => LEXEMES.lexemeEnd(this.data.get(node.file), node.last);
 
-    // The innermost expression that holds a byte, or ends so many bytes before it.
+    // The innermost expression that contains an offset, or ends at most `behind` bytes before it.
     around(file, byte, behind = 0) {
         const holds = (it) => it.first <= byte && byte < this.endsAt(it) + behind && !isUnnamed(it);
         const roots = this.features.filter((it) => it.file === file && it.nodes.length > 0).map((it) => it.nodes.at(-1));
@@ -99,7 +98,7 @@ class Trees {
         return found;
     }
 
-    // The text of an expression in one line, without comments, and shortened.
+    // The text of an expression in one line, without comments, and shortened to `most` characters.
     textOf(node, most = 70) {
         if (isUnnamed(node)) return "self";
         const end = this.endsAt(node), to = Math.min(end, node.first + MOST_LOOKED_AT), all = this.data.get(node.file).slice(node.first, to);
@@ -110,7 +109,7 @@ class Trees {
         return text.length > most || to < end ? `${text.slice(0, most - 1)}…` : text;
     }
 
-    // A type and those above it, up to Object, in the class of an expression.
+    // A type and its ancestors up to Object, in the class of an expression.
     chain(type, node) {
         if (type === "SELF_TYPE") return [type, ...this.chain(node.feature.owner.name)];
         const parent = type === "Object" ? undefined : this.byName.get(type)?.parent ?? "Object";

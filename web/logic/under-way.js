@@ -1,19 +1,19 @@
-// The rule that is under way at a stop: how far the parts of an expression are, the values of those that are done, and the step by premises.
+// The rule that is under way at a stop: the progress of the parts of an expression, the values of the completed parts, and the step by premises.
 "use strict";
 
-// Letters of a part that are shown.
+// The most characters shown of a part.
 const MOST_OF_PART = 40;
 const BINARY = new Set(["+", "-", "*", "/", "<", "<=", "="]);
 
-// How far the parts of an expression are at an address: each is "done", "now" or "due".
+// The progress of the parts of an expression at an address: each is "done", "now" or "due".
 const progress = (span, address) => span.parts.map((it) => (it.to <= address ? "done" : it.from <= address ? "now" : "due"));
 
-// How far several parts are together; no part at all is as far as the premise before.
+// The progress of several parts together. Without parts it is the progress of the premise before.
 const together = (states, before) => (states.length === 0 ? before : states.every((it) => it === "done") ? "done"
     : states.every((it) => it === "due") ? "due" : "now");
 
-// How far each premise of a rule is. Premises that compute parts stand in the order of the code. A premise between them is done with the next part. If all
-// parts are done, the first premise behind them is under way.
+// The progress of each premise of a rule. Premises that compute parts are in the order of the code. A premise between them is done with the next part. If
+// all parts are done, the first premise behind them is under way.
 function marksOfPremises(rule, states) {
     const singles = rule.premises.filter((it) => it.asks === "one").length, left = states.slice(), marks = [];
     for (const { asks } of rule.premises) {
@@ -29,8 +29,8 @@ function marksOfPremises(rule, states) {
     return marks;
 }
 
-// The innermost frame in which an expression is under way, with that expression: { frame, span }. A routine of the run time is part of the expression that
-// called it.
+// The innermost frame in which an expression is under way, with that expression: { frame, span }. A routine of the run time belongs to the expression
+// that called it.
 function underWay(frames, table) {
     for (const frame of frames) {
         const span = frame.pc === undefined ? undefined : spansAt(table, frame.pc).at(-1);
@@ -39,7 +39,7 @@ function underWay(frames, table) {
     return undefined;
 }
 
-// The words of the parts that are done, where the machine still has them: pushed while later parts are computed, or in $a0 behind the last one.
+// The words of the completed parts that the machine still has: a word is pushed while later parts are computed, or is in $a0 behind the last part.
 function wordsOfParts(span, frame, { state }) {
     const isInner = frame.pc === state.registers.pc, isPushed = CALLS.has(span.form) || BINARY.has(span.form);
     return span.parts.map((it, i) => {
@@ -50,8 +50,8 @@ function wordsOfParts(span, frame, { state }) {
     });
 }
 
-// The parts of the expression that is under way in a frame, in the order of the code: { name, progress, word }, as the text has them, and with the word where
-// the machine still has it.
+// The parts of the expression that is under way in a frame, in the order of the code: { name, progress, word }. The name is the text of the part, and the
+// word is undefined if the machine no longer has it.
 function partsUnderWay(frame, view) {
     const { span } = underWay([frame], view.table) ?? {};
     if (span === undefined) return [];
@@ -59,7 +59,7 @@ function partsUnderWay(frame, view) {
     return span.parts.map((it, i) => ({ name: `${i + 1}: ${trees.textOf(trees.nodeAt(it), MOST_OF_PART)}`, progress: states[i], word: words[i] }));
 }
 
-// To where the next part begins, or the part that is under way ends, or the expression; not into methods that are called.
+// Moves to the beginning of the next part, or to the end of the part that is under way or of the expression. It does not enter called methods.
 function overPremise(from, breaks, more) {
     const { frame, span } = underWay(from.frames, from.table) ?? {};
     if (span === undefined) return over(from, breaks, more);

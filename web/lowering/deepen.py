@@ -67,7 +67,7 @@ def deepen(function, number):
 
 
 def entered(function):
-    """What `cool_enter` does for a function: its local 1 is where the arguments lie, and where what is answered goes."""
+    """The code of `cool_enter` for a function. Its local 1 is the address of the arguments, and of the results after the call."""
     take = [it for i, kind in enumerate(function.parameters) for it in ("local.get 1", f"{kind}.load {8 * i}")]
     keep = [f"{kind}.store 0" for kind in function.answers]
     return [*["local.get 1"] * len(keep), *take, f"call {function.name}", *keep]

@@ -8,9 +8,9 @@ import re
 
 CUT, WIDEN, WIDEN_SIGNED = "\ti32.wrap_i64", "\ti64.extend_i32_u", "\ti64.extend_i32_s"
 STORE = re.compile(r"([if](?:32|64))\.store")
-# What ends with an address, a size or the number of a function of the table.
+# Matches the instructions that end with an address, a size or the number of a function of the table.
 TAKES = re.compile(r"[if](32|64)\.load|memory\.grow|call_indirect|global\.set\s+__stack_pointer")
-# What puts a value above an address without taking one, so that the address can be cut before it.
+# Matches the instructions that push a value above an address without using the address, so that the address can be cut before.
 PUTS = re.compile(r"\t(local\.get|global\.get|[if](32|64)\.const)\b")
 
 
@@ -61,7 +61,7 @@ def narrow(function):
 
 
 def narrow_lines(lines):
-    """What stands between functions, without the section that tells what an engine must know: it names memory of 64-bit addresses."""
+    """The lines between functions, without the section of target features, because it names memory of 64-bit addresses."""
     told = True
     for line in lines:
         if not isinstance(line, str):

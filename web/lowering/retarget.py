@@ -6,7 +6,7 @@ import sys
 
 LAYOUT = "e-m:e-p:64:64-p10:8:8-p20:8:8-i64:64-i128:128-n32:64-S128-ni:1:10:20"
 NAME = re.compile(r'@"[^"]*"')
-# What the lines that begin so have in the place of what.
+# The replacements, (pattern, text), in the lines that begin with each key.
 CHANGES = {
     "target datalayout": [(r'".*"', f'"{LAYOUT}"')],
     "target triple": [(r'".*"', '"wasm64-unknown-unknown"')],

@@ -1,10 +1,10 @@
-// Colours the assembly by the lines of its source, if the browser can colour ranges of a text. A line leads to its code, and code to its line.
+// Colours the assembly by the lines of its source, if the browser can colour ranges of a text. It also finds the code of a line, and the line of code.
 "use strict";
 
 const canColour = "highlights" in CSS;
 const highlights = canColour ? Array.from({ length: TINTS }, (_, i) => newHighlight(`tint${i}`)) : [];
 const litCode = canColour ? newHighlight("lit") : undefined;
-// Of the assembly that is shown: where each of its lines begins, the number and line of the source of each instruction, and the ranges of each line.
+// The assembly that is shown: the offset of each line, the number and source line of each instruction, and the ranges of each source line.
 let shownCode;
 
 function newHighlight(name) {
@@ -15,7 +15,7 @@ function newHighlight(name) {
 
 const nameOfLine = ({ file, line }) => `${line}:${file}`;
 
-// Each instruction that is shown has a range.
+// Adds a range for each instruction that is shown.
 function colourAssembly(all) {
     if (!canColour || at("assembly").hidden || !at("lines").firstChild) return;
     const starts = [0], most = at("lines").firstChild.length, view = viewOf(undefined);
@@ -42,7 +42,7 @@ function lightAssembly(place) {
 
 const isAssemblyShown = () => !at("assembly").hidden && shownCode !== undefined;
 
-// The line of the source of the assembly at a pointer.
+// The source line of the instruction at a pointer.
 function lineAtAssembly(event) {
     const { offsetNode, offset } = document.caretPositionFromPoint?.(event.clientX, event.clientY) ?? {};
     if (offsetNode !== at("lines").firstChild) return undefined;

@@ -3,7 +3,7 @@
 
 const MOST_ASSEMBLY_SHOWN = 2_000_000;
 
-// Shows it from the method on in which the cursor is.
+// Shows the assembly, from the method at the cursor on.
 async function showAssembly() {
     const { text: all = "", fault } = await assembly();
     at("lines").textContent = fault ?? all.slice(0, MOST_ASSEMBLY_SHOWN);
@@ -16,7 +16,7 @@ async function showAssembly() {
     prepare().then(() => colourAssembly(all), () => {});
 }
 
-// Selects the label, and so scrolls to it.
+// Scrolls to the label and selects it.
 function goToLabel(index) {
     const lines = at("lines");
     scrollAssembly(lines.textContent.slice(0, index).split("\n").length - 1);

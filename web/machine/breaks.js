@@ -1,13 +1,13 @@
-// Breakpoints, at lines of the files, with conditions, and at labels of the assembly.
+// Breakpoints of the page: at lines of the files, with conditions, and at labels of the assembly.
 "use strict";
 
-// Where each break of a line of a file stops: { line, places }, or undefined.
+// The line and places at which the break of a line stops: { line, places }, or undefined.
 const stopOfBreak = (file, line) => breakOfLine(file.name, line, machine);
 
-// Stops that are looked at by one run.
+// The most stops at which one run evaluates conditions.
 const MOST_TOGETHER = 64;
 
-// The breaks for the moves of stops.js. One is open where each break at its place has a condition.
+// The breaks, in the form that the moves of stops.js take. A break is open if each break at its place has a condition.
 function breaksSet() {
     const conditions = new Map();
     for (const file of files) {
@@ -20,7 +20,8 @@ function breaksSet() {
     return { places: [...conditions.keys()], addresses, isOpen, first: (stops) => firstHolding(stops, conditions) };
 }
 
-// A promise of the first of these stops at which a condition holds, or cannot be told: then the stop says why. More and more of them are looked at together.
+// A promise of the first of these stops at which a condition holds or has no value. In the second case the stop has the reason as `untold`.
+// Each run looks at more stops than the one before.
 async function firstHolding(stops, conditions) {
     for (let i = 0, together = 1; i < stops.length; i += together, together = Math.min(4 * together, MOST_TOGETHER)) {
         const part = stops.slice(i, i + together), held = await Promise.all(part.map((it) => heldAt(it, conditions.get(it.place))));
@@ -30,7 +31,7 @@ async function firstHolding(stops, conditions) {
     return undefined;
 }
 
-// A promise of whether one of these conditions holds at a stop, or of { untold }: why the first one cannot be told.
+// A promise of the truth at a stop: {} if one of these conditions holds, else { untold } with the reason if one has no value, else undefined.
 async function heldAt({ steps }, conditions) {
     const state = await State.after(steps, machine.state), view = viewOf(state);
     const said = await state.settled(() => {
@@ -50,7 +51,7 @@ function toggleBreak(line) {
     if (compiledModule) prepare().then(showBreaks, () => {});
 }
 
-// A map of the lines of a file that its breaks are at, or stop at, to what is told of that, where these are two; known once the table is there.
+// Maps lines of a file to a text about its breaks, if a break stops at another line than its own. The map is empty before the table is read.
 function stopsOfBreaks(file) {
     const found = new Map();
     for (const line of machine.listing === undefined ? [] : file.breaks.keys()) {
@@ -62,7 +63,7 @@ function stopsOfBreaks(file) {
     return found;
 }
 
-// The name of a break at a line, with the line where it stops.
+// The name of a break at a line, with the line at which it stops.
 function breakWords(file, line) {
     const to = machine.listing && stopOfBreak(file, line)?.line;
     return `${file.name}:${line}${to === undefined || to === line ? "" : ` → ${to}`}`;
@@ -93,7 +94,7 @@ function conditionField(file, line) {
     return field;
 }
 
-// Without a label in the field it is that of the method in which the cursor is.
+// Adds a break at the label in the field. If the field is empty, the break is at the method at the cursor.
 function addBreak() {
     const label = at("label").value.trim() || methodAt(outlineOf(files), shownFile.name, cursorLine());
     if (!label || (machine.listing && !(machine.listing.labels.get(label) < DATA_START))) return tell(`${label || "this"} is no label of the code`, true);

@@ -1,7 +1,7 @@
 // The buttons and fields of the machine: steps by instructions and by lines, runs to breakpoints and to any state, and input that the user types.
 "use strict";
 
-// From the first line on; what was typed is asked for again.
+// Moves to the first line of the run, and forgets the typed input.
 function restart() {
     if (machine.moves) return machine.opened;
     forgetReads();
@@ -12,14 +12,14 @@ function restart() {
     });
 }
 
-// Moves to so many instructions, or to a read before.
+// Moves to the state after this number of instructions, or to an earlier read whose line is missing.
 function moveTo(steps, why = {}) {
     return move(async (state) => ({ steps: steps > state.steps ? await stepsOrRead(state.steps, steps) : Math.max(0, steps), ...why }));
 }
 
 const stepCount = () => numberOf("count", 1, 1_000_000_000);
 
-// While a state is looked up the slider may have gone on: each move calls this at its end.
+// Moves to the position of the slider. Each move calls it at its end, because the slider may have moved in the meantime.
 async function slide() {
     if (machine.moves || slidTo === undefined) return;
     const wanted = slidTo;
@@ -27,12 +27,12 @@ async function slide() {
     if (slidTo === wanted) slidTo = undefined;
 }
 
-// Moves as one of stops.js or backwards.js does.
+// Moves by a function of stops.js or backwards.js.
 function moveBy(go, breaksNow = () => NO_BREAKS) {
     move((state) => pastReads(go, { ...viewOf(state), frames: machine.frames ?? [] }, breaksNow()));
 }
 
-// Moves back as one of backwards.js does; where there is nothing before, to the first line.
+// Moves back by a function of backwards.js, or to the first line if the function finds no stop.
 function moveBackBy(find) {
     move(async (state) => {
         const from = { ...viewOf(state), frames: machine.frames ?? [] };
@@ -43,14 +43,14 @@ function moveBackBy(find) {
     });
 }
 
-// From the first line on to where the run ends by an error.
+// Starts the run in the debugger, and runs from the first line to the error that ends it.
 function lookInMachine() {
     choose("machine");
     machine.opened = restart();
     machine.opened.then(() => moveBy(goOn));
 }
 
-// Takes a line, or null for the end of the input, and goes on with the move that came to the read.
+// Adds a typed line to the input, or ends the input if the line is null. Then it continues the move that came to the read.
 function typeLine(line) {
     const { interrupted = () => machine.state.steps } = machine;
     if (line === null) machine.inputEnds = true;

@@ -1,12 +1,12 @@
-// The code of a method, coloured by the lines of the source that it is of: a line leads to its code, and code to its line.
+// Shows the code of a method, coloured by the source lines that it belongs to. It also links a line with its code.
 "use strict";
 
 const MOST_CODE_ROWS = 300, TINTS = 6;
 
-// The line whose code is marked, { file, line }, and those that have code here, with their colours.
+// The line whose code is marked, { file, line }, and the lines that have code here, with their colours.
 let light, tints = { file: undefined, lines: new Map() };
 
-// The unit of an address, or of pc.
+// Shows the code around an address, within its unit. Without an address it is the one of the pc.
 function showCode(view, address = view.state.registers.pc) {
     const { listing, state } = view, { pc } = state.registers;
     const unit = unitAt(listing, address), code = at("code");
@@ -24,7 +24,7 @@ function showCode(view, address = view.state.registers.pc) {
     paint();
 }
 
-// An instruction, behind its labels. The line is named where it is another one than that of the instruction before.
+// The elements of an instruction and its labels. The source line is shown if it differs from that of the instruction before.
 function codeRows({ address, text: words, labels }, place, before, isHere) {
     const made = labels.flatMap((it) => [element("span", { className: "label", textContent: `${it}:` }), "\n"]);
     const kinds = kindsOf("row", isHere && "here", place && `tint${place.line % TINTS}`);
@@ -34,7 +34,7 @@ function codeRows({ address, text: words, labels }, place, before, isHere) {
     return [...made, row, "\n"];
 }
 
-// Marks the code of the line that is marked.
+// Marks the code of the marked line.
 function lightCode() {
     for (const it of at("code").querySelectorAll(".row")) {
         it.classList.toggle("lit", light !== undefined && it.dataset.file === light.file && Number(it.dataset.line) === light.line);

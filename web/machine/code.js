@@ -1,11 +1,11 @@
-// The code of the program: its assembly by `asm`, and the table of code by `cool_editor --code`, each in a worker of its own. They are made when they are asked
-// for, and forgotten when a file changes. Other scripts ask `cool_editor` here, too.
+// The code of the program: its assembly by `asm`, and the table of code by `cool_editor --code`, each in a separate worker. A script computes them on demand,
+// and again after a file changes. Other scripts call `cool_editor` by this script, too.
 "use strict";
 
 const compiler = new Runner();
 let assembled;
 
-// The assembly: a promise of { text }, or of { fault }, why there is none.
+// The assembly: a promise of { text }, or of { fault } with the reason if there is none.
 function assembly() {
     const made = async () => {
         const parts = [];
@@ -20,7 +20,7 @@ function assembly() {
 let editorModule, coded;
 const coder = new Runner(() => editorModule);
 
-// What `cool_editor` tells of the files with these words: a promise of { rows }, or of { fault }, why there are none.
+// The output of `cool_editor` for the files, with these arguments: a promise of { rows }, or of { fault } with the reason if there is none.
 async function toldBy(runner, ...words) {
     if (typeof COOL_EDITOR_MODULE === "undefined") return { fault: "editor-module.js is missing beside this page: copy all scripts of web/" };
     const numbered = new Map(files.map((it, i) => [`${i}.cl`, encode(it.text)])), parts = [];
@@ -30,7 +30,7 @@ async function toldBy(runner, ...words) {
     return { fault: came.status === 1 ? "The program has faults." : endWords(came) ?? "stopped" };
 }
 
-// The table of code, in the same way.
+// The table of code, as a promise of { rows } or { fault }.
 const codeTable = () => (coded ??= toldBy(coder, "--code"));
 
 whenever("changed", () => ([assembled, coded] = []));

@@ -3,7 +3,7 @@
 
 const debugged = new Runner();
 
-// As moves.js tells. The worker ends a run after its last note; until then none of its notes comes.
+// The function `debug` that moves.js requires. The worker ends a run after its last note, and posts all notes together at that point.
 debug = async (lines, wanted, { seen = () => false, budget = Infinity } = {}) => {
     const all = sources();
     let script = "script";

@@ -1,7 +1,7 @@
-// Marks the line at which the user points, in the text, and its code in the machine and in the assembly.
+// Marks the line at the pointer in the text, and the code of this line in the machine and in the assembly.
 "use strict";
 
-// Marks a line and its code, or none.
+// Marks a line and its code. Without a place it removes the mark.
 function showLight(place) {
     light = place;
     lightCode();
@@ -14,13 +14,13 @@ function lightUp(place) {
     if ((isAssemblyShown() || (isMachineShown() && !machine.moves)) && !isOneLine(place, light)) showLight(place);
 }
 
-// The line of the text at which a pointer is.
+// The line of the text at a pointer.
 function lineAt(event) {
     const below = event.offsetY + text.scrollTop - parseFloat(getComputedStyle(text).paddingTop);
     return { file: shownFile.name, line: Math.floor(below / lineHeight()) + 1 };
 }
 
-// A click at a line of another method shows the code of that one.
+// Shows the code of a line, also if the line is in another method than the code that is shown.
 function showCodeOfLine({ file, line }) {
     const stop = machine.table.stops.find((it) => it.file === file && it.line === line);
     if (stop) showCode(viewOf(machine.state), stop.address);

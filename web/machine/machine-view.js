@@ -1,18 +1,18 @@
-// Shows a state of the machine: frames, registers, memory and output. What changed since the state shown before is marked.
+// Shows a state of the machine: frames, registers, memory and output. Values that changed since the previous state are marked.
 "use strict";
 
-// What each register holds, where something lasts there.
+// The purpose of each register that has a fixed one.
 const ROLES = { pc: "the next instruction", ...(typeof COOL_REGISTERS === "undefined" ? {} : COOL_REGISTERS) };
 const MEMORY_WORDS = 32;
 
-// The address that the field asks for: a number, a label, or a register with or without an offset; or undefined.
+// The address in the field: a number, a label, or a register with or without an offset. It is undefined if the field has no such text.
 function addressAsked(field, { state, listing }) {
     const [, register, offset = "0", number, label] = /^\s*(?:\$(\w+)\s*([+-]\s*\d+)?|(0x[0-9a-fA-F]{1,8})|([A-Za-z_.][\w.]*))\s*$/.exec(field) ?? [];
     const from = register !== undefined ? state.registers[register] : number !== undefined ? Number(number) : listing.labels.get(label);
     return from === undefined ? undefined : ((from + Number(offset.replace(/\s/g, ""))) & ~3) >>> 0;
 }
 
-// All that is shown, as data.
+// The contents of the view, as data.
 function pictureOf(view) {
     const { state } = view;
     const from = addressAsked(at("address").value, view);
@@ -23,7 +23,7 @@ function pictureOf(view) {
     };
 }
 
-// Numbers alone are not described: a register may hold anything.
+// Describes the word of a register. It returns "" for a word that is only a number, because a register may hold anything.
 function describedRegister(name, view) {
     const word = view.state.registers[name];
     if (word < TEXT_START || (name !== "pc" && name !== "ra" && word < DATA_START)) return "";
@@ -31,7 +31,7 @@ function describedRegister(name, view) {
     return /^-?\d+$/.test(text) ? "" : text;
 }
 
-// The focus stays at the button that opened an object, though it is another one now.
+// Shows the frames. `showEntries` moves the focus to the new button of the object that was opened.
 function showFrames(frames, before) {
     showEntries("frames", frames.flatMap(({ title, place, entries }) => {
         const link = place ? element("button", { onclick: () => goTo(place.file, place.line), title: "Show this line" }, `${place.file}:${place.line}`) : "";
@@ -67,7 +67,7 @@ function entryItem(it, before) {
     return item;
 }
 
-// A map of the paths of entries to what they show.
+// Maps the paths of entries to their contents.
 function shownEntries({ frames, watches }) {
     const all = new Map();
     const add = (it) => (all.set(it.path, it.text + it.word), it.entries?.forEach(add));
@@ -94,13 +94,13 @@ function showMemory(memory, before) {
     }));
 }
 
-// The bytes of a word as letters, the lowest first.
+// The bytes of a word as characters, the lowest first.
 function lettersOf(word) {
     const bytes = [word & 255, (word >>> 8) & 255, (word >>> 16) & 255, word >>> 24];
     return bytes.map((it) => (it > 31 && it < 127 ? String.fromCharCode(it) : "·")).join("");
 }
 
-// Beside the machine stands the line again at which it stands: on a phone the text is out of sight.
+// Shows the source line of the machine's position again beside the machine, because a phone does not show the text at the same time.
 function showSourceLine(place) {
     const i = place && fileNamed(place.file) === shownFile ? place.line - 1 : -1;
     const shown = coloured.lines[i] === undefined ? [] : [element("span", { className: "number" }, String(place.line)), paintedLine(...lineRow(i))];

@@ -1,9 +1,9 @@
-// The debugger: the state on display, and the change to another state.
+// The debugger of the page: it shows a state, and moves to another one.
 "use strict";
 
 let here;
 
-// Forgotten is what was made of other files.
+// Forgets all that was computed from the files before the change.
 function forgetMachine() {
     debugged.stop();
     Object.assign(machine, { prepared: undefined, listing: undefined, state: undefined, frames: undefined, entries: undefined, earlier: [] });
@@ -15,14 +15,14 @@ function forgetMachine() {
     if (shownFile) showLight(undefined), markHere(undefined);
 }
 
-// Marks the line at which the machine stands.
+// Marks the line at which the machine is.
 function markHere(place) {
     here = place;
     showMarks();
     paint();
 }
 
-// Marks it, and brings it into view.
+// Marks the line at which the machine is, and scrolls to it.
 function showHere(place) {
     const file = place && fileNamed(place.file);
     if (file && file !== shownFile) showFile(file);
@@ -30,7 +30,8 @@ function showHere(place) {
     if (file) scrollToLine(place.line);
 }
 
-// Goes to what `find` answers: a number of instructions; { steps, and why the run stopped there, or returns for an earlier state }; or "again".
+// Moves to the result of `find`: a number of instructions, { steps } with the reason why the run stopped there, or "again" for the same state.
+// With `returns` in the result, the move is not added to the earlier states.
 async function move(find) {
     if (machine.moves) return;
     machine.moves = true;
@@ -60,7 +61,7 @@ async function showAfter(steps, why = {}) {
     await show(state, { state: machine.state, entries: machine.entries }, why);
 }
 
-// Shows a state, marks what differs from `before`, and says why the run stopped there.
+// Shows a state, marks the differences from `before`, and says why the run stopped there.
 async function show(state, before, why) {
     const listing = machine.listing;
     const picture = await state.settled(() => pictureOf(viewOf(state)));
@@ -79,14 +80,14 @@ async function show(state, before, why) {
     if (!state.ended) showPlace(state);
 }
 
-// At the end of a run the last line and its code stay.
+// Shows the code and the line of a state. At the end of a run the last ones stay.
 function showPlace(state) {
     showCode(viewOf(state));
     showHere(placeShown());
     showSourceLine(placeShown());
 }
 
-// Shows the state anew, with other attributes open or other memory.
+// Shows the state again, after an object was opened or another address was chosen.
 function showAgain() {
     if (machine.state) move(() => "again");
 }

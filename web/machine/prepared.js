@@ -3,11 +3,11 @@
 
 const CHANGED = "The program changed: the next move begins anew.";
 
-// Of the program as it is: listing, table, outline, textOf, numbers (of objects), reads and typed (lines), state, and what is shown of it; of the user: open
+// The current program's listing, table, outline, textOf, numbers (of objects), reads and typed (lines), state, and values shown for it. The user sets open
 // (paths of objects), labels (breaks), watched (expressions) and earlier (steps).
 const machine = { open: new Set(["0.self"]), labels: new Set(), watched: [], earlier: [] };
 
-// Has the listing, the table and what else is made of the files at hand; a promise.
+// Computes the listing, the table and the outline of the current files. It returns a promise.
 function prepare() {
     const prepared = (machine.prepared ??= prepareNow());
     prepared.catch(() => machine.prepared === prepared && (machine.prepared = undefined));

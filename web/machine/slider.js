@@ -1,16 +1,16 @@
-// The slider over the states of a run: each is a number of instructions.
+// The slider over the states of a run. Each position is a number of instructions.
 "use strict";
 
-// Of a longer run the end is not looked for.
+// The most instructions that are executed to find the length of a run.
 const MOST_LOOKED_FOR = 2_000_000;
-// How far the run is known to go, whether it goes no further, and where the slider was moved to.
+// The known length of the run, whether it is the whole length, and the position to which the slider was moved.
 let runLength, isWhole, slidTo;
 
 function forgetLength() {
     [runLength, isWhole, slidTo] = [0, false, undefined];
 }
 
-// Looks how far the run goes, up to a read that lacks its line, and answers what it is given.
+// Finds the length of the run, up to a read whose line is missing. It returns its argument, so that a chain of promises can call it.
 async function findLength(found) {
     const accept = (stop) => (isRead(stop) ? stop : undefined);
     const { steps: last, ended } = await runOn(0, readersOf(machine.listing), accept, { budget: MOST_LOOKED_FOR });

@@ -3,7 +3,7 @@
 
 const linesIn = (all) => all.split("\n").length - 1;
 
-// A last line that is given without its end is ended.
+// The input: the given input with a newline at its end, and the typed lines.
 function inputGiven() {
     const given = at("input").value;
     return given + (given === "" || given.endsWith("\n") ? "" : "\n") + machine.typed;
@@ -14,13 +14,13 @@ function forgetReads() {
     at("read").hidden = true;
 }
 
-// Whether the read after so many instructions lacks its line.
+// Whether the line is missing for the read after this number of instructions.
 const lacksLine = (steps) => !machine.inputEnds && machine.reads.numberAt(steps) >= linesIn(inputGiven());
 
 const isRead = ({ steps, pc }) => readersOf(machine.listing).includes(pc) && lacksLine(steps);
 const stateReads = ({ steps, registers }) => isRead({ steps, pc: registers.pc });
 
-// Moves as `go` does, or to a read whose line is yet to be typed: the move goes on once it is.
+// Moves by `go`, or to a read whose line is not yet typed. The move continues after the line is typed.
 async function pastReads(go, from, breaks) {
     const tellProgress = (steps) => (at("where").textContent = `Running, ${steps.toLocaleString("en")} instructions so far…`);
     const named = new Set(breaks.addresses);
@@ -32,14 +32,14 @@ async function pastReads(go, from, breaks) {
     return { ...found, reads };
 }
 
-// So many instructions, or where a read lacks its line before them.
+// The number of instructions `to`, or that of an earlier read whose line is missing.
 async function stepsOrRead(from, to) {
     if (stateReads(machine.state)) return from;
     const accept = (stop) => (isRead(stop) ? stop : undefined);
     return (await runOn(from, readersOf(machine.listing), accept, { budget: to })).steps;
 }
 
-// The field stands where a read lacks its line, also where the state was reached by steps.
+// Shows the field for a line if the state is at a read whose line is missing, also if steps led there.
 function showRead() {
     const wants = !machine.state.ended && stateReads(machine.state);
     at("read").hidden = !wants;

@@ -1,9 +1,9 @@
-// Expressions that the user watches: the value of each at each stop, in the innermost method.
+// Expressions that the user watches: the view shows the value of each in the innermost method at each stop.
 "use strict";
 
 const UNREAD = `it cannot be read: write ${FORMS_TAKEN}`, NO_METHOD = "the program does not stand in a method";
 
-// The lines of the view for the watched expressions, as `entry` makes them.
+// The entries of the view for the watched expressions, in the form of `entry`.
 function watchesOf(view) {
     const [frame] = stackOf(view, 1);
     return machine.watched.map((name) => {

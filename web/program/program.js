@@ -1,19 +1,19 @@
-// Runs the program, `cool`: a WebAssembly module that imports five functions of its host (`host.c`), and one by which deep recursion goes on
-// (`lowering/deepen.py`). A run is given its words, files and input, and hands out what it writes. Each run has an instance of its own, so that
-// none sees what another left.
+// Runs the program, `cool`: a WebAssembly module that imports five functions of its host (`host.c`), and one that continues deep recursion
+// (`lowering/deepen.py`). A run takes its arguments, files and input, and passes on what it writes. Each run has a new instance of the module, so that
+// no state remains from an earlier run.
 //
-// All stands in one function that uses nothing from outside itself, so that the page can make a worker from its text.
+// The whole code is one function that uses nothing from outside itself, so that the page can make a worker from its text.
 "use strict";
 
 function coolProgram() {
-    // Numbers of errors, as the C library of Linux has them.
+    // Error numbers of the C library on Linux.
     const NO_ENTRY = 2, IO_ERROR = 5, BAD_FILE = 9, IS_FOLDER = 21, NO_SPACE = 28;
     const FIRST_FILE = 3;
 
-    // Thrown by what a run is given, to end it.
+    // The functions that a run is given throw Stopped to end it.
     class Stopped extends Error {}
 
-    // What the module asks of its host, for one run. Addresses and lengths come as BigInts.
+    // The functions that the module imports, for one run. Addresses and lengths are BigInts.
     class Host {
         constructor(of) {
             this.of = of;
@@ -21,7 +21,7 @@ function coolProgram() {
             this.opened = [];
         }
 
-        // The memory's bytes from an address on. The memory moves as it grows, so that they are asked for anew each time.
+        // The bytes of the memory from an address on. Call it again after each call of the module, because the buffer changes when the memory grows.
         bytes(address, length) {
             return new Uint8Array(this.exports.memory.buffer, Number(address), length);
         }
@@ -70,7 +70,7 @@ function coolProgram() {
             return word.length > Number(most) ? -2n : this.put(address, word);
         }
 
-        // On a stack of its own where the module may wait; that which asks is left before the next begins.
+        // Continues deep recursion. If the module can wait, the call runs on a new stack, and the calling stack is left before.
         deeper(number, at) {
             if (!canSuspend()) return this.exports.cool_enter(number, at);
             return Promise.resolve().then(() => WebAssembly.promising(this.exports.cool_enter)(number, at));
@@ -89,24 +89,24 @@ function coolProgram() {
         }
     }
 
-    // Runs the program once, and answers a promise of its status. `of` has:
-    //   words    the words of the command line, after the program's own name
-    //   file     (name) => bytes, "folder", or undefined where there is no such file
-    //   input    (most) => bytes, none of them at the end; or a promise of them, where canSuspend()
-    //   write    (1 for output or 2 for notes, bytes) => nothing, or false where the write fails
-    // `input` and `write` may throw Stopped, which ends the run.
+    // Runs the program once, and returns a promise of its status. `of` has:
+    //   words    the arguments of the command line, after the program's name
+    //   file     (name) => bytes, "folder", or undefined if there is no such file
+    //   input    (most) => at most so many bytes, none of them at the end; or a promise of them if canSuspend()
+    //   write    (1 for output or 2 for notes, bytes) => undefined, or false if the write fails
+    // `input` and `write` may throw Stopped to end the run.
     async function run(module, of) {
         const host = new Host(of);
         host.exports = new WebAssembly.Instance(module, { host: host.imports() }).exports;
         const main = host.exports.cool_main;
-        // What may wait has a stack of its own, which is larger than a worker's.
+        // A function that can wait gets a stack that is larger than a worker's.
         return canSuspend() ? WebAssembly.promising(main)() : main();
     }
 
     const canSuspend = () => "Suspending" in WebAssembly;
 
-    // Has the engine compile the machine's loops well, for it goes on with code that it made in haste as long as a loop turns that began so.
-    // To be called once, in a worker that has nothing else to do. It takes some milliseconds.
+    // Makes the engine compile the machine's loops with optimizations. Without this call, a loop that began in unoptimized code stays in it.
+    // Call it once, in a worker that has nothing else to do. It takes some milliseconds.
     async function warm(module) {
         const texts = {
             "warm.cl": "class Main { i : Int; main() : Object { while i < 3000 loop i <- i + 1 pool }; };",
@@ -116,7 +116,7 @@ function coolProgram() {
         await run(module, { words: ["debug", "script", "warm.cl"], file, input: () => new Uint8Array(0), write() {} });
     }
 
-    // Unpacks the text of module.js and answers a promise of the module. Where the browser cannot, it fails with a line that says so.
+    // Unpacks the text of module.js and returns a promise of the module. It fails with an explanation if the browser lacks a feature for this.
     async function load(text) {
         try {
             const zipped = Uint8Array.from(atob(text), (it) => it.charCodeAt(0));
@@ -127,7 +127,7 @@ function coolProgram() {
         }
     }
 
-    // Why an engine ended a run, in a line. Engines tell an exhausted stack by a message alone, each by its own.
+    // The reason why an engine ended a run, in a line. An engine reports an exhausted stack only by the message of an error, and messages differ.
     function why(error) {
         if (/call stack|too much recursion|stack overflow/i.test(error.message)) return "nested too deep for this browser's stack";
         if (/memory/i.test(error.message) && error instanceof RangeError) return "this browser has no memory left for a run";

@@ -1,4 +1,4 @@
-// A worker of the page: it runs the program, `cool`, once at a time. A run that is stopped ends with its worker, and the next one has a new worker.
+// Starts the page's worker, which executes one run of the program `cool` at a time. To stop a run the page ends the worker. The next run starts a new one.
 "use strict";
 
 const { load, canSuspend } = coolProgram();
@@ -14,17 +14,17 @@ let compiledModule;
 class Runner {
     jobs = 0;
 
-    // Over the module that `module` gives when it is needed.
+    // Takes a function that returns the module. It is called when a worker is started.
     constructor(module = () => compiledModule) {
         this.module = module;
     }
 
-    // Runs the program with these words over `files`, a map of names to bytes. `more` may have
+    // Runs the program with these arguments. `files` maps names to bytes. `more` may have
     //   input       the bytes that are given beforehand
-    //   asks        whether lines are asked for behind them, by `wantsInput`, and given by `give`
-    //   pieces      called with what the run writes, as it comes: { to: 1 for output or 2 for notes, bytes }
-    //   notes       how many notes are wanted: the run ends after the last of them, and the answer has `notes` and `output` as texts
-    // It answers { status, stopped, broken, killed, time }: the one that tells how the run ended, and the milliseconds that it took.
+    //   asks        whether the run asks for lines behind them, by `wantsInput`, which `give` answers
+    //   pieces      called with each piece of output: { to: 1 for output or 2 for notes, bytes }
+    //   notes       how many notes are wanted: the run ends after the last of them, and the result has `notes` and `output` as texts
+    // It returns a promise of the result: `time` in milliseconds, and one of { status, stopped, broken, killed }, which says how the run ended.
     run(words, files, more = {}) {
         this.stop();
         this.worker ??= this.made();
@@ -50,13 +50,13 @@ class Runner {
         return worker;
     }
 
-    // Has the engine compile the program well, which it does once for all workers.
+    // Makes the engine compile the program with optimizations, once for all workers.
     warm() {
         this.worker ??= this.made();
         this.worker.postMessage({ warm: true });
     }
 
-    // Gives the run that asked for input these bytes, or null for the end of the input.
+    // Gives these bytes to the run that asked for input, or null at the end of the input.
     give(line) {
         this.worker.postMessage({ line });
     }
@@ -65,7 +65,7 @@ class Runner {
         return this.answer !== undefined;
     }
 
-    // Ends a run that goes on; it answers { killed: true }.
+    // Ends the current run. Its promise gets { killed: true }.
     stop() {
         if (!this.runs) return;
         this.worker.terminate();
@@ -76,7 +76,7 @@ class Runner {
     }
 }
 
-// How a run ended, in words; undefined where it was killed or stopped after the last note that was wanted.
+// A text that says how a run ended. It is undefined if the run was killed, or stopped after the last wanted note.
 function endWords(came) {
     if (came.broken !== undefined) return came.broken;
     return came.status === undefined ? undefined : STATUSES[came.status];

@@ -1,10 +1,10 @@
-// Finds the errors of a large program by a `session` (docs/session.md), which checks again only the edited features. It runs in a worker of its own, if
-// WebAssembly may wait for input. Otherwise, and if it has no answer, faults.js calls `check`.
+// Finds the errors of a large program by a `session` (docs/session.md), which checks only the edited features again. The session runs in a separate worker
+// if WebAssembly may wait for input. Otherwise, and if the session has no answer, faults.js calls `check`.
 "use strict";
 
-// A program of fewer letters is checked as fast anew.
+// The least number of characters for which a session is faster than a new check.
 const LEAST_LETTERS = 16_384, LEAST_PIECE = 4096, MOST_PIECES = 32;
-// A session that ended so often without a reply is not begun again.
+// The number of times that a session may end without a reply. After that, no session is started.
 const MOST_ENDS = 5;
 
 class Session {
@@ -13,7 +13,7 @@ class Session {
     ends = 0;
     waits = false;
 
-    // The faults of the files, or undefined where others must find them: where it is not ready, or the files are too many or too large.
+    // The faults of the files. The promise is of undefined if the session is not ready, or the files are too many or too large; then the caller runs `check`.
     async faults(all) {
         const letters = all.reduce((sum, it) => sum + it.text.length, 0);
         if (!canSuspend() || letters < LEAST_LETTERS || this.ends === MOST_ENDS) return undefined;
@@ -31,7 +31,7 @@ class Session {
         this.runner.run(["session"], new Map(), { asks: true, pieces, wantsInput: () => this.heard() }).then(() => this.over());
     }
 
-    // It has taken all that it was sent, and said all.
+    // Called when the session waits for input: it has read all commands and written its whole reply.
     heard() {
         this.waits = true;
         if (this.answer) (this.ends = 0), this.answer(this.said);
@@ -46,14 +46,14 @@ class Session {
         this.answer = undefined;
     }
 
-    // A promise of its reply to these commands and a check; of undefined where it ends.
+    // Sends these commands and a check. It returns a promise of the reply, or of undefined if the session ends.
     ask(commands) {
         this.waits = false;
         this.runner.give(encode(`${commands}check\n`));
         return new Promise((answer) => (this.answer = answer));
     }
 
-    // The faults of a reply, each in its file and at its line there.
+    // The faults of a reply, each with its file and its line in the file.
     placed(reply, pieces) {
         if (reply === undefined) return undefined;
         const { keys } = this.held;

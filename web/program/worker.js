@@ -1,12 +1,12 @@
-// The code of a worker of the page: it runs the program as a message says, and posts the results. It stands in one function that uses
-// nothing from outside itself but `coolProgram`, so that the page can make a worker from the texts of both.
+// The code of a worker of the page: it runs the program as a message says, and posts the results. The whole code is one function that uses
+// only `coolProgram` from outside itself, so that the page can make a worker from the texts of both.
 "use strict";
 
 function coolWorker() {
     const { run, warm, why, Stopped, canSuspend } = coolProgram();
-    // Output is posted in pieces of at least so many bytes, or after so many milliseconds.
+    // Output is posted in pieces of at least this number of bytes, or after this number of milliseconds.
     const PIECE_BYTES = 65536, PIECE_TIME = 50;
-    // A write past this many bytes of output and notes fails, and the run ends with status 8. Where notes are wanted the last output is kept alone.
+    // A write past this many bytes of output and notes fails, and the run ends with status 8. If notes are wanted, only the last output is kept.
     const MOST_BYTES = 8 << 20, KEPT_BYTES = 16384;
 
     let module;
@@ -14,7 +14,7 @@ function coolWorker() {
 
     class WantsInput extends Stopped {}
 
-    // Holds what a run writes until a piece is due. A note is a piece of its own, and writes of output that follow one another are one.
+    // Collects the output of a run into pieces. Each note is one piece, and consecutive writes of output are joined to one piece.
     class Pieces {
         constructor(post) {
             this.post = post;
@@ -24,7 +24,7 @@ function coolWorker() {
             this.last = performance.now();
         }
 
-        // The run begins anew: its next writes are those that were added before.
+        // Begins the run again. The run repeats its earlier writes, which `add` then ignores.
         again() {
             this.known = Math.max(this.known, this.writes);
             this.writes = 0;
@@ -64,7 +64,7 @@ function coolWorker() {
         }
     }
 
-    // Holds the notes up to the last one that is wanted, and the last part of the output before it.
+    // Keeps the notes up to the last one that is wanted, and the last part of the output before it.
     class Notes {
         constructor(wanted) {
             this.wanted = wanted;
@@ -107,14 +107,14 @@ function coolWorker() {
         return both;
     };
 
-    // Waits for a line from the page: bytes, or null at the end of the input.
+    // Asks the page for a line, and returns a promise of bytes, or of null at the end of the input.
     function asked(post, taker) {
         taker.flush();
         post({ wants: "input" });
         return new Promise((answer) => (answerInput = answer));
     }
 
-    // One run, and how it ended. Past the input that it is given it asks, where the module can wait, and else throws WantsInput.
+    // Executes one run and returns a promise of its status. If the given input is used up, it asks for a line, or throws WantsInput if the module cannot wait.
     function once(job, post, taker) {
         let left = job.input;
         const given = (most) => {
@@ -134,7 +134,7 @@ function coolWorker() {
         return run(module, { words: job.words, file: (name) => job.files.get(name), input, write: (to, bytes) => taker.add(to, bytes) });
     }
 
-    // Where the module cannot wait for a line, the run is ended for it and begun anew with it, since a run is the same each time.
+    // Executes a job. If the module cannot wait for a line, the run ends, and starts again with the line. Each run with the same input is the same.
     async function start(job) {
         const post = (it) => self.postMessage({ job: job.job, ...it });
         const taker = job.notes === undefined ? new Pieces(post) : new Notes(job.notes);

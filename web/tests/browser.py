@@ -8,11 +8,11 @@ SLOW_START = 300
 
 
 class Failed(Exception):
-    """What is not as it should be."""
+    """A test found a wrong result."""
 
 
 class Missing(Exception):
-    """What this browser cannot do for a test."""
+    """This browser lacks a feature that a test needs."""
 
 
 def found(kind):

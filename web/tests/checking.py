@@ -13,7 +13,7 @@ def without_main(*names):
 FILES = [("main.cl", example("life.cl") + "\n" + without_main("shapes", "cipher", "guess", "list")),
          ("é 2.cl", without_main("interpreter", "bank", "factorials", "polynomials")), ("three.cl", without_main("tree", "words", "calculator"))]
 
-# What a test does in the page: edits, after which the faults that the page shows are compared with those of a check.
+# The test's script in the page. It makes edits. After each, it compares the errors that the page shows with those of a check.
 EDITS = r"""
     let seed = SEED, bySession = 0, compared = 0;
     const below = (most) => {

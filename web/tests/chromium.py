@@ -102,7 +102,7 @@ class Chromium:
         self.call("DOM.setFileInputFiles", nodeId=node, files=files)
 
     def tree(self):
-        """What a screen reader is told: pairs of a role and a name."""
+        """The tree of a screen reader: pairs of a role and a name."""
         nodes = self.call("Accessibility.getFullAXTree")["nodes"]
         return [(it["role"]["value"], it.get("name", {}).get("value")) for it in nodes if not it["ignored"] and "role" in it]
 

@@ -42,12 +42,12 @@ def stand_in(page, lines, *files, status=1, delay=0):
 
 
 def details(page, number):
-    """What stands below a fault."""
+    """The items below an error in the list."""
     return page.run(f"return [...at('faults').children[{number}].children].slice(1).map((it) => [it.className, it.textContent]);")
 
 
 def underlined(page):
-    """What is marked in each line of the text as wrong, and as odd."""
+    """The texts that are marked in each line as wrong, and as odd."""
     found = """
         const marked = (line, kind) => [...line.querySelectorAll(`.${kind}`)].map((it) => it.textContent).join("");
         return ["wrong", "odd"].map((kind) => [...document.querySelectorAll("#paint .line")].map((it) => marked(it, kind)).filter((it) => it !== ""));

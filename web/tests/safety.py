@@ -88,5 +88,5 @@ def keyboard(page):
 
 @test("is quiet: no script threw, and the browser complains of nothing")
 def quiet(page):
-    # What the policy refused above may be told late.
+    # A refusal of the policy above may be reported late.
     same([it for it in page.browser.complaints if "example.invalid" not in it], [])

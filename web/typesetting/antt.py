@@ -1,7 +1,7 @@
-"""Definitions of files of specs/ as trees: what `web/rules` typesets.
+"""Parses definitions of files of specs/ into trees, which `web/rules` typesets.
 
-A tree is a tuple: its kind, and its parts. Of the syntax of antt it reads what definitions are written with; a text that it does not understand stops it with
-the file and the line, so that nothing is left out silently.
+A tree is a tuple of its kind and its parts. The parser knows the syntax of antt that definitions use. If it does not understand a text, it stops with the
+file and the line, so that no text is left out silently.
 
     ("var", name)  ("num", text)  ("str", text)  ("app", head, [arguments])  ("op", sign, left, right)  ("get", tree, field)
     ("all", [(name, type)], body)  ("some", [(name, type)], body)  ("fun", [names], body)  ("if", test, first, second)
@@ -17,7 +17,7 @@ TOKEN = re.compile(
     r'[ \t]+|--[^\n]*|\n|(?P<str>"(?:[^"\\\n]|\\.)*")|(?P<num>\d+)|(?P<word>' + WORD + r"|_|⊥|\[\])"
     r"|(?P<sign>>>=|>>|\+\+|\+ℤ|-ℤ|\*ℤ|\|\||&&|==|[(){};:=,.λ→×⊎≡≢≤<∷←+*/^%-])"
 )
-# How tightly signs bind, and to which side.
+# Operators with their precedence and associativity.
 SIGNS = {
     "→": (1, "r"), "×": (2, "r"), "⊎": (2, "r"), "≡": (4, "n"), "≢": (4, "n"), "≤": (4, "n"), "<": (4, "n"), "||": (5, "r"), "&&": (6, "r"), "==": (7, "n"),
     ">>=": (3, "l"), ">>": (3, "l"), "∷": (8, "r"), "++": (8, "r"), "+": (9, "l"), "-": (9, "l"), "+ℤ": (9, "l"), "-ℤ": (9, "l"), "*": (10, "l"),
@@ -33,7 +33,7 @@ class Unread(Exception):
 
 
 class Tokens:
-    """The tokens of a text, each with its kind, line and column; a do-block ends where a line begins left of it."""
+    """The tokens of a text, each with its kind, line and column. A do-block ends at a line that begins left of it."""
 
     def __init__(self, text, line, column=0):
         self.all, at, begin, fresh = [], 0, -column, True
@@ -50,7 +50,7 @@ class Tokens:
         self.at, self.margins = 0, [-1]
 
     def peek(self):
-        """The kind and the text of the next token; none where the block that is read ends."""
+        """The kind and the text of the next token, or (None, None) at the end of the block that is read."""
         if self.at >= len(self.all):
             return None, None
         kind, text, _, column, fresh = self.all[self.at]
@@ -72,7 +72,7 @@ class Tokens:
 
 
 class Reader:
-    """Reads trees. `modules` are the names that files are imported under, as `trees`."""
+    """Reads trees. `modules` has the names under which files are imported, as `trees`."""
 
     def __init__(self, tokens, modules):
         self.tokens, self.modules = tokens, modules
@@ -88,7 +88,7 @@ class Reader:
             left = ("op", sign, left, self.tree(strength - (side == "r")))
 
     def binder(self):
-        """`(x y : T) × ..` and `(x : T) → ..`, `{X : T} → ..`"""
+        """Reads a binder: `(x y : T) × ..`, `(x : T) → ..` or `{X : T} → ..`."""
         here = self.tokens.at
         close = {"(": ")", "{": "}"}.get(self.tokens.peek()[1])
         if not close:
@@ -230,9 +230,10 @@ class Reader:
 
 
 class Item:
-    """A definition: its name, kind (`abbrev`, `data` or `record`), comment, text, line, and what it has.
+    """A definition: its name, kind (`abbrev`, `data` or `record`), comment, text, line, and its rows or parts.
 
-    An abbrev has rows, each (patterns, tree, line), or one without patterns; data has constructors and a record fields, each (name, type, comment, line)."""
+    The rows of an abbrev are (patterns, tree, line, source), with several patterns or none. The parts are the constructors of a data type or the fields of a
+    record, each (name, type, comment, line)."""
 
     def __init__(self, file, name, kind, comment, line, type_, params):
         self.file, self.name, self.kind, self.comment, self.line, self.type, self.params = file, name, kind, comment, line, type_, params
@@ -240,7 +241,7 @@ class Item:
 
 
 class File:
-    """The definitions of a file, by name, without its worked examples."""
+    """The definitions of a file by name, without its worked examples."""
 
     def __init__(self, path):
         self.path = path
@@ -255,7 +256,7 @@ class File:
             sys.exit("web/rules: %s: %s" % (path, fault))
 
     def take(self, lines):
-        """Takes the logical lines: one with all lines below it that are indented more."""
+        """Takes the logical lines. A logical line is a line with the lines below it that are indented more."""
         comment, item, block, shift = [], None, None, 0
         for number, line in logical(lines):
             stripped = line.strip()
@@ -328,7 +329,7 @@ class File:
 
 
 def logical(lines):
-    """Each line with those below it that go on with it, with its number."""
+    """Joins each line with the lines below that continue it. It yields them with their numbers."""
     at = 0
     while at < len(lines):
         begin, number = lines[at], at + 1
@@ -354,7 +355,7 @@ def top_colon(text):
 
 
 def split_row(line):
-    """The two sides of the first `=` that stands in no parentheses."""
+    """The two sides of the first `=` outside of parentheses."""
     depth = 0
     for at, letter in enumerate(line):
         depth += (letter in "({[") - (letter in ")}]")

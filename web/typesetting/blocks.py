@@ -1,9 +1,9 @@
-"""The rule of a block, as in the manual: e₁ to eₙ in order. The definition has rows for no item and for an item before others; this module checks that they
-say the same."""
+"""The rule of a block, as in the manual: e₁ to eₙ in order. The definition has rows for no item and for an item before others. This module checks that both
+forms say the same."""
 from inference import Rule
 from terms import app, head_of, var
 
-BETWEEN = var("⊢…")  # what stands between the first premise and the last one
+BETWEEN = var("⊢…")  # stands for the premises between the first and the last
 WRITTEN = {"e1": "e₁", "en": "eₙ", "t1": "T₁", "tn": "Tₙ", "v1": "v₁", "vn": "vₙ", "state0": "S", "state1": "S₁", "state98": "Sₙ₋₁", "state99": "Sₙ"}
 
 
@@ -14,13 +14,13 @@ def told(rule, premises, conclusion):
 
 
 def with_items(rule, at):
-    """The block of the conclusion of a rule, at this place of its arguments."""
+    """The block of the conclusion of a rule, which is its argument `at`."""
     block = head_of(rule.conclusion)[1][at]
     return app("trees.Block", head_of(block)[1][0], var("es"))
 
 
 def of_types(relations, rule):
-    """The type rule of a block: that of its last item."""
+    """The type rule of a block. The type is that of its last item."""
     none, more = relations.rules("HaveItems")
     p, c, scope, before, _, type_ = head_of(none.conclusion)[1]
     assert before == type_ and not none.premises, "HaveItems is not what blocks.py says"

@@ -11,7 +11,7 @@ from sorts import Sorts
 
 
 def rows_of_faults(name, file, more):
-    """The rows of a kind of faults, each a rule whose conclusion is the fault and its place."""
+    """The rules of a kind of errors. The conclusion of each rule is the error and its place."""
     items = sections.loaded("cool_classes/Names", "cool_classes/Chains", "cool_classes/Features", *more, file)
     rules = sections.Rules("classes", {**notation.CLASSES, **sections.constants()}, items, Sorts(items))
     found, said = {}, ""
@@ -26,7 +26,7 @@ def rows_of_faults(name, file, more):
 
 
 def expressions(typing, running):
-    """A card for each form of expression: its type rules and its rules of evaluation, a program, and the faults."""
+    """A card for each form of expression: its type rules and its rules of evaluation, a program, and the errors."""
     typed, run = typing.entries("HasType"), running.entries("eval")
     found = []
     for form, (heading, section, types, does, text, prints) in teaching.FORMS.items():
@@ -68,7 +68,7 @@ def row(*cells):
 
 
 def code(*texts):
-    """Program texts as pieces, with a blank between."""
+    """Program texts as pieces, with a blank between them."""
     found = []
     for text in texts:
         found += ([["", " "]] if found else []) + [["p", text]]
@@ -119,7 +119,7 @@ def syntax_section(signs):
 
 
 def judgements(entries):
-    """Rules without words of their own."""
+    """The entries of rules, without their names."""
     return [entry for _, entry in entries]
 
 
@@ -171,7 +171,7 @@ def words(typing, running):
 
 
 def page():
-    """The sections of the page in the order of the manual; the tables that are written by hand are compared with the definitions."""
+    """The sections of the page in the order of the manual. It compares the tables written by hand with the definitions."""
     typing, running = sections.Typing(), sections.Running()
     lexemes, signs = lexical_section()
     made = [classes(), types(typing), features(typing), forms(typing, running), parts(typing, running), basic(running), lexemes, syntax_section(signs)]

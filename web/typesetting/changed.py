@@ -1,5 +1,5 @@
-"""Rules of the page with one thing changed, to see whether a case finds it: a premise of a type rule left out, or the value or the state of a rule of
-evaluation."""
+"""Changes one thing in a rule of the page, to see whether a case finds the change: the script leaves out a premise of a type rule, or changes the value or
+the state of a rule of evaluation."""
 import cool_text
 import notation
 import sections
@@ -7,7 +7,7 @@ import trials
 from terms import app, head_of, var
 
 
-# Changes that change nothing, since what is left out follows from the rest; by the form, and the premise or the change.
+# Changes that have no effect, because the omitted premise follows from the rest. The key is the form, and the premise or the change.
 FOLLOWS = {
     ("trees.Id", "name ≢ codes ?"): "no variable is named self",
     ("trees.Assign", "IsNotSelf name"): "no variable is named self",
@@ -26,7 +26,7 @@ def told(rule):
 
 
 def premise_words(premise):
-    """A premise by the names of the definitions, for a list of changes."""
+    """A premise as text, with the names of the definitions, for a list of changes."""
     head, given = head_of(premise)
     if premise[0] == "op":
         return "%s %s %s" % (premise_words(premise[2]), premise[1], premise_words(premise[3]))
@@ -37,13 +37,13 @@ def premise_words(premise):
 
 
 def follows(rule, what):
-    """Why no case can find a change, or None."""
+    """The reason why no case can find a change, or None."""
     why = FOLLOWS.get((sections.form_of(rule) or rule.item.name, what))
     return why and "no case can find it: " + why
 
 
 class Types:
-    """Changes of type rules: each premise need not hold; or what it finds is Object."""
+    """Changes of type rules: a premise is ignored, or it finds the type Object."""
 
     def __init__(self, typer, cases):
         self.typer, self.cases = typer, []
@@ -56,7 +56,7 @@ class Types:
                 self.cases.append((case, table, kept, self.typer.matched))
 
     def changes(self):
-        """Each rule, the premise and how it is changed, with the first case that finds it, or None."""
+        """Yields each rule, the premise and its change, with the first case that finds the change, or None."""
         for rules in self.typer.rules.values():
             for rule in rules:
                 for at, premise in enumerate(rule.premises):
@@ -68,7 +68,7 @@ class Types:
         known = {}
         try:
             return bool(self.typer.assumed(premise, known))
-        except (LookupError, TypeError):  # several types, of which there are as many as parts
+        except (LookupError, TypeError):  # a list of types, whose length is the number of parts
             return False
 
     def found(self, rule, at, always):
@@ -89,7 +89,7 @@ class Types:
 
 
 class Runs:
-    """Changes of rules of evaluation: void in place of the value or of the error, and the state before the last in place of the last."""
+    """Changes of rules of evaluation: void replaces the value or the error, or the state before the last one replaces the last one."""
 
     def __init__(self, trial):
         self.machine, self.used = trial.machine, trial.ran

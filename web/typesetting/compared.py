@@ -1,4 +1,4 @@
-"""Compares the tables that are written by hand, the notation and the errors, with the definitions."""
+"""Compares the tables written by hand, of the notation and of the errors, with the definitions."""
 import pathlib
 import re
 import sys
@@ -13,7 +13,7 @@ def texts_of(pieces):
 
 
 def forms_read(items, pieces_of):
-    """The signs and words of each form of an expression, as `Readings.antt` reads it, with what stands in it once."""
+    """The signs and words of each form of an expression, as `Readings.antt` reads it, with each repeated part once."""
     inner = {"unary_token", "callee_reading", "prefix_reading", "binding_reading", "variable_reading"}
     found = set()
 
@@ -49,7 +49,7 @@ def forms_differ(items, pieces_of):
 
 
 def kinds_differ(made, typing):
-    """The forms at whose premises other kinds of faults stand than the checker's definition gives the form."""
+    """The forms whose premises have other kinds of errors than the checker's definition gives the form."""
     told = []
     branches = {kind for section in made for it in section["entries"] if it["kind"] == "rule" and it["name"] == "Types of branches" for x in it["premises"]
         for kind in x.get("faults", ())}
@@ -67,18 +67,18 @@ def kinds_differ(made, typing):
     return told
 
 
-# Names of the notation that the writer looks up in another way than by the name of a call.
+# Names of the notation that the writer finds without a call of this name.
 WRITTEN_APART = {"has_values", "line_of", "⊢error"}
 
 
 def unused(*rules):
-    """The names of the notation that no rule has; of each kind of rules its table is compared with what was written."""
+    """The names of the notation that no rule uses. Each table is compared with the names used by the rules of its kind."""
     tables = {"typing": notation.TYPING, "running": notation.RUNNING}
     return sorted(name for it in rules for name in tables[it.kind] if name not in it.used | WRITTEN_APART)
 
 
 def not_reached(shown):
-    """The definitions of these, each a file and a name, on which the headline of `run` does not rest."""
+    """The definitions on which the headline of `run` does not depend. Each of those given is a file and a name."""
     sys.path.insert(0, str(pathlib.Path(__file__).resolve().parent.parent.parent / "tools"))
     from sources import HEADLINE, Definitions, listed
 

@@ -1,18 +1,18 @@
 """Makes rules from a computation of `cool_meaning`: each path through it is a rule, whose premises are the computations on the path.
 
-A state is passed on from step to step, as S, S1 and so on. The meters (cost counters) are left out, since they change no value, and so are paths that end
-in `stuck`."""
+Each step passes a state to the next, as S, S1 and so on. The meters (cost counters) are left out, because they change no value. Paths that end in `stuck`
+are left out too."""
 from inference import Rule, bound_in
 from terms import app, fresh_names, head_of, is_constructor, is_variable, matched, names_in, put, renamed, var
 
-# What passes a computation on, at which place.
+# Functions that only pass a computation on, with the position of that argument.
 METERS = {"rule": 0, "spend": 0, "working": 1, "holding": 1, "giving": 1}
-# Computations that are judgements of their own, with the arguments that are said of them.
+# Computations that have separate judgements.
 JUDGED = {"eval", "eval_all", "eval_items", "basic", "run_initials", "take_line"}
 
 
 class Way:
-    """A way through a computation, as far as it went."""
+    """A path through a computation, up to some step."""
 
     def __init__(self, premises=(), put_in=None, marks=(), state=0, taken=()):
         self.premises, self.put_in, self.marks, self.state, self.taken = list(premises), dict(put_in or {}), list(marks), state, set(taken)
@@ -72,7 +72,7 @@ class Computations:
         return tree
 
     def ways(self, tree, way, wanted="v"):
-        """The ways through a computation; a value that is new gets this name."""
+        """The paths through a computation. A new value gets the name `wanted`."""
         tree = put(tree, way.put_in)
         if tree[0] == "do":
             return self.steps(tree[1], way)
@@ -134,7 +134,7 @@ class Computations:
             return yes + self.ways(tree[3], way.more(("op", "≢", given[0], given[1])), wanted)
         return self.ways(tree[2], way.more(app("is", test)), wanted) + self.ways(tree[3], way.more(app("is_not", test)), wanted)
 
-    # What a computation is made of.
+    # Paths through each function from which computations are built.
 
     def on_give(self, given, way, wanted):
         return [way.gives(given[0])]
@@ -189,7 +189,7 @@ class Computations:
         return [way.more(app("⊢" + head, *given, state(way.state), value, state(way.state + 1)), steps=1).gives(value)]
 
     def on_class_or(self, given, way, wanted):
-        """Its rows but the first are all `given (class_of ..)`, which is looked at."""
+        """The rows of `class_or`. The method checks that all but the first have the form `given (class_of ..)`."""
         error, value = given
         rows = self.items["class_or"].rows
         assert rows[0][0][1] == var("Void") and head_of(rows[0][1])[0] == "stop", "class_or is not what on_class_or says"
@@ -203,7 +203,7 @@ class Computations:
         return [void, way.more(("op", "≡", app("class_of", value), app("Some", name))).gives(name)]
 
     def on_loop(self, given, way, wanted):
-        """`turns` with steps enough: a turn, and then the loop again."""
+        """The paths of `turns` with enough steps: a turn, and then the loop again."""
         test, body = given
         self.loop = given
         return self.unfolded("turns", [app("suc", var("k")), test, body], way, wanted)
@@ -215,14 +215,14 @@ class Computations:
         return [way.more(app("⊢eval", *head_of(test)[1][:-1], loop, state(way.state), value, state(way.state + 1)), steps=1).gives(value)]
 
     def on_calls(self, given, way, wanted):
-        """What `calls_within` does with a step left: `run_call`."""
+        """The paths of `calls_within` with a step left: those of `run_call`."""
         head, args = head_of(given[0])
         if head == "Initials":
             return self.judged("initials", args, way, wanted)
         return self.unfolded("run_call", [var("p"), var("calls"), given[0]], way, wanted)
 
     def on_take_branch(self, given, way, wanted):
-        """No branch of the classes above, or the nearest one, of which `branch_of` says what it does."""
+        """The paths of a branch: no branch is for a class of the chain, or the nearest one is taken, as `branch_of` says."""
         at, c, value, nearest = given
         _, args = head_of(nearest)
         branches = head_of(args[1])[1][-1]

@@ -1,4 +1,4 @@
-"""Cool programs as values of the definitions, for `web/rules-try`: trees as `Tree.antt` has them, and the classes of a table. It reads only legal
+"""Parses Cool programs into values of the definitions, for `web/rules-try`: trees as `Tree.antt` has them, and the classes of a table. It reads only legal
 programs."""
 import re
 
@@ -216,7 +216,7 @@ def trees(all_):
 
 
 def table(texts):
-    """The class table of the program of these files, as `Chains.antt` sees it."""
+    """The class table of the program of these files, in the form of `Chains.antt`."""
     own = [it for file, text in enumerate(texts) for it in Reader(text, file).classes()]
     numbers = {name: at for at, name in enumerate([*(name for name, _ in BASIC), *(name for name, *_ in own)])}
     number = {tuple(name): at for name, at in numbers.items()}

@@ -1,4 +1,4 @@
-"""Values of definitions: what a function of them gives, computed by its rows. By this tables are made of functions, as of `form`, by trying all bytes."""
+"""Computes values of functions of definitions by their rows. From these values come tables, as for `form`, by a call for each possible byte."""
 from terms import head_of, is_constructor
 
 BINARY = {
@@ -6,7 +6,7 @@ BINARY = {
         b: a // b,
     "==": lambda a, b: a == b, "&&": lambda a, b: a and b, "||": lambda a, b: a or b, "++": lambda a, b: a + b, "∷": lambda a, b: (a, *b),
 }  # fmt: skip
-# Functions of the kit's library, which stand in no file of the repository.
+# Functions of the kit's library, which no file of the repository defines.
 LIBRARY = {
     "nat_le": lambda a, b: a <= b,
     "nat_lt": lambda a, b: a < b,
@@ -25,7 +25,7 @@ ESCAPES = {"n": 10, "\\": 92, '"': 34, "t": 9}
 
 
 def _done(f, x):
-    """A function or a form of a value."""
+    """Applies a function, or a constructor, to one more argument."""
     return f(x) if callable(f) else (*f, x)
 
 
@@ -49,7 +49,7 @@ def codes(text):
 
 
 class Values:
-    """The values that the definitions of some files give. A form is a tuple of its name and its parts, a list a tuple, and a record a dict."""
+    """Computes values by the definitions of some files. A constructed value is a tuple of its name and its parts, a list a tuple, and a record a dict."""
 
     def __init__(self, items):
         self.items = items

@@ -22,7 +22,7 @@ FILES = (
 )  # fmt: skip
 
 
-# What of the arguments, beside the class table, tells what a function of it gives.
+# The arguments, besides the class table, that determine the result of a function of the class table.
 KEYS = {
     "chain": lambda p, c: c["0"],
     "attributes": lambda p, c: c["0"],
@@ -37,11 +37,11 @@ KEYS = {
 
 
 class TooLong(Exception):
-    """More judgements than are tried."""
+    """The run takes more judgements than are allowed."""
 
 
 class Stopped(Exception):
-    """A computation that ends by an error."""
+    """The computation ends with an error."""
 
     def __init__(self, error, state):
         self.error, self.state = error, state
@@ -65,7 +65,7 @@ class Numbers(Values):
     kept = {}
 
     def rows(self, name, given):
-        """As of Values; what is asked of a class table is kept, since it is asked again and again."""
+        """The result of a function by its rows. It keeps the results of functions of the class table, because they are needed again and again."""
         key = KEYS[name](*given) if name in KEYS and len(given) == KEYS[name].__code__.co_argcount else None
         if key is None:
             return super().rows(name, given)
@@ -95,7 +95,7 @@ class Machine:
         self.most = most
 
     def run(self, table, names, given):
-        """What the run of a program writes, and how it ended: 0, or 3 where by an error."""
+        """Runs a program. Returns its output and its status: 0, or 3 if it ended with an error."""
         self.table, self.left, self.values.kept = table, self.most, {}
         nowhere = {"file": 0, "line": 0, "byte": 0}
         main = self.values.of(("var", "main_call"), {"nowhere": nowhere})
@@ -108,7 +108,7 @@ class Machine:
         return bytes(state["output"] + text), status
 
     def judge(self, name, inputs):
-        """The value and the state to which a judgement leads, by the first rule that applies: of them no two do, which is looked at."""
+        """The value and the state of a judgement, by the first rule that applies. The method checks that at most one rule applies."""
         self.left -= 1
         if self.left < 0:
             raise TooLong
@@ -134,7 +134,7 @@ class Machine:
         return value, state
 
     def applied(self, rule, inputs, seen):
-        """What a rule concludes of these inputs, or None where it does not apply. What its premises asked stays in `seen`."""
+        """The conclusion of a rule for these inputs, or None if the rule does not apply. The results of its premises stay in `seen`."""
         head, given = head_of(rule.conclusion)
         known = {}
         if not all(self.values.takes(a, b, known) for a, b in zip(given[: len(inputs)], inputs)):
@@ -175,7 +175,7 @@ class Machine:
         return self.values.takes(right, value, known)
 
     def nearest(self, given, known):
-        """The branch of the first class of a chain that has one."""
+        """The branch for the first class of a chain that has one."""
         branches, chain = self.of(given[0], known), self.of(given[1], {**known, "p": self.table})
         for c in chain:
             it = branches

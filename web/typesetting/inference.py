@@ -1,7 +1,7 @@
-"""Rules of a relation that a definition gives by rows, by constructors, or as a record: their premises, and what follows."""
+"""Makes rules from a relation that a definition gives by rows, by constructors, or as a record: their premises, and the conclusion."""
 from terms import fresh_names, head_of, is_constructor, is_variable, matched, names_in, put, renamed, var
 
-# Types of what a rule is about; all else that a record asks for is a premise.
+# The types of the variables of a rule. All other fields of a record are premises.
 SORTS = {"MethodRef", "Ty", "ClassId", "List", "ℕ", "Class", "Tree", "Token", "Item"}
 
 
@@ -12,7 +12,7 @@ class Rule:
 
 
 def parts_of(tree, binders):
-    """The premises of a product; what is said to be there is added to the binders."""
+    """The premises of a product. Existential variables are added to the binders."""
     if tree[0] == "some":
         binders.update(tree[1])
         return parts_of(tree[2], binders)
@@ -22,13 +22,13 @@ def parts_of(tree, binders):
 
 
 class Relations:
-    """The definitions of some files; `unfolded` are those in whose place their own parts are put."""
+    """The definitions of some files. The definitions in `unfolded` are replaced by their parts."""
 
     def __init__(self, items, unfolded):
         self.items, self.unfolded = items, set(unfolded)
 
     def rules(self, name, split=()):
-        """The rules of the definition of this name; of the conditions `split` each side is a rule of its own."""
+        """The rules of the definition of this name. The sides of each condition in `split` become separate rules."""
         item = self.items[name]
         if item.kind == "data":
             return [self.of_constructor(item, part) for part in item.parts]
@@ -72,7 +72,7 @@ class Relations:
         return head_of(tree)[0] in SORTS
 
     def closed(self, conclusion, premises, binders, marks, item, line, source):
-        """The rules that these parts come to, once all is unfolded that is to be."""
+        """The rules that result after all definitions of `unfolded` are replaced."""
         due, found = [(conclusion, premises, binders, marks)], []
         while due:
             conclusion, premises, binders, marks = due.pop(0)
@@ -90,7 +90,7 @@ class Relations:
         return found
 
     def step(self, premise, premises, conclusion):
-        """What comes in the place of a premise: alternatives, each (premises, what variables are, binders, marks); None where it stays."""
+        """The replacements of a premise, each (premises, values of variables, binders, marks). It is None if the premise stays."""
         head, given = head_of(premise)
         if head == "Unit" or premise == var("Unit"):
             return [([], {}, {}, [])]
@@ -127,7 +127,7 @@ class Relations:
         return is_variable(tree, self.items)
 
     def may_stand(self, tree):
-        """Whether a tree is shown in the place of the variable that it is equal to: a form or a name, and no call but of `result_on`."""
+        """Whether a tree may replace the variable that it is equal to: a form, a name, or a call of `result_on`."""
         head, given = head_of(tree)
         return tree[0] in ("var", "get") or (head is not None and (is_constructor(head) or head in ("result_on",)))
 
@@ -161,7 +161,7 @@ class Relations:
         return found
 
     def sides(self, body, equal_to):
-        """The sides of conditions: (premises, what variables are, marks)."""
+        """The sides of conditions: (premises, values of variables, marks)."""
         if body[0] == "if":
             (head, given) = head_of(body[1])
             if head == "bytes_eq" and self.is_own(given[0]):
@@ -181,7 +181,7 @@ class Relations:
 
 
 def bound_in(tree):
-    """The names that a tree itself binds."""
+    """The names that the root of a tree binds."""
     found = set()
     if tree[0] in ("all", "some"):
         found |= {name for name, _ in tree[1]}

@@ -1,12 +1,12 @@
-"""The notation of definitions on the page: a table of their names, and the pieces that a tree becomes by it.
+"""The notation of definitions on the page: a table of their names, and the conversion of a tree to pieces.
 
-In a text of the table {0} is the first argument, {1_} the second one as an index, and what stands in ` is program text. A piece is [kind, text]: "v" a name
-that stands for something, "p" program text, "s" an index, "n" a name of the definitions, and "" the rest."""
+In a text of the table {0} is the first argument, {1_} the second one as an index, and text between grave accents is program text. A piece is [kind, text]. The
+kind is "v" for a variable, "p" for program text, "s" for an index, "n" for a name of the definitions, and "" for the rest."""
 import re
 
 from terms import head_of, is_constructor
 
-# Forms of expressions, as the grammar writes them (`Readings.antt`, which `forms.py` compares).
+# Forms of expressions, as the grammar writes them. `compared.py` compares them with `Readings.antt`.
 FORMS = {
     "trees.Id": "{1}",
     "trees.Int": "{1}",
@@ -166,7 +166,7 @@ CLASSES = {
     "here": "the name of C",
     "ds": "the classes above",
 }
-# Names of variables that are the same in all rules, and what is left out since it is the same everywhere: the class table and the calls.
+# Names of variables that are the same in all rules. LEFT_OUT has the arguments that are the same everywhere: the class table and the calls.
 SAME = {"typing": {"scope": "O", "c": "C"}, "running": {"self": "so", "env": "E"}, "classes": {}}
 LEFT_OUT = {"p", "calls"}
 SIGNS = {"≡": "=", "≢": "≠", "+ℤ": "+", "-ℤ": "−", "*ℤ": "·", "≤": "≤", "<": "<", "+": "+", "-": "−", "*": "·"}
@@ -182,7 +182,7 @@ class Unknown(Exception):
 
 
 def is_several(sort, name=""):
-    """Whether a variable of this type stands for several; names and strings are lists of bytes, and are written as one."""
+    """Whether a variable of this type stands for several values. Names and strings are lists of bytes, but are written as one value."""
     return sort in ("Trees", "Cases", "List Ty", "List Value", "List Located", "List AttributeRef",
         "List ClassId") or (sort == "List ℕ" and name.startswith("ls"))
 
@@ -194,7 +194,7 @@ class Writer:
         self.kind, self.table, self.errors, self.names, self.used, self.plain = kind, {**table, **FORMS}, errors or {}, {}, set(), set()
 
     def name_variables(self, sorts, order, form=None):
-        """Names by sorts: expressions are e, types T, states S, numbered in the order in which they stand. `form` is the form that the rule is of."""
+        """Chooses names by sorts: expressions are e, types T, states S, numbered in order of occurrence. `form` is the form that the rule is about."""
         self.names, groups = {}, {}
         for name in order:
             if name in SAME[self.kind] and name not in ("c",) or name == "c" and sorts.get("c") == "ClassId" and self.kind == "typing":
@@ -291,7 +291,7 @@ class Writer:
         return self.plain_call(head, given)
 
     def plain_call(self, head, given):
-        """A call of a name that the table does not have: its name with its arguments."""
+        """A call of a name that is not in the table: the name with its arguments."""
         args = [it for it in given if not (it[0] == "var" and it[1] in LEFT_OUT)]
         if not args:
             return [["n", head]]
@@ -315,7 +315,7 @@ class Writer:
         return found
 
     def hole(self, tree, how):
-        """An argument in a text: as an index, as items of a block, or as what something is named."""
+        """An argument in a text, in the way that `how` says: as an index, as items of a block, or as a name."""
         if how in ("n", "i") and tree[0] == "get" and tree[2] == "name":
             return [["", "as " if how == "n" else "the name of "], *self.written(tree[1])]
         pieces = self.written(tree)
@@ -341,7 +341,7 @@ class Writer:
         return [*self.written(left), ["", " %s " % SIGNS.get(sign, sign)], *self.written(right)]
 
     def update(self, sign, left, right):
-        """A scope or an environment with one name more, as O[T/x]."""
+        """A scope or an environment with one more name, as O[T/x]."""
         if sign == "∷" and left[0] == "record":
             fields = dict(left[2])
             return self.text("{2}[{1}/{0}]", [fields["name"], fields.get("location", fields.get("value")), right])
@@ -349,7 +349,7 @@ class Writer:
         return self.text("{2}[{1}/{0}]", [*given, right]) if sign == "++" and head == "located" else None
 
     def listing(self, sign, left, right):
-        """Something in front of others, or several behind several."""
+        """A list with elements added at its beginning, or two lists together."""
         if sign == "∷" and right == ("var", "[]"):
             return self.written(left)
         if sign == "∷":
@@ -359,7 +359,7 @@ class Writer:
         return [*self.written(left), ["", " then "], *self.written(right)] if sign == "++" else None
 
     def logical(self, sign, left, right):
-        """Implications, denials, and two statements together."""
+        """Implications, negations, conjunctions and disjunctions."""
         if sign == "→" and right == ("var", "⊥"):
             return [["", "not: "], *self.written(left)]
         words = {"→": " implies ", "×": " and ", "⊎": " or "}.get(sign)
@@ -401,7 +401,7 @@ class Writer:
 
 
 def joined(pieces):
-    """The pieces with neighbours of one kind as one."""
+    """The pieces, with adjacent ones of the same kind joined."""
     found = []
     for kind, text in pieces:
         if found and found[-1][0] == kind:

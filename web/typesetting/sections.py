@@ -17,7 +17,7 @@ DOCUMENT = (antt.ROOT / "docs" / "faults.md").read_text("utf-8")
 
 
 def loaded(*names):
-    """The definitions of these files, CRATE/FILE each."""
+    """The definitions of these files, each given as CRATE/FILE."""
     found = {}
     for name in names:
         found.update(antt.File(SPECS % tuple(name.split("/"))).items)
@@ -25,7 +25,7 @@ def loaded(*names):
 
 
 def order_of(trees, items):
-    """The variables of trees, in the order in which they stand."""
+    """The variables of trees, in order of occurrence."""
     found = []
 
     def walk(tree):
@@ -49,7 +49,7 @@ def form_of(rule):
     return None
 
 
-# The definitions that the page shows, each a file and a name: `compared.not_reached` looks whether the headline rests on each.
+# The definitions that the page shows, each a file and a name. `compared.not_reached` checks whether the headline depends on each.
 SHOWN_FROM = set()
 
 
@@ -60,7 +60,7 @@ def placed(item):
 
 
 def source_of(item, line, text):
-    """Where a rule stands, and how it is written there."""
+    """The place of a rule, and its text in the definition."""
     placed(item)
     whole = (antt.ROOT / item.file).read_text("utf-8").split("\n")
     if text is None:
@@ -74,7 +74,7 @@ def source_of(item, line, text):
 
 
 class Rules:
-    """Rules of one kind as entries of the page."""
+    """Makes entries of the page from rules of one kind."""
 
     def __init__(self, kind, table, items, sorts, errors=None):
         self.kind, self.table, self.items, self.sorts, self.errors, self.used, self.spoken = kind, table, items, sorts, errors, set(), set()
@@ -107,7 +107,7 @@ def asked(premise, rule):
 
 
 def title(name):
-    """`other_signature` as words, `StaticDispatch` too."""
+    """A name such as `other_signature` or `StaticDispatch` as words."""
     words = re.sub(r"(?<=[a-z])(?=[A-Z])", " ", name.split(".")[-1]).replace("_", " ").lower()
     return words[:1].upper() + words[1:]
 
@@ -123,13 +123,13 @@ def constants():
 
 
 def fault_words(kind):
-    """The words of a kind of fault, and what mends it, as docs/faults.md has them."""
+    """The words of a kind of error, and the advice for it, from docs/faults.md."""
     row = re.search(r"(?m)^\| `%s: ([^`]*)` \| .* \| (.*) \|$" % kind, DOCUMENT)
     return {"kind": kind, "words": row[1], "mend": row[2]}
 
 
 def broken(kind, form=None):
-    """The smallest program with a fault, of a form where it has one of its own, and what is said of it."""
+    """The smallest program with an error of this kind, for this form if it has a separate one, and its message."""
     own = teaching.BROKEN.get((form, kind))
     if own:
         told = fault_words(kind)
@@ -146,14 +146,14 @@ SHOWN = {"HasType", "HaveTypes", "HaveItems", "HaveBranches", "Conforms", "Below
 STANDS = {"List Class": "p", "ClassId": "c", "List Binding": "scope", "Tree": "e", "Ty": "t", "List ℕ": "name", "Environment": "env", "Value": "v", "ℤ": "n",
     "Cases": "cs", "ℕ": "k", "MethodRef": "method", "List (List ℕ)": "formals", "List (Bound T)": "scope", "List ClassId": "ds",
     "List AttributeRef": "attributes", "List Ty": "ts"}
-# Functions to which rules give other arguments than their definitions have, with the types of these.
+# The types of arguments of functions, if rules give other arguments than the definition has.
 GIVEN = {"nearest": ("Cases", "List ClassId"), "line_of": ("State",)}
-# Functions that judgements of the table stand for.
+# The function that a judgement of the table represents.
 BEHIND = {"⊢take_line": "line_of"}
 
 
 def is_meant(name, item, rules):
-    """Whether the page tells what a name of rules means: a function that is written with arguments, or a condition."""
+    """Whether the page explains a name of rules: a function that is written with arguments, or a condition."""
     if not item or name in SHOWN or name not in rules.table or item.kind not in ("abbrev", "record", "data"):
         return False
     return ("{" in rules.table[name] or name in notation.HOLDS) and rules.table[name] != "{0}" and bool(item.comment or item.rows)
@@ -170,7 +170,7 @@ def arguments(name, item):
 
 
 def meant(rules, more):
-    """What the words of rules mean: how each is written, what the definition's comment says of it, and its rows."""
+    """The meanings of the words of rules: the notation of each, the comment of the definition, and its rows."""
     items = {**more, **rules.items}
     found = []
     for name in sorted({BEHIND.get(it, it) for it in rules.used}):
@@ -188,7 +188,7 @@ def meant(rules, more):
 
 
 class Typing:
-    """The rules of types, form by form, with the faults that come where a premise does not hold."""
+    """The type rules, form by form, with the errors that occur if a premise does not hold."""
 
     UNFOLDED = ("HasInit", "AreComparable", "type_in_scope", "IsCall", "FitsDeclared", "IsTypedInit")
 
@@ -215,7 +215,7 @@ class Typing:
         return found
 
     def mark(self, entry, rule, form):
-        """Puts the kinds of faults beside the premises that they come of."""
+        """Adds the kinds of errors to the premises that cause them."""
         for kind, places in teaching.BREAKS.items():
             for where, head, which in places:
                 if where == form:
@@ -240,7 +240,7 @@ class Typing:
         return name == head
 
     def kinds_of(self, form):
-        """The kinds of faults that the row of a form leads to, by `FirstFaults.antt`."""
+        """The kinds of errors that the row of a form leads to, by `FirstFaults.antt`."""
         found, due, seen = set(), set(), set()
         for patterns, body, *_ in self.first["checked"].rows:
             if head_of(patterns[-1])[0] == form:
@@ -290,13 +290,13 @@ class Running:
         return found
 
     def number(self, premise):
-        """The class that a premise says it is."""
+        """The class in a premise about the number of a class."""
         name, given = head_of(premise)
         return given[0][3] if name == "is" and given[0][0] == "op" and given[0][1] == "==" else None
 
 
 def lexical(values):
-    """Signs, white space and escapes, by trying all texts of one byte and of two."""
+    """Signs, white space and escapes. The function tries all texts of one byte and of two."""
     signs = []
     texts = [(a,) for a in range(128)] + [(a, b) for a in range(33, 127) for b in range(33, 127)]
     for text in texts:
@@ -310,7 +310,7 @@ def lexical(values):
 
 
 def reader_of(spelled, keyword):
-    """What makes pieces of what a row of `Readings.antt` reads."""
+    """Returns a function from the tree of a row of `Readings.antt` to pieces."""
     def name_of(function):
         return {"reading": "expr"}.get(function, function.replace("_reading", "").replace("file", "program"))
 
@@ -335,14 +335,14 @@ def reader_of(spelled, keyword):
 
 
 def productions(items, name_of, pieces):
-    """The forms of the grammar: of each the alternatives, as the rows of `Readings.antt` read them."""
+    """The productions of the grammar, each with its alternatives, from the rows of `Readings.antt`."""
     read = [it for name, it in items.items() if name.endswith("reading") and it.rows]
     return [{"kind": "production", "name": name_of(it.name), "alternatives": [pieces(row[1]) for row in it.rows], **placed(it)}
         for it in read]
 
 
 def levels(values):
-    """The levels of operators, the lowest first, with what is written and how they group."""
+    """The levels of operators, the lowest first, with their signs and how they group."""
     rows = {}
     written = {"Add": "+", "Sub": "-", "Mul": "*", "Div": "/", "Less": "<", "LessEqual": "<=", "Equal": "=", "Not": "not", "IsVoid": "isvoid", "Neg": "~"}
     for kind, names in (("Arith", ("Add", "Sub", "Mul", "Div")), ("Compare", ("Less", "LessEqual", "Equal"))):

@@ -15,7 +15,7 @@ def told(tree):
 
 
 def split(tree):
-    """The types of the arguments of a type, and that of what comes of them."""
+    """The types of the arguments of a type, and the type of the result."""
     found = []
     while True:
         if tree[0] == "all":
@@ -110,6 +110,6 @@ class Sorts:
 
 
 def inside(sort):
-    """The type in another: Value of `Computation Value`, List Value of `Computation (List Value)`."""
+    """The type inside another: Value in `Computation Value`, List Value in `Computation (List Value)`."""
     rest = sort.partition(" ")[2]
     return rest[1:-1] if rest.startswith("(") else rest

@@ -1,9 +1,9 @@
-"""A teacher's explanations of the rules, with a program for each form: `web/rules` puts them beside the rules that it makes from the definitions.
+"""A teacher's explanations of the rules, with a program for each form. `web/rules` puts them beside the rules that it makes from the definitions.
 
-A program is the text of `main`'s body, which is put into a class that inherits from IO, or a whole file if it begins with `class`. Its output stands beside
-it. `rules-try` runs each one."""
+A program is the body of `main` in a class that inherits from IO, or a whole file if it begins with `class`. Its output is beside it. `rules-try` runs each
+program."""
 
-# Form: its heading, section of the manual, its types, its evaluation, a program, and the output of that.
+# Form: its heading, section of the manual, its types, its evaluation, a program, and the output of the program.
 FORMS = {
     "trees.Int": ("Constants", "7.1", "A constant has the type of its kind.", "A constant is its own value, and changes nothing.",
         'out_int(12).out_string(" twelve\\n")', "12 twelve\n"),
@@ -74,7 +74,7 @@ FORMS = {
     "trees.Not": ("Not", "7.12", "The operand is a Bool, and so is the result.", "True for false, and false for true.",
         'if not 1 < 1 then out_string("no") else out_string("yes") fi', "no"),
 }  # fmt: skip
-# Forms that are explained with another one.
+# Forms that are explained together with another one.
 WITH = {"trees.Str": "trees.Int", "trees.Bool": "trees.Int"}
 # The name of a form in the table of code (docs/editor.md).
 TABLE = {
@@ -83,7 +83,7 @@ TABLE = {
     "trees.While": "while", "trees.Block": "block", "trees.Let": "let", "trees.Case": "case", "trees.New": "new", "trees.IsVoid": "isvoid",
     "trees.Arith": "+ - * /", "trees.Compare": "< <= =", "trees.Neg": "~", "trees.Not": "not",
 }  # fmt: skip
-# Kind of error: the form, the first word of the premise that does not hold then, and the number of such premises before it.
+# Kind of error: the form, the first word of the premise that fails, and the number of such premises before it.
 BREAKS = {
     "E1": [("trees.Id", "found", 0), ("trees.Assign", "found", 0)],
     "E2": [("trees.Assign", "IsNotSelf", 0)],
@@ -104,7 +104,7 @@ BREAKS = {
     "E17": [("trees.Let", "Conforms", 0), ("IsTypedFeature", "Conforms", 0)],
     "E18": [("IsTypedFeature", "Conforms", 0)],
 }
-# The smallest expressions that break a form, if the case of the kind breaks another one.
+# The smallest expressions with an error in this form, if the case for the kind of error has it in another form.
 BROKEN = {
     ("trees.Assign", "E1"): "zz <- 1", ("trees.StaticDispatch", "E4"): "self@Main.zz()", ("trees.StaticDispatch", "E5"): "self@Main.m()",
     ("trees.StaticDispatch", "E6"): "self@Main.m(true)", ("trees.StaticDispatch", "E11"): "self@B.m(1)", ("trees.While", "E9"): "while 1 loop 2 pool",
@@ -128,7 +128,7 @@ METHODS = {
 
 
 def broken(text):
-    """The text of the cases, with this expression."""
+    """The program of the cases, with this expression."""
     return "class Main { a : Int; m(x : Int) : SELF_TYPE { self }; main() : Object { %s }; };\n" % text
 
 

@@ -1,4 +1,4 @@
-"""Substitution in the trees of definitions, matching of rows, and names that are not taken yet."""
+"""Substitution in the trees of definitions, matching of rows, and fresh names."""
 
 CONSTRUCTORS = {"true", "false", "zero", "suc", "pos", "negsuc", "tt", "[]", "⊥", "_"}
 
@@ -12,7 +12,7 @@ def app(name, *given):
 
 
 def head_of(tree):
-    """The name at the head of a tree and its arguments; (None, []) where there is none."""
+    """The name at the head of a tree and its arguments, or (None, []) if it has no such name."""
     if tree[0] == "var":
         return tree[1], []
     if tree[0] == "app" and tree[1][0] == "var":
@@ -29,7 +29,7 @@ def is_constructor(name):
 
 
 def changed(tree, with_):
-    """The tree with `with_` done to each of its own parts."""
+    """The tree with `with_` applied to each of its direct parts."""
     kind = tree[0]
     if kind in ("var", "num", "str"):
         return tree
@@ -56,7 +56,7 @@ def changed(tree, with_):
 
 
 def put(tree, given):
-    """The tree with these trees in the place of variables; a field of a record that is put in is that field."""
+    """Replaces variables in a tree by trees. A field of a record that replaces a variable is evaluated."""
     if not given:
         return tree
     if tree[0] == "var":
@@ -87,7 +87,7 @@ def names_in(tree, found=None):
 
 
 def renamed(tree, names):
-    """The tree with other names for variables, bound ones too."""
+    """Renames variables in a tree, also bound ones."""
     if tree[0] == "var":
         return var(names.get(tree[1], tree[1]))
     tree = changed(tree, lambda it: renamed(it, names))
@@ -101,7 +101,7 @@ def renamed(tree, names):
 
 
 def fresh_names(names, taken):
-    """Other names for those that are taken."""
+    """Maps names to unused names, by adding primes to those that are taken."""
     found = {}
     for name in sorted(names):
         other = name
@@ -114,8 +114,8 @@ def fresh_names(names, taken):
 
 
 def matched(pattern, tree, globals_, bound, put_in, equal=None):
-    """Whether the pattern takes the tree. `bound` has what its variables stand for then, `put_in` what variables of the tree must be, and `equal` what calls in
-    it must be equal to, where calls may stand against forms."""
+    """Whether the pattern matches the tree. The values of its variables are added to `bound`, and the values that variables of the tree must have to `put_in`.
+    If calls may match constructors, the trees that these calls must be equal to are added to `equal`."""
     if pattern == ("var", "_"):
         return True
     if pattern[0] == "var" and not is_constructor(pattern[1]):

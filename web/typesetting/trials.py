@@ -8,17 +8,17 @@ import typed
 
 CASES = pathlib.Path(__file__).resolve().parent.parent.parent / "conformance" / "cases"
 CHOSEN = pathlib.Path(__file__).resolve().parent / "tried.txt"
-MOST_BYTES, MOST_FEATURES, MOST_SMALL = 12000, 60, 1600  # of a program that is tried; and bytes of a small case
+MOST_BYTES, MOST_FEATURES, MOST_SMALL = 12000, 60, 1600  # limits of a program that is tried; MOST_SMALL is the most bytes of a small case
 
 
 def chosen():
-    """The names of the cases that are tried beside small ones."""
+    """The names of the cases that are tried in addition to small ones."""
     lines = CHOSEN.read_text("utf-8").split("\n")
     return [it for it in lines if it and not it.startswith("#")]
 
 
 class Case:
-    """A case of conformance/ whose arguments are files, by its folder."""
+    """A case of conformance/ whose arguments are files, given by its folder."""
 
     def __init__(self, folder):
         words = (folder / "words").read_text("utf-8", "surrogateescape").split("\n")[:-1]
@@ -38,7 +38,7 @@ class Case:
         return self.is_plain and self.name.startswith(("run-", "eval-")) and self.command in (["run"], ["eval"]) and self.status in (0, 3)
 
     def faults(self):
-        """How many errors of typing it has, where it has no other ones; else None."""
+        """The number of type errors, or None if the case has other errors."""
         if not self.is_plain or self.command not in (["run"], ["eval"], ["check"]):
             return None
         kinds = re.findall(r"(?m)^[^:]+:\d+: ([A-Z])\d+: ", self.bytes_of("stderr").decode("utf-8", "replace"))
@@ -46,7 +46,7 @@ class Case:
 
 
 def cases(names=(), small=False):
-    """These cases, or all of them, the smallest ones first; or only small ones and those that are chosen. A name that is not there is refused."""
+    """These cases, or all, the smallest ones first; or only small ones and the chosen ones. It raises LookupError if a name does not exist."""
     folders = [CASES / it for it in names] or sorted(CASES.iterdir())
     missing = [it for it in [*names, *chosen()] if not (CASES / it / "words").is_file()]
     if missing:
@@ -57,7 +57,7 @@ def cases(names=(), small=False):
 
 
 def by_types(typer, case):
-    """What is wrong with the features that the type rules do not type: "" where nothing is, None where the case is too large."""
+    """A message about features that the type rules do not type: "" if there is no problem, None if the case is too large."""
     texts = case.texts()
     table = cool_text.table(texts) if sum(map(len, texts)) <= MOST_BYTES else ()
     if not table or sum(len(it["features"]) for it in table) > MOST_FEATURES:
@@ -67,7 +67,7 @@ def by_types(typer, case):
 
 
 def by_run(machine, case):
-    """What is wrong with a run by the rules of evaluation: "" where nothing is, None where the case is too large or takes too many judgements."""
+    """A message about a run by the rules of evaluation: "" if there is no problem, None if the case is too large or takes too many judgements."""
     texts = case.texts()
     if sum(map(len, texts)) > MOST_BYTES:
         return None
@@ -82,14 +82,14 @@ def by_run(machine, case):
 
 
 class Trial:
-    """Machine and typer over some cases, with the rules that each case applied."""
+    """Runs machine and typer over some cases, and records the rules that each case applied."""
 
     def __init__(self, most):
         self.machine, self.typer = executed.Machine(most), typed.Typer()
         self.ran, self.checked = {}, {}  # rules by number, each with the cases in which they were applied
 
     def over(self, case):
-        """What the two said of a case: pairs of `types` or `run`, and what is wrong."""
+        """Yields the results for a case: pairs of `types` or `run`, and the message about it."""
         if case.faults() is not None:
             self.typer.used = set()
             wrong = by_types(self.typer, case)

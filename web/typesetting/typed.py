@@ -13,7 +13,7 @@ OBJECT = ("IsClass", {"0": 0})
 
 
 def count(parts):
-    """How many expressions or branches stand in a list of them."""
+    """The number of expressions or branches in a list of them."""
     found = 0
     while len(parts) > 1:
         parts, found = parts[-1], found + 1
@@ -27,7 +27,7 @@ class Typer:
         made = sections.Typing().relations
         self.rules = {name: made.rules(name) for name in ("HasType", "HaveTypes", "HaveItems", "HaveBranches")}
         self.used, self.matched = set(), set()
-        self.change = None  # a rule, the number of a premise that need not hold, and whether what it finds is Object always
+        self.change = None  # a rule, the number of the premise that is ignored, and whether the premise always finds Object
 
     def untyped(self, table, kept=None):
         """The features of a table that are not typed, as pairs of names."""
@@ -54,7 +54,7 @@ class Typer:
         return type_ is not None and due != ("None",) and call("do_conform", self.table, c, type_, due[1])
 
     def judge(self, name, inputs):
-        """The type, or types, by the first rule that applies; None where none does."""
+        """The type, or types, by the first rule that applies, or None if no rule applies."""
         for rule in self.rules[name]:
             given, known = head_of(rule.conclusion)[1], {}
             if not all(self.values.takes(a, b, known) for a, b in zip(given[:-1], inputs)):
@@ -66,7 +66,7 @@ class Typer:
         return None
 
     def is_met(self, rule, at, premise, known):
-        """Whether a premise holds, or need not."""
+        """Whether a premise holds or is ignored."""
         if self.change is None or self.change[:2] != (rule, at):
             return self.holds(premise, known)
         if self.change[2] or not self.holds(premise, known):
@@ -74,7 +74,7 @@ class Typer:
         return True
 
     def assumed(self, premise, known):
-        """What the variables of a premise that need not hold are: Object, and the method abort."""
+        """The values of variables of an ignored premise: Object, and the method abort."""
         head, given = head_of(premise)
         last = premise[3] if premise[0] == "op" else given[-1]
         name, args = head_of(last)
@@ -104,7 +104,7 @@ class Typer:
         return getattr(self, "on_" + head)(of, given, known)
 
     def fits(self, pattern, value, known):
-        """Whether a value is what stands there: a pattern, or what a name of the definitions is."""
+        """Whether a value fits a pattern or equals the value of a name of the definitions."""
         name, given = head_of(pattern)
         if pattern[0] == "var" and name in self.items:
             return self.values.of(pattern, {}) == value

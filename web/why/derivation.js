@@ -1,11 +1,11 @@
-// The view "Why": the derivation of the type of the expression at the cursor, as a tree of the rules; and of a fault of typing the rule with the premise that
-// does not hold.
+// The view "Why": the derivation of the type of the expression at the cursor, as a tree of rules. If the program has a type error, the view shows the rule
+// that it breaks, and marks the premise that does not hold.
 "use strict";
 
 const treeTeller = new Runner(() => editorModule);
 let treesMade;
 
-// The trees of the program as it is, and if it is legal the derivations of its types: a promise of { trees, known }, or of { fault }.
+// The trees of the current program, and the derivations of its types if it is legal: a promise of { trees, known }, or of { fault }.
 function treesNow() {
     const made = async () => {
         const lettered = files.map((it) => ({ name: it.name, data: byteLetters(it.text) })), names = await toldBy(treeTeller);
@@ -20,7 +20,7 @@ function treesNow() {
 
 const typedPair = (words, type) => [element("code", {}, words), " : ", element("b", { className: "type" }, type)];
 
-// What a rule asks for beside the types of the parts.
+// The list item for a condition of a rule besides the types of the parts.
 function sideCondition({ words, more = "", place }) {
     const go = place ? [", ", element("button", { className: "go", onclick: () => goTo(place.file, place.line) }, place.words)] : [];
     return element("li", { className: "side" }, words, element("span", { className: "quiet" }, more && `  ${more}`), ...go);
@@ -33,20 +33,20 @@ function derivation(node, known, depth = 0) {
     return element("details", { open: depth < 2 || parts.length === 0 }, head, below);
 }
 
-// A rule that an error of a kind breaks, with the premise marked that does not hold.
+// The figure of a rule, with each premise marked that an error of this kind breaks.
 function brokenRule(rule, kind) {
     const figure = ruleFigure(rule);
     figure.querySelectorAll(".premise").forEach((it, i) => it.classList.toggle("broken", rule.premises[i].faults?.includes(kind) ?? false));
     return figure;
 }
 
-// The byte at which a line and a column of a file are.
+// The offset in bytes of a line and a column of a file.
 function byteOf({ file, line, column }) {
     const lines = linesOf(fileNamed(file)?.text ?? "");
     return encode([...lines.slice(0, line - 1), (lines[line - 1] ?? "").slice(0, column)].join("\n")).length;
 }
 
-// The fault of typing that is asked about: the first one in the line of the cursor, or of all.
+// The type error to explain: the first one in the line of the cursor, else the first one of the program.
 function faultAsked() {
     const line = cursorLine(), own = faults.filter((it) => /^E\d+:/.test(it.words));
     return own.find((it) => it.file === shownFile.name && it.line === line) ?? own[0];
@@ -62,7 +62,7 @@ function faultWhy(fault, trees) {
     ];
 }
 
-// The derivation of the expression at the cursor, below the method and the expressions that it is in.
+// The derivation of the expression at the cursor, below the method and the expressions around it.
 function typeWhy(known) {
     const byte = encode(text.value.slice(0, text.selectionStart)).length, node = known.trees.around(shownFile.name, byte, 1);
     if (!node) return [element("p", {}, "Put the cursor into an expression.")];

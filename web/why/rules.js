@@ -1,4 +1,4 @@
-// The rules of rules.js as elements of this page.
+// Builds elements of the page from the rules of rules.js.
 "use strict";
 
 const pageRules = new RulesOfForms(typeof COOL_RULES === "undefined" ? [] : COOL_RULES);

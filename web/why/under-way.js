@@ -1,7 +1,7 @@
-// Beside a stop of the machine: the rule of evaluation that is under way, with what of it is done, and what is due.
+// Shows beside a stop of the machine the rule of evaluation that is under way, with its completed and its remaining premises.
 "use strict";
 
-// Of the rules of a form the one that fits what is known: of a conditional and a loop the branch that is taken.
+// The rule of an expression's form that fits the progress of its parts. For a conditional it is the rule of the branch that is taken.
 function ruleUnderWay(node, states) {
     const all = pageRules.of(node.form, "running").filter((it) => !it.error), named = (name) => all.find((it) => it.name === name);
     if (node.form === "if") return states[2] === "now" ? all[1] : all[0];
@@ -11,7 +11,7 @@ function ruleUnderWay(node, states) {
     return CALLS.has(node.form) ? all.find((it) => !it.name.endsWith("Basic")) : all[0];
 }
 
-// The parts of the expression with their values, and the expressions around it, as the text has them.
+// The texts of the expression's parts with their values, and the texts of the expressions around it.
 function partsShown(span, states, values, trees) {
     const words = (it, most) => trees.textOf(trees.nodeAt(it), most), value = (i) => (values[i] ? [" = ", element("b", {}, values[i])] : []);
     const parts = span.parts.map((it, i) => element("span", { className: `premise ${states[i]}` }, element("code", {}, words(it, 28)), ...value(i)));
@@ -22,7 +22,7 @@ function partsShown(span, states, values, trees) {
     ];
 }
 
-// The values of the parts that are done, and the names in scope with theirs.
+// The values of the completed parts, and the names in scope with their values.
 function valuesHere({ frame, span }, view) {
     const shown = (word) => (word === undefined ? "" : described(word, view).text);
     const names = wordsIn(frame, view).filter((it) => it.isVariable).map((it) => `${it.name} = ${shown(it.word)}`);
