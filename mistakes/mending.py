@@ -1,16 +1,25 @@
-"""Applies the fixes of `cool_explain` to a program, one after the other, for mistakes/mends."""
+"""Applies the fixes of `cool_explain` to a program, one after the other, for mistakes/mends and mistakes/answers."""
 import os
 import re
 import resource
 import subprocess
 import sys
 
-from mutations import lexemes
+from mutations import ROOT, lexemes
+
+sys.path.insert(0, os.path.join(ROOT, "compare"))
+from comparison import own_program  # noqa: E402
 
 MOST_MENDS = 8
 EDIT = re.compile(rb"edit 0:(\d+):(\d+) (.*)")
-# The possible results for a program.
-BACK, SAME, OTHER, LEFT, NONE = "comes back", "the same code", "another program", "a fault is left", "no mend"
+# The possible results for a program, as docs/explain.md names them.
+ENDS = BACK, SAME, OTHER, LEFT, NONE = "same tokens", "same code", "another program", "error left", "no fix"
+
+
+def add_programs(parser):
+    """The options that name other programs than those of this repository."""
+    parser.add_argument("--explain", metavar="PROGRAM", type=os.path.realpath)
+    parser.add_argument("--check", metavar="PROGRAM", type=os.path.realpath)
 
 
 def processor_time():
@@ -28,10 +37,11 @@ def edited(text, told):
 
 
 class Tools:
-    """`cool check` and `cool_explain`, over one file."""
+    """`cool check` and `cool_explain`, over one file in a folder: the programs that the arguments name, or those of this repository."""
 
-    def __init__(self, check, explain, folder):
-        self.check, self.explain, self.path = check, explain, os.path.join(folder, "program.cl")
+    def __init__(self, given, folder):
+        self.check, self.explain = given.check or own_program(), given.explain or own_program("cool_explain")
+        self.path = os.path.join(folder, "program.cl")
 
     def run(self, words, text):
         with open(self.path, "wb") as file:
@@ -48,8 +58,8 @@ class Tools:
         """The explanation of the first error of a program, as lines."""
         run = self.run([self.explain, "--lines"], text)
         if run.returncode not in (0, 1):
-            sys.exit("mistakes/mends: %s ended with %d over this, and wrote %r:\n%s"
-                     % (self.explain, run.returncode, run.stderr, text.decode(errors="replace")))
+            sys.exit("%s: %s ended with %d over this, and wrote %r:\n%s"
+                     % (sys.argv[0], self.explain, run.returncode, run.stderr, text.decode(errors="replace")))
         lines = run.stdout.split(b"\n")[:-1]
         faults = [at for at, line in enumerate(lines) if line.startswith(b"fault ")]
         return lines[: faults[1] if faults[1:] else None]

@@ -1,0 +1,4 @@
+class Main inherits IO {
+  n : Int <- 3;
+  main() : Object { out_int(n) };
+};

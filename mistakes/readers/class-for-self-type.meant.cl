@@ -1,0 +1,2 @@
+class A { make() : SELF_TYPE { new SELF_TYPE }; };
+class Main { main() : Object { 0 }; };

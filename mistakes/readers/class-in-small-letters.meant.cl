@@ -1,0 +1,2 @@
+class Stack { f() : Int { 1 }; };
+class Main { s : Stack; main() : Object { 0 }; };

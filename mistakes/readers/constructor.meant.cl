@@ -1,0 +1,5 @@
+class P {
+  x : Int;
+  init(v : Int) : P { { x <- v; self; } };
+};
+class Main { main() : Object { 0 }; };

@@ -1,0 +1,6 @@
+class Main inherits IO {
+  n : Int;
+  main() : Object {
+    { n <- 5; out_int(n); }
+  };
+};

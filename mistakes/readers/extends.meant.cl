@@ -1,0 +1,3 @@
+class A { };
+class B inherits A { };
+class Main { main() : Object { 0 }; };

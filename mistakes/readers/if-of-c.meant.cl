@@ -1,0 +1,5 @@
+class Main inherits IO {
+  main() : Object {
+    if (1 < 2) then { out_string("yes"); } else { out_string("no"); } fi
+  };
+};

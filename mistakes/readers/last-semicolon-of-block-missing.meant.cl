@@ -1,0 +1,8 @@
+class Main inherits IO {
+  main() : Object {
+    {
+      out_string("a");
+      out_string("b");
+    }
+  };
+};

@@ -1,0 +1,4 @@
+class Main inherits IO {
+  f() : Int { 1 };
+  main() : Object { out_int(f()) };
+};

@@ -1,0 +1,1 @@
+class Main inherits IO { s : String; main() : Object { out_string(s) }; };

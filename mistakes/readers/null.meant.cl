@@ -1,0 +1,2 @@
+class L { next : L; atEnd() : Bool { isvoid next }; };
+class Main { main() : Object { 0 }; };

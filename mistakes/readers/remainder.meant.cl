@@ -1,0 +1,3 @@
+class Main inherits IO {
+  main() : Object { out_int(7 - 7 / 2 * 2) };
+};

@@ -1,0 +1,4 @@
+class Main inherits IO {
+  -- prints
+  main() : Object { out_string("x") };
+};

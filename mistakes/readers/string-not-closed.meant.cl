@@ -1,0 +1,7 @@
+class Main inherits IO {
+  main() : Object {
+    {
+      out_string("hello");
+    }
+  };
+};

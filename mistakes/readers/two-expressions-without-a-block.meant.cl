@@ -1,0 +1,6 @@
+class Main inherits IO {
+  main() : Object { {
+    out_string("a");
+    out_string("b");
+  } };
+};

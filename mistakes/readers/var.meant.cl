@@ -1,0 +1,8 @@
+class Main inherits IO {
+  main() : Object {
+    {
+      let x : Int <- 5 in
+      out_int(x);
+    }
+  };
+};
