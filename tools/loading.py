@@ -8,7 +8,7 @@ from sources import ROOT, read
 
 MADE = re.compile(r"(?:\w+-)?module\.js|examples\.js|help\.js|rules\.js")
 # Comments, strings and regular expressions, which are not code. A template is code in its braces.
-QUOTED = re.compile(r'(?m)^ *//.*$|"(?:[^"\\\n]|\\.)*"|/(?![ */])(?:[^/\\\n\[]|\\.|\[[^\]\n]*\])+/')
+QUOTED = re.compile(r'(?m)(?:^ *|(?<=[;,{}()]) )//.*$|"(?:[^"\\\n]|\\.)*"|/(?![ */])(?:[^/\\\n\[]|\\.|\[[^\]\n]*\])+/')
 TEMPLATE = re.compile(r"`[^`]*`")
 BINDS = re.compile(
     r"""(?mx) \b(?:const|let)\ (.*?)(?=\ =\ |\ of\ |;|$) | ,\ (\w+)\ =\  | \(([^()]*)\)\ => | (\w+)\ =>
