@@ -26,10 +26,14 @@ note_line words = codes "      = " ++ (shown words ++ codes "\n")
 abbrev pub of_file : List (List ℕ) → ℕ → ℕ → List ℕ → List ℕ
 of_file names file other word = if nat_eq other file then [] else word ++ file_of names other
 
--- where the other definition stands of what is defined twice
+-- the line of the other definition, and its file, if that is another one than this
+abbrev pub other_words : List (List ℕ) → Place → ℕ → List ℕ
+other_words names p file = codes "the other definition is in line " ++ (decimal p.line ++ of_file names file p.file (codes " of "))
+
+-- where the other definition is, of a name that is defined twice
 abbrev pub other_text : List (List ℕ) → ℕ → Option Place → List ℕ
 other_text names file None = []
-other_text names file (Some p) = note_line (codes "the other one stands in line " ++ (decimal p.line ++ of_file names file p.file (codes " of ")))
+other_text names file (Some p) = note_line (other_words names p file)
 
 -- general advice for a fault
 abbrev pub cure_text : List ℕ → List ℕ

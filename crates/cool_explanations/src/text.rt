@@ -5,7 +5,7 @@ ghost use Rattle.std.specs.List.{AllByRecursion, flat_map};
 ghost use Rattle.cool_syntax.specs.TokenFacts.{IsPlaced};
 ghost use Rattle.cool_faults.specs.Files.{bytes_of};
 ghost use Rattle.cool_faults.specs.Verdicts.{place_of};
-ghost use Rattle.cool_explanations.specs.Texts.{cure_text, explanation_text, file_of, end_text, mend_line, mend_text, note_line, of_file, other_text, text_of};
+ghost use Rattle.cool_explanations.specs.Texts.{cure_text, explanation_text, file_of, end_text, mend_line, mend_text, note_line, of_file, other_text, other_words, text_of};
 
 use crate::changes::changed_text;
 use crate::cures::cure_words;
@@ -109,14 +109,24 @@ fn other_text(
     ensures { IfOk result (λ text. text.items ≡ other_text (map string_bytes names.now) file other) }
 {
     match other {
-        Some(at) => {
-            let line = at.line;
-            let mut words = format!(in alloc; "the other one stands in line {line}")?.into_bytes();
-            words.extend_from_slice(&of_file(alloc, names, file, at.file, b" of ")?)?;
-            note_line(alloc, &words)
-        }
+        Some(at) => note_line(alloc, &other_words(alloc, names, at, file)?),
         None => Ok(Vec::new(alloc)),
     }
+}
+
+/// The line of the other definition, and its file, if that is another one than this. Returns `Err` only if memory runs out.
+fn other_words(
+    alloc: Global,
+    names: &[String],
+    at: Place,
+    file: u32,
+) -> Result<Vec<u8>, AllocError>
+    ensures { IfOk result (λ words. words.items ≡ other_words (map string_bytes names.now) at file) }
+{
+    let line = at.line;
+    let mut words = format!(in alloc; "the other definition is in line {line}")?.into_bytes();
+    words.extend_from_slice(&of_file(alloc, names, file, at.file, b" of ")?)?;
+    Ok(words)
 }
 
 /// The name of a file behind this word, if it is another one than that of the fault. Returns `Err` only if memory runs out.
