@@ -1,4 +1,4 @@
-"""The edits of the small compiler that make a mutant each, as edits.txt has them: one thing that authors of compilers for Cool get wrong.
+"""Reads edits.txt: each edit of the small compiler makes one mutant, with one mistake that authors of compilers for Cool make.
 
 A block of lines in edits.txt is a mutant: its name, the section of the Cool manual whose rule it breaks, what is wrong with it, a file; and text that
 stands there once, by lines with `-`, in whose place comes that of the lines with `+`.

@@ -1,4 +1,4 @@
-"""The phases of the small compiler as those of a student: they write tokens, trees and typed trees in the format of courses (docs/phases.md)."""
+"""Writes the tokens, trees and typed trees of the small compiler in the format of courses (docs/phases.md), as the phases of a student do."""
 
 import os
 import sys

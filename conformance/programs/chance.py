@@ -1,4 +1,4 @@
-"""Random choices, the same for a seed in each version of Python: they use only `random()`, whose numbers Python promises to keep."""
+"""Random choices. A seed gives the same choices in every version of Python: they use only `random()`, whose numbers Python promises to keep."""
 import random
 
 

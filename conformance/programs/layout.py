@@ -1,4 +1,4 @@
-"""Texts of tokens: white space and comments between them, and the case of keywords, random or plain."""
+"""Prints tokens as text, with white space and comments between them and a case for the keywords, either random or plain."""
 import re
 
 KEYWORDS = frozenset("class else false fi if in inherits isvoid let loop pool then while case esac new of not true".split())

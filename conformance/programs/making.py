@@ -1,4 +1,4 @@
-"""Random legal programs of Cool, each of which ends: a loop has few iterations, and a body calls and creates only what was declared before it.
+"""Random legal programs of Cool, each of which ends: a loop has few iterations, and a body uses only methods and classes that were declared before it.
 
 The forms of a program, and how often each occurs, are chosen for each program, so that rare forms occur together.
 """

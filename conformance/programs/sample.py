@@ -1,4 +1,4 @@
-"""Samples: random programs, each determined by a seed and a number. Every second is legal, the others have one change of a kind that each has in turn."""
+"""Samples: random programs, each determined by a seed and a number. Every second is legal; the others have one illegal change, of each kind in turn."""
 import functools
 
 import layout

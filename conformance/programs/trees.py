@@ -1,4 +1,4 @@
-"""Programs of Cool as trees, and the tokens of a tree, with only the parentheses that the levels of operators require (docs/language.md)."""
+"""Programs of Cool as trees, and the tokens of a tree, with only the parentheses that the precedence of operators requires (docs/language.md)."""
 
 LEVELS = {"let": 0, "assign": 1, "not": 2, "<": 3, "<=": 3, "=": 3, "+": 4, "-": 4, "*": 5, "/": 5, "isvoid": 6, "~": 7, "call": 8, "static": 8}
 HIGHEST = 9

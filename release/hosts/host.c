@@ -1,5 +1,5 @@
-// What the program asks of a C library, by calls of the system alone: its start, files, streams, words, copies of bytes and a heap. It has no
-// threads. What the system does stands in linux.c and windows.c, which give:
+// Implements the functions of a C library that the program needs, with calls of the operating system only: the start, files, streams, arguments (`words`),
+// copies of bytes and a heap. It has no threads. The parts that depend on the system are in linux.c and windows.c, which define:
 //   map, unmap, remap           memory of the system, in whole pages
 //   open, close, read, write    as POSIX has them, for reading and for the standard streams
 //   TRIED                       a function of two answers, as the program takes them

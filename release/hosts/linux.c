@@ -1,4 +1,4 @@
-// What host.c wants of the system, by calls of Linux alone, on x86-64 and on ARM64.
+// The part of host.c that depends on the system, for Linux on x86-64 and on ARM64: it uses only system calls of Linux.
 #if defined(__x86_64__)
 enum { READ = 0, WRITE = 1, CLOSE = 3, MMAP = 9, MPROTECT = 10, MUNMAP = 11, SIGACTION = 13, MREMAP = 25, EXIT_GROUP = 231, OPENAT = 257, PRLIMIT = 302 };
 __asm__(".globl _start\n_start: xor %ebp, %ebp\n mov %rsp, %rdi\n and $-16, %rsp\n call begin\n");

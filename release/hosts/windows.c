@@ -1,4 +1,4 @@
-// What host.c wants of the system, by calls of Windows alone (kernel32.dll), on x86-64. Names and words are UTF-8, as on Linux. The stack is the system's:
+// The part of host.c that depends on the system, for Windows on x86-64: it calls only kernel32.dll. Names and words are UTF-8, as on Linux. The stack is the system's:
 // the program's file asks for STACK_BYTES. There are no signals.
 typedef unsigned short letter;
 typedef void *Handle;

@@ -1,6 +1,6 @@
-// Runs the program, `cool`: a WebAssembly module that imports five functions of its host (`host.c`), and one that continues deep recursion
-// (`lowering/deepen.py`). A run takes its arguments, files and input, and passes on what it writes. Each run has a new instance of the module, so that
-// no state remains from an earlier run.
+// Runs the program `cool`, a WebAssembly module. The module imports six functions: five of its host (`open`, `close`, `read`, `write` and `word` of
+// `web/host.c`), and `deeper`, which continues deep recursion (`web/lowering/deepen.py`). A run takes its arguments, files and input, and passes on what it
+// writes. Each run has a new instance of the module, so that no state remains from an earlier run.
 //
 // The whole code is one function that uses nothing from outside itself, so that the page can make a worker from its text.
 "use strict";

@@ -1,5 +1,5 @@
-// Finds the errors of a large program by a `session` (docs/session.md), which checks only the edited features again. The session runs in a separate worker
-// if WebAssembly may wait for input. Otherwise, and if the session has no answer, faults.js calls `check`.
+// Finds the errors of a large program by the command `session` (docs/session.md), which type-checks again only the features that an edit may
+// affect. The session runs in a separate worker if WebAssembly may wait for input. Otherwise, and if the session has no answer, faults.js calls `check`.
 "use strict";
 
 // The least number of characters for which a session is faster than a new check.

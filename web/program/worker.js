@@ -1,4 +1,4 @@
-// The code of a worker of the page: it runs the program as a message says, and posts the results. The whole code is one function that uses
+// The code of a worker of the page: it gets a message that describes a run, runs the program, and posts the results. The whole code is one function that uses
 // only `coolProgram` from outside itself, so that the page can make a worker from the texts of both.
 "use strict";
 
