@@ -4,3 +4,4 @@ pub mod Fronts
 pub mod Readings
 pub mod Errors
 pub mod Laws
+pub mod ItemSizes

@@ -1,8 +1,10 @@
 //! Items: the lexeme, blank or comment that a text begins with, by the class of its first byte.
 
-ghost use Rattle.std.specs.Prelude.{◌≡◌, ◌<◌, ◌∷◌, IfOk, length};
+ghost use Rattle.std.specs.Prelude.{◌≡◌, ◌≢◌, ◌<◌, ◌≤◌, ◌∷◌, IfOk, IfSome, None, length};
 ghost use Rattle.cool_syntax.specs.Lexemes as lexemes;
+ghost use Rattle.cool_syntax.specs.LexicalStructure.{fault};
 ghost use Rattle.cool_lexer.specs.Fronts.{front_of, Begins};
+ghost use Rattle.cool_lexer.specs.ItemSizes.{BeginsWithItem};
 
 use crate::class::{Class, class_of};
 use crate::comment::{dash_at, open_at};
@@ -13,6 +15,20 @@ use crate::string::string_at;
 use crate::word::word_at;
 use cool_syntax::LexKind;
 use std::alloc::{AllocError, Global};
+
+/// The number of bytes of the item (a lexeme, white space or a comment) that a text begins with, or `None` if a fault begins there; the text has a byte.
+/// Returns `Err` only if memory runs out.
+pub fn item_size(alloc: Global, text: &[u8]) -> Result<Option<usize>, AllocError>
+    requires { 0 < length text.now }
+    ensures item { IfOk result (λ size. IfSome size (BeginsWithItem text.now)) }
+    ensures within { IfOk result (λ size. IfSome size (λ n. n ≤ length text.now)) }
+    ensures fault { IfOk result (λ size. size ≡ None → fault text.now ≢ None) }
+{
+    match item_at(alloc, text)? {
+        Front::Item { form: _, after } => Ok(Some(after + 1)),
+        Front::Fault { kind: _, offset: _ } => Ok(None),
+    }
+}
 
 /// The item that a text begins with, or its fault; the text has a byte. Returns `Err` only if memory runs out.
 pub(crate) fn item_at(alloc: Global, text: &[u8]) -> Result<Front, AllocError>

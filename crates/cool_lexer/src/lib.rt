@@ -22,6 +22,7 @@ mod word;
 
 pub use cool_syntax::LexKind;
 pub use error::{LexError, LexFault};
+pub use item::item_size;
 pub use laws::{law_always_one, law_never_both, law_one_cutting, law_one_first_fault};
 pub use lexer::{Beginning, Lexed, lex, lex_to_fault};
 pub use run::{depth_after, ends_run};
