@@ -1,5 +1,5 @@
--- The functions of the group `walk` end: from a node they go to its parts, which have smaller numbers. The loops of `add_all` and `add_branches` have added
--- the marks of the parts before the current one.
+-- The functions of the cycle `walk`, which call each other, terminate: a call goes to a part of the node, which has a smaller number, or stays at the node with
+-- a smaller constant in the measure. The loops of `add_all` and `add_branches` have added the marks (`Marks.antt`) of the parts before the current one.
 use Rattle.std.proofs.Common.{◌≡◌, ◌+◌, ◌*◌, ◌<◌, ◌++◌, map, drop}
 use Rattle.std.specs.List.{AllByRecursion}
 use Rattle.cool_syntax.specs.Tree.{of_list, of_twigs}
