@@ -7,11 +7,11 @@ use Rattle.cool_syntax.specs.declared.file_tree.Feature.TheVariants.{Method, Att
 use Rattle.cool_syntax.specs.declared.place.Place.{Place}
 use Rattle.cool_syntax.specs.Tree.{Tree}
 use Rattle.cool_classes.specs.Chains.{Class}
+use Rattle.cool_faults.specs.Verdicts.{IsAccepted}
 use Rattle.cool_notices.specs.declared.kind.Notice.{Notice as Due}
 use Rattle.cool_notices.specs.Notices.{due_notices, words}
 use Rattle.cool_mend.specs.declared.explanation.Notice.{Notice}
 use Rattle.cool_mend.specs.declared.noticing.TheConstants.{MOST_NOTICES}
-use Rattle.cool_mend.specs.Explanations.{IsTableOf}
 
 -- the expression of a feature, where it has one
 abbrev pub body_of : Feature → Option Tree
@@ -43,8 +43,8 @@ due_saying n = record { at = n.at; words = words n.kind }
 abbrev pub saying : Notice → Saying
 saying n = record { at = n.at; words = n.words.items }
 
--- Files that are a class table have these notices: the first that are due in it, so many as are told.
+-- Files that are accepted as a program have these notices: the first that are due in it, so many as are told.
 pub record AreNoticed (files : List (List ℕ)) (notices : List Notice) : Type 0 where
   pub table : List Class
-  pub of : IsTableOf files table
+  pub accepted : IsAccepted files table
   pub first : map saying notices ≡ map due_saying (take MOST_NOTICES (due_in_program table))

@@ -1,21 +1,21 @@
 //! Explaining the faults of files.
 
-ghost use Rattle.std.specs.Prelude.{◌≡◌, ◌≢◌, ◌<◌, ◌≤◌, [], IfOk, IfSome, None, length, map};
+ghost use Rattle.std.specs.Prelude.{◌≡◌, ◌≢◌, ◌<◌, ◌≤◌, [], IfOk, IfSome, length, map};
 ghost use Rattle.std.specs.List.{AllByRecursion};
 ghost use Rattle.cool_syntax.specs.declared.TheConstants.{MOST_FILES, MOST_SOURCE_BYTES};
 ghost use Rattle.cool_syntax.specs.TokenFacts.{IsPlaced};
 ghost use Rattle.cool_faults.specs.Files.{bytes_of, total};
-ghost use Rattle.cool_faults.specs.Verdicts.{IsFaultList, place_of};
+ghost use Rattle.cool_faults.specs.Verdicts.{place_of};
 ghost use Rattle.cool_mend.specs.Noticed.{AreNoticed};
-ghost use Rattle.cool_mend.specs.Explanations.{AreExplained, AreMends, IsFaulty, IsMend, IsTableOf, IsTold};
+ghost use Rattle.cool_mend.specs.Explanations.{AreExplained, AreMends, IsMend, IsTableOf, IsTold};
 
-use crate::explanation::{Explained, Explanation, Mend, Notice};
+use crate::explanation::{Explained, Explanation, Mend};
 use crate::noticing::notices;
 use crate::search::{Found, Search};
-use crate::trial::{fault_list, mending};
+use crate::trial::mending;
 use crate::types::{class_table, fault_methods, fault_types};
 use cool_classes::ClassTable;
-use cool_faults::Fault;
+use cool_faults::{Fault, Verdict, accept};
 use cool_guess::{Lexeme, Source, advice, index_at, other_definition, part, type_advice};
 use std::alloc::{AllocError, Global};
 
@@ -32,33 +32,18 @@ pub fn explain(alloc: Global, files: &[Vec<u8>]) -> Result<Explained, AllocError
     ensures noticed { IfOk result (λ told. told.explanations.items ≡ [] → AreNoticed (bytes_of files.now) told.notices.items) }
     ensures quiet { IfOk result (λ told. told.notices.items ≢ [] → told.explanations.items ≡ []) }
 {
-    let faults = fault_list(alloc, files)?;
-    let classes = class_table(alloc, files)?;
-    let explanations = explanations(alloc, files, &classes, &faults)?;
-    let notices = noticed(alloc, files, &classes, &faults)?;
-    Ok(Explained {
-        explanations,
-        notices,
-    })
-}
-
-/// The notices of files with this class table and these faults: none where there is a fault. Returns `Err` only if memory runs out.
-fn noticed(
-    alloc: Global,
-    files: &[Vec<u8>],
-    classes: &Option<ClassTable>,
-    faults: &[Fault],
-) -> Result<Vec<Notice>, AllocError>
-    requires classes { IfSome classes.now (IsTableOf (bytes_of files.now)) }
-    requires without { classes.now ≡ None → IsFaulty (bytes_of files.now) }
-    requires list { IsFaultList (bytes_of files.now) faults.now }
-    ensures noticed { IfOk result (λ notices. faults.now ≡ [] → AreNoticed (bytes_of files.now) notices.items) }
-    ensures quiet { IfOk result (λ notices. notices.items ≢ [] → faults.now ≡ []) }
-{
-    match classes {
-        Some(table) if faults.is_empty() => notices(alloc, files, table),
-        Some(_) => Ok(Vec::new(alloc)),
-        None => Ok(Vec::new(alloc)),
+    match accept(alloc, files)? {
+        Verdict::Accepted(program) => Ok(Explained {
+            explanations: Vec::new(alloc),
+            notices: notices(alloc, files, program.table())?,
+        }),
+        Verdict::Refused(faults) => {
+            let classes = class_table(alloc, files)?;
+            Ok(Explained {
+                explanations: explanations(alloc, files, &classes, faults.as_slice())?,
+                notices: Vec::new(alloc),
+            })
+        }
     }
 }
 
