@@ -1,19 +1,16 @@
 //! Candidates: edits of a text that may mend a fault.
 
+use crate::hint::Hint;
 use crate::lexeme::{Lexeme, is_name_byte, part};
 use std::alloc::{AllocError, Global};
 
-/// Why an edit may be the one.
+/// The reason for an edit.
 #[derive(Clone, Copy)]
 pub enum Reason {
-    /// Something is missing.
-    Missing,
-    /// Something is one too many.
-    Extra,
-    /// Something else is meant.
-    Other,
-    /// This is said of it.
-    Said(&'static str),
+    /// None but the edit itself.
+    Edit,
+    /// A mistake that has a hint.
+    Hinted(Hint),
 }
 
 /// Bytes in the place of those from `start` up to `end`.
@@ -157,7 +154,7 @@ impl<'a> Candidates<'a> {
     ) -> Result<(), AllocError> {
         for (other, ours) in table {
             if other.as_bytes() == self.text(place) {
-                self.put_at(Reason::Other, place, ours.as_bytes())?;
+                self.put_at(Reason::Edit, place, ours.as_bytes())?;
             }
         }
         Ok(())

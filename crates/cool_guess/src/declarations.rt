@@ -2,6 +2,7 @@
 
 use crate::candidate::{Candidate, Candidates, Reason, Splice};
 use crate::definition::is_class;
+use crate::hint::Hint;
 use crate::kind::{Kind, is_one_of, kind_of};
 use crate::lexeme::{Lexeme, index_at, line_length, part};
 use crate::names::BASIC_METHODS;
@@ -57,16 +58,16 @@ impl<'a> Candidates<'a> {
         let word = self.word(index);
         let last = self.before(index, 1);
         if word == b",".as_slice() && self.text(last) == b"self".as_slice() {
-            let said = Reason::Said("`self` is no formal: it is always there");
+            let said = Reason::Hinted(Hint::SelfIsNoFormal);
             let end = self.lexeme(index.saturating_add(1)).start;
             return self.put(said, last.start, end, b"");
         }
         if word == b"=>".as_slice() {
-            let said = Reason::Said("a branch for all other values is one of Object");
+            let said = Reason::Hinted(Hint::BranchType);
             return self.put(said, last.end, last.end, b" : Object");
         }
         if is_class(word) {
-            return self.put(Reason::Missing, last.end, last.end, b"\n};");
+            return self.put(Reason::Edit, last.end, last.end, b"\n};");
         }
         Ok(())
     }
@@ -98,7 +99,7 @@ impl<'a> Candidates<'a> {
             let first = self.splice(class.start, end, &let_text)?;
             self.put_let(first, self.lexeme(semicolon), self.lexeme(close).start)?;
         }
-        let said = Reason::Said("a type stands behind its name: `x : C`");
+        let said = Reason::Hinted(Hint::TypeAfterName);
         self.put(said, class.start, end, &text)
     }
 
@@ -109,7 +110,7 @@ impl<'a> Candidates<'a> {
         semicolon: Lexeme,
         close: usize,
     ) -> Result<(), AllocError> {
-        let said = Reason::Said("a variable is declared by `let`, and known in its body alone");
+        let said = Reason::Hinted(Hint::DeclareByLet);
         let second = self.splice(semicolon.start, semicolon.end, b" in {")?;
         let third = self.splice(close, close, b"}; ")?;
         self.put_three(said, first, second, third)
@@ -148,7 +149,7 @@ impl<'a> Candidates<'a> {
             && kind_of(word) == Kind::Object
         {
             let text = self.joined(&[word, b" <- ", word, b" + 1"])?;
-            let said = Reason::Said("a variable is counted by `x <- x + 1`");
+            let said = Reason::Hinted(Hint::NoIncrement);
             self.put(said, self.lexeme(index).start, name.end, &text)?;
         }
         Ok(())
@@ -161,7 +162,7 @@ impl<'a> Candidates<'a> {
         let behind = part(self.bytes, last.end, self.bytes.len());
         if kind_of(word) == Kind::Object && matches!(behind, [b'-', b'-', ..]) {
             let text = self.joined(&[word, b" <- ", word, b" - 1;"])?;
-            let said = Reason::Said("`--` begins a comment: a variable is counted by `x <- x - 1`");
+            let said = Reason::Hinted(Hint::NoDecrement);
             let end = last.end.saturating_add(line_length(behind));
             self.put(said, last.start, end, &text)?;
         }
@@ -185,7 +186,7 @@ impl<'a> Candidates<'a> {
         let end = self.before(self.expression_end(index), 1).end;
         let first = self.splice(last.end, here.start, b"(")?;
         let second = self.splice(end, end, b")")?;
-        let said = Reason::Said("the arguments of a call stand in parentheses");
+        let said = Reason::Hinted(Hint::ArgumentsInParentheses);
         self.put_two(said, first, second)
     }
 
@@ -213,7 +214,7 @@ impl<'a> Candidates<'a> {
             && self.word_before(index, 2) == b".".as_slice()
             && is_one_of(&OWN, self.text(object))
         {
-            let said = Reason::Said("an attribute stands alone: `x` for `self.x`");
+            let said = Reason::Hinted(Hint::AttributeAlone);
             self.put(said, object.start, self.before(index, 1).start, b"")?;
         }
         Ok(())
@@ -237,7 +238,7 @@ impl<'a> Candidates<'a> {
             self.between(middle, end),
             b" else false fi",
         ])?;
-        let said = Reason::Said("comparisons are not joined: `if a < b then b < c else false fi`");
+        let said = Reason::Hinted(Hint::NoChainedComparison);
         let from = self.lexeme(start).start;
         self.put(said, from, self.before(end, 1).end, &text)
     }
@@ -252,7 +253,7 @@ impl<'a> Candidates<'a> {
             return Ok(());
         }
         for name in &PRINTING {
-            let said = Reason::Said("`out_string` and `out_int` of IO print");
+            let said = Reason::Hinted(Hint::PrintingMethods);
             self.put(said, start.start, self.lexeme(last).end, name.as_bytes())?;
         }
         Ok(())
@@ -265,7 +266,7 @@ impl<'a> Candidates<'a> {
         }
         for there in index..index.saturating_add(LOOKED_FOR_IMPORT) {
             if self.word(there) == b";".as_slice() {
-                let said = Reason::Said("Cool has no `import`: all files stand in the call");
+                let said = Reason::Hinted(Hint::NoImport);
                 return self.put(said, self.lexeme(index).start, self.lexeme(there).end, b"");
             }
         }
@@ -291,7 +292,7 @@ impl<'a> Candidates<'a> {
         self.add_cool_formals(&mut text, open, close)?;
         text.extend_from_slice(b") : ")?;
         text.extend_from_slice(&self.cool_type(index)?)?;
-        let said = Reason::Said("a type stands behind its name: `f(x : C) : D`");
+        let said = Reason::Hinted(Hint::TypesOfMethod);
         self.put(said, class.start, self.lexeme(close).end, &text)
     }
 
@@ -344,7 +345,7 @@ impl<'a> Candidates<'a> {
 
     /// Whether a candidate takes away a call or a type that was written, though all that is said for it is that the rest is legal.
     pub(crate) fn is_silly(&self, candidate: &Candidate) -> bool {
-        if matches!(candidate.reason, Reason::Said(_)) {
+        if matches!(candidate.reason, Reason::Hinted(_)) {
             return false;
         }
         for splice in candidate.splices.as_slice() {

@@ -1,6 +1,7 @@
 //! Candidates for forms of other languages: the forms of Cool that mean the same.
 
 use crate::candidate::{Candidates, Reason};
+use crate::hint::Hint;
 use crate::kind::{Kind, is_one_of, kind_of};
 use crate::lexeme::{line_length, part};
 use std::alloc::AllocError;
@@ -51,13 +52,13 @@ impl<'a> Candidates<'a> {
 
     /// `a and b` as `if a then b else false fi`, with a sign of so many lexemes.
     fn add_both(&mut self, index: usize, many: usize) -> Result<(), AllocError> {
-        let said = Reason::Said("Cool has no `and`: `if a then b else false fi`");
+        let said = Reason::Hinted(Hint::NoAnd);
         self.add_choice(said, index, many, b" then ", b" else false fi")
     }
 
     /// `a or b` as `if a then true else b fi`.
     fn add_either(&mut self, index: usize, many: usize) -> Result<(), AllocError> {
-        let said = Reason::Said("Cool has no `or`: `if a then true else b fi`");
+        let said = Reason::Hinted(Hint::NoOr);
         self.add_choice(said, index, many, b" then true else ", b" fi")
     }
 
@@ -95,12 +96,7 @@ impl<'a> Candidates<'a> {
         let text = self.joined(&[left, b" - ", left, b" / ", right, b" * ", right])?;
         let from = self.lexeme(start).start;
         let to = self.before(end, 1).end;
-        self.put(
-            Reason::Said("Cool has no remainder: `a - a / b * b`"),
-            from,
-            to,
-            &text,
-        )
+        self.put(Reason::Hinted(Hint::NoRemainder), from, to, &text)
     }
 
     /// `a > b` as `b < a`.
@@ -111,7 +107,7 @@ impl<'a> Candidates<'a> {
         } else {
             (next, b" < ")
         };
-        let said = Reason::Said("there is no `>`: the sides are turned");
+        let said = Reason::Hinted(Hint::NoGreaterSign);
         let ends = [self.operand_end(behind), self.expression_end(behind)];
         let starts = [self.operand_start(index), self.expression_start(index)];
         for start in starts {
@@ -133,7 +129,7 @@ impl<'a> Candidates<'a> {
         let first = self.splice(from, from, b"not ")?;
         let sign = self.lexeme(index);
         let second = self.splice(sign.start, sign.end, b"")?;
-        self.put_two(Reason::Said("there is no `!=`: `not a = b`"), first, second)
+        self.put_two(Reason::Hinted(Hint::NoUnequalSign), first, second)
     }
 
     /// A string in single quotes.
@@ -145,7 +141,7 @@ impl<'a> Candidates<'a> {
                 let other = here.end.saturating_add(offset);
                 let first = self.splice(here.start, here.end, b"\"")?;
                 let second = self.splice(other, other.saturating_add(1), b"\"")?;
-                return self.put_two(Reason::Said("a string stands in `\"`"), first, second);
+                return self.put_two(Reason::Hinted(Hint::DoubleQuotes), first, second);
             }
         }
         Ok(())
@@ -162,11 +158,7 @@ impl<'a> Candidates<'a> {
                     let end = self.lexeme(there).end;
                     let first = self.splice(here.start, here.end, b"else if")?;
                     let second = self.splice(end, end, b" fi")?;
-                    return self.put_two(
-                        Reason::Said("`else if .. fi`: each `if` has its own `fi`"),
-                        first,
-                        second,
-                    );
+                    return self.put_two(Reason::Hinted(Hint::ElseIf), first, second);
                 }
                 b"fi" => depth = depth.saturating_sub(1),
                 _ => {}
@@ -187,11 +179,11 @@ impl<'a> Candidates<'a> {
         let word = self.text(name);
         if self.text(here) == b"=".as_slice() {
             let text = self.joined(&[word, b" <- ", word, b" ", self.text(sign)])?;
-            let said = Reason::Said("a sum is given by `x <- x + a`");
+            let said = Reason::Hinted(Hint::NoAssignmentOfSums);
             self.put(said, name.start, here.end, &text)
         } else {
             let text = self.joined(&[word, b" <- ", word, b" ", self.text(sign), b" 1"])?;
-            let said = Reason::Said("a variable is counted by `x <- x + 1`");
+            let said = Reason::Hinted(Hint::NoIncrement);
             self.put(said, name.start, here.end, &text)
         }
     }
@@ -205,7 +197,7 @@ impl<'a> Candidates<'a> {
         let start = self.before(index, 2).start;
         let end = self.lexeme(close).end;
         let given = part(self.bytes, self.lexeme(index).start, end);
-        let said = Reason::Said("`new` takes no arguments: a method of the new object does");
+        let said = Reason::Hinted(Hint::NewWithoutArguments);
         for there in 1..self.lexemes.len() {
             let is_method = is_self_type(self.word(there), self.text(class))
                 && self.word_before(there, 1) == b":".as_slice();
@@ -216,7 +208,7 @@ impl<'a> Candidates<'a> {
             self.put(said, start, end, &text)?;
         }
         self.put(
-            Reason::Said("`new` takes no arguments"),
+            Reason::Hinted(Hint::NewWithoutParentheses),
             class.end,
             end,
             b"",
@@ -241,10 +233,10 @@ impl<'a> Candidates<'a> {
         let class = self.lexeme(index);
         if self.word(index.saturating_add(1)) == b".".as_slice() {
             let text = self.joined(&[b"(new ", self.text(class), b")"])?;
-            let said = Reason::Said("a method is one of an object: `(new C).f()`");
+            let said = Reason::Hinted(Hint::MethodOfObject);
             self.put_at(said, class, &text)?;
         }
-        self.put(Reason::Missing, class.start, class.start, b"new ")
+        self.put(Reason::Edit, class.start, class.start, b"new ")
     }
 
     /// `a.x <- b` as `a.set_x(b)`.
@@ -254,9 +246,7 @@ impl<'a> Candidates<'a> {
         let end = self.expression_end(behind);
         let given = self.between(behind, end);
         let text = self.joined(&[b"set_", self.text(name), b"(", given, b")"])?;
-        let said = Reason::Said(
-            "an attribute is given a value in its own class and in those below it alone",
-        );
+        let said = Reason::Hinted(Hint::AssignByMethod);
         self.put(said, name.start, self.before(end, 1).end, &text)
     }
 
@@ -264,7 +254,7 @@ impl<'a> Candidates<'a> {
     fn add_returned(&mut self, index: usize) -> Result<(), AllocError> {
         let last = self.before(index, 1);
         let here = self.lexeme(index);
-        let said = Reason::Said("there is no `return`: the last expression is the value");
+        let said = Reason::Hinted(Hint::NoReturn);
         self.put(said, last.start, here.start, b"")?;
         let end = self.expression_end(index);
         if self.word(end) == b";".as_slice() {
@@ -281,7 +271,7 @@ impl<'a> Candidates<'a> {
         let class = self.lexeme(index);
         let name = self.lexeme(index.saturating_add(1));
         let text = self.joined(&[self.text(name), b" : ", self.text(class)])?;
-        let said = Reason::Said("a type stands behind its name: `x : C`");
+        let said = Reason::Hinted(Hint::TypeAfterName);
         self.put(said, class.start, name.end, &text)
     }
 }

@@ -1,7 +1,8 @@
 //! Guesses of edits that may mend a fault of a Cool text, and words that help its reader.
 //!
 //! Input: the bytes of source files, and a fault. Output: candidates, the likeliest first, words on forms of other languages, and the other definition of
-//! a thing that is defined twice. No clause says which candidates come: `cool_mend` tries each edit.
+//! a thing that is defined twice. No clause says which candidates come: `cool_mend` tries each edit. `specs/Words.antt` defines the words on an edit,
+//! and `specs/Hints.antt` the sentence of each hint.
 #![tactic(auto)]
 
 mod candidate;
@@ -11,6 +12,7 @@ mod excerpt;
 mod extents;
 mod fitting;
 mod forms;
+mod hint;
 mod kind;
 mod lexeme;
 mod meaning_guesses;
@@ -26,6 +28,7 @@ mod text_guesses;
 pub use candidate::{Candidate, Reason, Splice, spliced};
 pub use definition::other_definition;
 pub use excerpt::{Excerpt, Program};
+pub use hint::{Hint, hint_words};
 pub use lexeme::{Lexeme, index_at, lexemes, part};
 pub use meaning_guesses::{beside_candidates, meaning_candidates};
 pub use other_words::{advice, is_advised, type_advice};

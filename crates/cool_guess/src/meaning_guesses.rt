@@ -3,6 +3,7 @@
 use crate::candidate::{Candidate, Candidates, Reason};
 use crate::definition::{is_class, parent_around};
 use crate::fitting::fitting;
+use crate::hint::Hint;
 use crate::kind::{Kind, is_number, is_one_of, is_type_name, kind_of};
 use crate::lexeme::Lexeme;
 use crate::names::{BASIC_CLASSES, MOST_NAMES, class_names, names_near, type_name};
@@ -184,7 +185,7 @@ impl<'a> Candidates<'a> {
             let word = self.word(there);
             if kind_of(word) == Kind::Object {
                 if let Some(declared) = self.type_of_name(word, there) {
-                    let said = Reason::Said("numbers alone are added and compared");
+                    let said = Reason::Hinted(Hint::NumbersOnly);
                     self.put_at(said, declared, b"Int")?;
                 }
             }
@@ -219,7 +220,7 @@ impl<'a> Candidates<'a> {
         self.is_guess = true;
         for fit in others.iter().take(MOST_BESIDE) {
             if !is_constant(fit.word) {
-                self.put_at(Reason::Other, here, fit.word)?;
+                self.put_at(Reason::Edit, here, fit.word)?;
             }
         }
         let more = fitting(self.alloc, self.bytes, self.lexemes, index, false)?;
@@ -240,13 +241,13 @@ impl<'a> Candidates<'a> {
             let sign = index.saturating_sub(1);
             let start = self.operand_start(sign);
             let text = self.joined(&[b"isvoid ", self.between(start, sign)])?;
-            let said = Reason::Said("there is no word for void: `isvoid x` asks for it");
+            let said = Reason::Hinted(Hint::NoNull);
             return self.put(said, self.lexeme(start).start, here.end, &text);
         }
         if word == b"super".as_slice() {
             let parent = parent_around(self.bytes, self.lexemes, index);
             let text = self.joined(&[b"self@", parent])?;
-            let said = Reason::Said("`self@Parent.f()` calls the method of the class Parent");
+            let said = Reason::Hinted(Hint::NoSuper);
             return self.put_at(said, here, &text);
         }
         Ok(())
@@ -264,7 +265,7 @@ impl<'a> Candidates<'a> {
                     && around.word(there.saturating_add(2)) == b")".as_slice()
                     && around.word(there.saturating_add(3)) == b":".as_slice();
                 if is_method {
-                    let said = Reason::Said("a method is called with parentheses: `f()`");
+                    let said = Reason::Hinted(Hint::CallWithParentheses);
                     return self.put(said, here.end, here.end, b"()");
                 }
             }
@@ -301,7 +302,7 @@ impl<'a> Candidates<'a> {
                     let close = self.lexeme(close).start;
                     let first = self.splice(open, open, b" {")?;
                     let second = self.splice(close, close, b"}; ")?;
-                    let said = Reason::Said("the variable of a `let` is known in its body alone");
+                    let said = Reason::Hinted(Hint::BodyOfLet);
                     self.put_two(said, first, second)?;
                 }
                 return Ok(());
@@ -343,12 +344,7 @@ impl<'a> Candidates<'a> {
     /// An attribute of this name and type at a byte.
     fn put_typed(&mut self, at: usize, name: &[u8], class: &[u8]) -> Result<(), AllocError> {
         let text = self.joined(&[b"\n  ", name, b" : ", class, b";"])?;
-        self.put(
-            Reason::Said("the name is declared as an attribute"),
-            at,
-            at,
-            &text,
-        )
+        self.put(Reason::Hinted(Hint::DeclareAttribute), at, at, &text)
     }
 
     /// `f(a)` as `a.f()`, and `a.equals(b)` as `a = b`.
@@ -363,12 +359,12 @@ impl<'a> Candidates<'a> {
         let end = self.lexeme(close).end;
         if self.word_before(index, 1) != b".".as_slice() {
             let text = self.joined(&[given, b".", self.text(here), b"()"])?;
-            let said = Reason::Said("a method stands behind its object: `a.f()`");
+            let said = Reason::Hinted(Hint::MethodAfterObject);
             return self.put(said, here.start, end, &text);
         }
         if is_one_of(&COMPARING, self.text(here)) {
             let text = self.joined(&[b" = ", given])?;
-            let said = Reason::Said("`=` compares");
+            let said = Reason::Hinted(Hint::NoMethodEquals);
             return self.put(said, self.before(index, 1).start, end, &text);
         }
         Ok(())
@@ -381,7 +377,7 @@ impl<'a> Candidates<'a> {
             return Ok(());
         };
         let start = self.lexeme(open).end;
-        let said = Reason::Said("the call has as many arguments as the method has formals");
+        let said = Reason::Hinted(Hint::ArgumentForEachFormal);
         for there in [open.saturating_add(1), close] {
             let fits = fitting(self.alloc, self.bytes, self.lexemes, there, false)?;
             self.is_guess = true;
@@ -419,7 +415,7 @@ impl<'a> Candidates<'a> {
         let end = self.expression_end(index);
         for there in start..end {
             if self.word(there) == b"<-".as_slice() {
-                let said = Reason::Said("`=` compares: `<-` gives a value");
+                let said = Reason::Hinted(Hint::EqualsCompares);
                 self.put_at(said, self.lexeme(there), b"=")?;
             }
         }
@@ -427,7 +423,7 @@ impl<'a> Candidates<'a> {
         let to = self.before(end, 1).end;
         let first = self.splice(from, from, b"not ")?;
         let second = self.splice(to, to, b" = 0")?;
-        self.put_two(Reason::Said("a number is compared with 0"), first, second)
+        self.put_two(Reason::Hinted(Hint::CompareWithZero), first, second)
     }
 
     /// The type that was found in the place of the declared one: of the variable, or else of the feature at a position.
@@ -441,7 +437,7 @@ impl<'a> Candidates<'a> {
             return Ok(());
         };
         let name = type_name(self.alloc, sources, found)?;
-        let said = Reason::Said("the declared type is that of the value");
+        let said = Reason::Hinted(Hint::DeclaredType);
         if let Some(declared) = self.declared(fault.kind, index) {
             self.put_at(said, declared, &name)?;
         }
@@ -487,7 +483,7 @@ impl<'a> Candidates<'a> {
         for apart in 0..4 {
             for name in names.as_slice() {
                 if distance(word, name) == apart && self.all.len() < MOST_NAMES {
-                    self.put_at(Reason::Other, here, name)?;
+                    self.put_at(Reason::Edit, here, name)?;
                 }
             }
         }
@@ -517,7 +513,7 @@ impl<'a> Candidates<'a> {
         };
         if self.word(class.saturating_add(2)) == b"{".as_slice() {
             let name = self.lexeme(class.saturating_add(1));
-            let said = Reason::Said("the methods of IO are those of classes that inherit from it");
+            let said = Reason::Hinted(Hint::InheritFromIO);
             self.put(said, name.end, name.end, b" inherits IO")?;
         }
         Ok(())
@@ -529,10 +525,10 @@ impl<'a> Candidates<'a> {
             let there = index.saturating_add(offset);
             if self.word_before(there, 1) == b"inherits".as_slice() {
                 let parent = self.lexeme(there);
-                let said = Reason::Said("the class inherits from Object alone");
+                let said = Reason::Hinted(Hint::InheritFromObject);
                 self.put(said, self.before(there, 2).end, parent.end, b"")?;
-                self.put_at(Reason::Other, parent, b"IO")?;
-                self.put_at(Reason::Other, parent, b"Object")?;
+                self.put_at(Reason::Edit, parent, b"IO")?;
+                self.put_at(Reason::Edit, parent, b"Object")?;
             }
         }
         Ok(())
@@ -540,7 +536,7 @@ impl<'a> Candidates<'a> {
 
     /// A class of a name near to it, or one that has a method main, is Main.
     fn add_main_class(&mut self) -> Result<(), AllocError> {
-        let said = Reason::Said("a program begins in a class Main");
+        let said = Reason::Hinted(Hint::ClassMain);
         let mut class = Lexeme { start: 0, end: 0 };
         for index in 1..self.lexemes.len() {
             let word = self.word(index);
@@ -573,7 +569,7 @@ impl<'a> Candidates<'a> {
             if word == b"main".as_slice() {
                 self.add_no_formals(open)?;
             } else if are_near(word, b"main") || word == b"Main".as_slice() {
-                let said = Reason::Said("a program begins in the method main");
+                let said = Reason::Hinted(Hint::MethodMain);
                 self.put_at(said, name, b"main")?;
             }
         }
@@ -586,7 +582,7 @@ impl<'a> Candidates<'a> {
             if self.word(later) == b")".as_slice() {
                 let start = self.lexeme(open).end;
                 let end = self.lexeme(later).start;
-                return self.put(Reason::Said("main has no formals"), start, end, b"");
+                return self.put(Reason::Hinted(Hint::MainWithoutFormals), start, end, b"");
             }
         }
         Ok(())
@@ -603,7 +599,7 @@ impl<'a> Candidates<'a> {
     /// No attribute at a position.
     fn add_no_attribute(&mut self, index: usize) -> Result<(), AllocError> {
         let end = self.lexeme(self.expression_end(index)).end;
-        let said = Reason::Said("the attribute that is there is used");
+        let said = Reason::Hinted(Hint::InheritedAttribute);
         self.put(said, self.before(index, 1).end, end, b"")
     }
 
@@ -613,7 +609,7 @@ impl<'a> Candidates<'a> {
             return Ok(());
         };
         let name = self.word(class.saturating_add(1));
-        self.put_at(Reason::Other, self.lexeme(index), name)
+        self.put_at(Reason::Edit, self.lexeme(index), name)
     }
 
     /// Other types for each formal, and for the result, of the method at a position.
@@ -631,7 +627,7 @@ impl<'a> Candidates<'a> {
 
     /// All types in the place of one, at most so many.
     fn add_types(&mut self, sources: &[Source<'_>], declared: Lexeme) -> Result<(), AllocError> {
-        let said = Reason::Said("the declared type is another");
+        let said = Reason::Edit;
         self.put_each(said, declared, &BASIC_CLASSES)?;
         let names = class_names(self.alloc, sources, MOST_NAMES)?;
         for name in names.as_slice() {
@@ -665,19 +661,19 @@ impl<'a> Candidates<'a> {
         let word = self.text(there);
         match word {
             [b'"', inner @ .., b'"'] if is_number(inner) => {
-                let said = Reason::Said("a number stands without quotes");
+                let said = Reason::Hinted(Hint::NumberInQuotes);
                 self.put_at(said, there, inner)
             }
             [b'"', inner @ .., b'"'] if is_one_of(&TRUTHS, inner) => {
-                let said = Reason::Said("`true` and `false` stand without quotes");
+                let said = Reason::Hinted(Hint::TruthInQuotes);
                 self.put_at(said, there, inner)
             }
             [b'0'..=b'9', ..] => {
                 let text = self.joined(&[b"\"", word, b"\""])?;
-                self.put_at(Reason::Said("a string stands in quotes"), there, &text)
+                self.put_at(Reason::Hinted(Hint::DoubleQuotes), there, &text)
             }
             _ => match counterpart(word) {
-                Some(other) => self.put_at(Reason::Other, there, other),
+                Some(other) => self.put_at(Reason::Edit, there, other),
                 None => Ok(()),
             },
         }
@@ -710,7 +706,7 @@ impl<'a> Candidates<'a> {
         let close = self.before(end, 1).end;
         let first = self.splice(start, next, b".concat(")?;
         let second = self.splice(close, close, b")")?;
-        let said = Reason::Said("strings are joined by `a.concat(b)`");
+        let said = Reason::Hinted(Hint::JoinStrings);
         self.put_two(said, first, second)
     }
 }

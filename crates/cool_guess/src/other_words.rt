@@ -1,6 +1,7 @@
 //! Hints on words, signs and forms of other languages.
 
 use crate::candidate::Candidates;
+use crate::hint::{Hint, hint_words};
 use crate::kind::{Kind, kind_of};
 use crate::lexeme::{Lexeme, word_at, word_before};
 use crate::signs::ADVICE;
@@ -21,37 +22,26 @@ pub fn advice(
     add_said(alloc, &mut all, &ADVICE, here)?;
     add_said(alloc, &mut all, &ADVICE, before)?;
     if is_attribute(bytes, lexemes, index) {
-        let said =
-            "behind a dot stands a call: an attribute is seen in its own class and in those below it alone";
-        all.push(Vec::from_slice(alloc, said.as_bytes())?)?;
+        add_words(alloc, &mut all, Hint::NoFieldAccess)?;
     }
-    if let Some(said) = foreign_form(alloc, bytes, lexemes, index) {
-        all.push(Vec::from_slice(alloc, said.as_bytes())?)?;
+    if let Some(hint) = foreign_form(alloc, bytes, lexemes, index) {
+        add_words(alloc, &mut all, hint)?;
     }
     Ok(all)
 }
 
-/// The words on a form of another language at a position, for which no edit at one place will do.
-fn foreign_form(
-    alloc: Global,
-    bytes: &[u8],
-    lexemes: &[Lexeme],
-    index: usize,
-) -> Option<&'static str> {
+/// The hint on a form of another language at a position, for which no edit at one place will do.
+fn foreign_form(alloc: Global, bytes: &[u8], lexemes: &[Lexeme], index: usize) -> Option<Hint> {
     let around = Candidates::new(alloc, bytes, lexemes);
     if around.is_constructor(index) {
-        return Some(
-            "Cool has no constructors: a method that sets the attributes and gives `self` does that",
-        );
+        return Some(Hint::NoConstructors);
     }
     if around.is_cast(index) {
-        return Some("Cool has no casts: `case` asks for the class of a value");
+        return Some(Hint::NoCasts);
     }
     let is_constant = matches!(kind_of(around.word(index)), Kind::Number | Kind::String);
     if is_constant && around.word_before(index, 1) == b"of".as_slice() {
-        return Some(
-            "a branch of `case` is for a class, `x : Int => ..`: values are compared by `if`",
-        );
+        return Some(Hint::BranchOfClass);
     }
     None
 }
@@ -61,8 +51,7 @@ pub fn type_advice(alloc: Global, fault: &Fault) -> Result<Vec<Vec<u8>>, AllocEr
     let mut all = Vec::new(alloc);
     if let Fault::Typing(fault) = fault {
         if let (Some(Ty::Class(INT)), Some(Ty::Class(STRING))) = (fault.found, fault.due) {
-            let said = "no method makes a String of an Int: `out_int` prints a number";
-            all.push(Vec::from_slice(alloc, said.as_bytes())?)?;
+            add_words(alloc, &mut all, Hint::NoTextOfInt)?;
         }
     }
     Ok(all)
@@ -72,14 +61,20 @@ pub fn type_advice(alloc: Global, fault: &Fault) -> Result<Vec<Vec<u8>>, AllocEr
 fn add_said(
     alloc: Global,
     all: &mut Vec<Vec<u8>>,
-    table: &[(&str, &str)],
+    table: &[(&str, Hint)],
     word: &[u8],
 ) -> Result<(), AllocError> {
-    for (known, said) in table {
+    for (known, hint) in table {
         if known.as_bytes() == word {
-            all.push(Vec::from_slice(alloc, said.as_bytes())?)?;
+            add_words(alloc, all, *hint)?;
         }
     }
+    Ok(())
+}
+
+/// Adds the words of a hint.
+fn add_words(alloc: Global, all: &mut Vec<Vec<u8>>, hint: Hint) -> Result<(), AllocError> {
+    all.push(Vec::from_slice(alloc, hint_words(hint).as_bytes())?)?;
     Ok(())
 }
 

@@ -1,7 +1,11 @@
 //! The difference of two texts, and the description of an edit in words.
 
+ghost use Rattle.std.specs.Prelude.{◌≡◌, ◌++◌, IfOk};
+ghost use Rattle.cool_guess.specs.Words.{edit_words, first_line, quoted, reason_words, trimmed};
+
 use crate::candidate::Reason;
-use crate::lexeme::{is_name_byte, line_length, part};
+use crate::hint::hint_words;
+use crate::lexeme::{is_name_byte, part};
 use std::alloc::{AllocError, Global};
 
 /// The range of the old text, and the bytes in its place, that lead to the new one: from the first byte that differs to the last, and no word in part.
@@ -65,39 +69,68 @@ fn goes_on(text: &[u8], at: usize) -> bool {
     }
 }
 
-/// The words on an edit that puts new bytes in the place of old ones. Returns `Err` only if memory runs out.
+/// The words on an edit that puts new bytes in the place of old ones, for this reason. Returns `Err` only if memory runs out.
 pub fn reason_words(
     alloc: Global,
     old: &[u8],
     new: &[u8],
     reason: Reason,
-) -> Result<Vec<u8>, AllocError> {
-    let mut words = Vec::new(alloc);
+) -> Result<Vec<u8>, AllocError>
+    ensures { IfOk result (λ words. words.items ≡ reason_words reason old.now new.now) }
+{
     match reason {
-        Reason::Said(said) => words.extend_from_slice(said.as_bytes())?,
-        _ if old.trim_ascii().is_empty() => {
-            add_quoted(&mut words, new)?;
-            words.extend_from_slice(b" is missing")?;
-        }
-        _ if new.trim_ascii().is_empty() => {
-            add_quoted(&mut words, old)?;
-            words.extend_from_slice(b" is one too many")?;
-        }
-        _ => {
-            add_quoted(&mut words, new)?;
-            words.extend_from_slice(b" in the place of ")?;
-            add_quoted(&mut words, old)?;
-        }
+        Reason::Edit => edit_words(alloc, trimmed(old), trimmed(new)),
+        Reason::Hinted(hint) => Vec::from_slice(alloc, hint_words(hint).as_bytes()),
     }
-    Ok(words)
 }
 
-/// Adds the first line of a text in quotes, without the white space around it.
-fn add_quoted(words: &mut Vec<u8>, text: &[u8]) -> Result<(), AllocError> {
-    let text = text.trim_ascii();
-    let stop = line_length(text);
-    words.extend_from_slice(b"`")?;
-    words.extend_from_slice(part(text, 0, stop))?;
-    words.extend_from_slice(if stop < text.len() { b" ..`" } else { b"`" })?;
-    Ok(())
+/// The words on bytes that are taken away and bytes that are put in, both without the white space around them. Returns `Err` only if memory runs out.
+fn edit_words(alloc: Global, old: &[u8], new: &[u8]) -> Result<Vec<u8>, AllocError>
+    ensures { IfOk result (λ words. words.items ≡ edit_words old.now new.now) }
+{
+    match (old, new) {
+        ([], []) => Vec::from_slice(alloc, b"change the white space"),
+        ([], _) => words_on(alloc, b"add ", new),
+        (_, []) => words_on(alloc, b"remove ", old),
+        _ => {
+            let mut words = words_on(alloc, b"write ", new)?;
+            words.extend_from_slice(&words_on(alloc, b" instead of ", old)?)?;
+            Ok(words)
+        }
+    }
+}
+
+/// These words, and behind them the first line of a text in quotes. Returns `Err` only if memory runs out.
+fn words_on(alloc: Global, words: &[u8], text: &[u8]) -> Result<Vec<u8>, AllocError>
+    ensures { IfOk result (λ all. all.items ≡ words.now ++ quoted text.now) }
+{
+    let mut all = Vec::from_slice(alloc, words)?;
+    let line = first_line(text);
+    all.push(b'`')?;
+    all.extend_from_slice(line)?;
+    all.extend_from_slice(if line.len() < text.len() {
+        b" ..`"
+    } else {
+        b"`"
+    })?;
+    Ok(all)
+}
+
+/// The bytes in front of the first newline.
+fn first_line(bytes: &[u8]) -> &[u8]
+    ensures { result.now ≡ first_line bytes.now }
+{
+    for index in 0..bytes.len() {
+        if bytes[index] == b'\n' {
+            return &bytes[..index];
+        }
+    }
+    bytes
+}
+
+/// The text without the white space around it.
+fn trimmed(text: &[u8]) -> &[u8]
+    ensures { result.now ≡ trimmed text.now }
+{
+    text.trim_ascii()
 }

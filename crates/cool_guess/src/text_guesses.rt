@@ -4,6 +4,7 @@ use crate::candidate::{Candidate, Candidates, Reason, ends_word, is_blank};
 use crate::extents::{begins_expression, closes, opens};
 use crate::fitting::{fitting, is_known, words_around};
 use crate::forms::wants_type;
+use crate::hint::Hint;
 use crate::kind::{KEYWORDS, Kind, is_one_of, kind_of};
 use crate::lexeme::{Lexeme, line_length, part};
 use crate::nearness::are_near;
@@ -131,13 +132,13 @@ impl<'a> Candidates<'a> {
     fn put_pairs(
         &mut self,
         index: usize,
-        table: &[(&str, &str, &str, &'static str)],
+        table: &[(&str, &str, &str, Hint)],
     ) -> Result<(), AllocError> {
         let first = self.before(index, 1);
         let second = self.lexeme(index);
-        for (one, other, text, said) in table {
+        for (one, other, text, hint) in table {
             if one.as_bytes() == self.text(first) && other.as_bytes() == self.text(second) {
-                self.put_pair(Reason::Said(said), first, second, text.as_bytes())?;
+                self.put_pair(Reason::Hinted(*hint), first, second, text.as_bytes())?;
             }
         }
         Ok(())
@@ -159,14 +160,10 @@ impl<'a> Candidates<'a> {
     }
 
     /// The text that a table has for a lexeme.
-    fn put_words(
-        &mut self,
-        place: Lexeme,
-        table: &[(&str, &str, &'static str)],
-    ) -> Result<(), AllocError> {
-        for (word, text, said) in table {
+    fn put_words(&mut self, place: Lexeme, table: &[(&str, &str, Hint)]) -> Result<(), AllocError> {
+        for (word, text, hint) in table {
             if word.as_bytes() == self.text(place) {
-                self.put_at(Reason::Said(said), place, text.as_bytes())?;
+                self.put_at(Reason::Hinted(*hint), place, text.as_bytes())?;
             }
         }
         Ok(())
@@ -184,13 +181,13 @@ impl<'a> Candidates<'a> {
             (_, b"(") if self.word(index.saturating_add(1)) == b"*".as_slice() => {
                 let line = line_length(part(self.bytes, here.start, self.bytes.len()));
                 let stop = here.start.saturating_add(line);
-                let said = Reason::Said("each `(*` wants a `*)`");
+                let said = Reason::Hinted(Hint::CommentNotClosed);
                 self.put(said, stop, stop, b" *)")?;
                 let end = self.bytes.len();
                 self.put(said, end, end, b" *)\n")
             }
             (_, b"*") => {
-                let said = Reason::Said("no `(*` is open here");
+                let said = Reason::Hinted(Hint::CommentNotOpen);
                 self.put(said, here.start, here.end.saturating_add(1), b"")
             }
             _ => Ok(()),
@@ -208,7 +205,7 @@ impl<'a> Candidates<'a> {
                     b"(*",
                 )?;
                 let second = self.splice(self.lexeme(later).start, end.end, b"*)")?;
-                let said = Reason::Said("a comment stands in `(*` and `*)`");
+                let said = Reason::Hinted(Hint::BlockComment);
                 return self.put_two(said, first, second);
             }
         }
@@ -221,7 +218,7 @@ impl<'a> Candidates<'a> {
         if !matches!(self.text(here), [b'"', ..]) {
             return Ok(());
         }
-        let said = Reason::Said("the string is closed");
+        let said = Reason::Hinted(Hint::StringNotClosed);
         let mut place = here.end;
         for _ in 0..MOST_SWALLOWED {
             self.put(said, place, place, b"\"")?;
@@ -236,7 +233,7 @@ impl<'a> Candidates<'a> {
             place = before;
         }
         self.put(said, here.end, here.end, b"\")")?;
-        let said = Reason::Said("a string goes on behind a `\\` at the end of its line");
+        let said = Reason::Hinted(Hint::StringOnNextLine);
         self.put(said, here.end, here.end, b"\\")
     }
 
@@ -249,11 +246,11 @@ impl<'a> Candidates<'a> {
         let said = match (kind_of(word), text.first_mut()) {
             (Kind::Object, Some(first)) => {
                 *first = first.to_ascii_uppercase();
-                Reason::Said("a type begins with a capital letter")
+                Reason::Hinted(Hint::CapitalLetter)
             }
             (Kind::Type, Some(first)) => {
                 *first = first.to_ascii_lowercase();
-                Reason::Said("the name of a feature or variable begins with a small letter")
+                Reason::Hinted(Hint::SmallLetter)
             }
             _ => return Ok(()),
         };
@@ -270,7 +267,7 @@ impl<'a> Candidates<'a> {
     fn put_near(&mut self, place: Lexeme, table: &[&str]) -> Result<(), AllocError> {
         for known in table {
             if are_near(self.text(place), known.as_bytes()) {
-                self.put_at(Reason::Other, place, known.as_bytes())?;
+                self.put_at(Reason::Edit, place, known.as_bytes())?;
             }
         }
         Ok(())
@@ -282,7 +279,7 @@ impl<'a> Candidates<'a> {
             let second = self.before(index, back);
             let first = self.before(index, back.saturating_add(1));
             if self.text(first) == self.text(second) && first.end > first.start {
-                self.put_at(Reason::Extra, second, b"")?;
+                self.put_at(Reason::Edit, second, b"")?;
             }
         }
         Ok(())
@@ -306,9 +303,7 @@ impl<'a> Candidates<'a> {
         let close = self.lexeme(close).start;
         let first = self.splice(open, open, b" {")?;
         let second = self.splice(close, close, text)?;
-        let said = Reason::Said(
-            "several expressions stand in braces of their own, each ended by `;`",
-        );
+        let said = Reason::Hinted(Hint::BlockOfSeveral);
         self.put_two(said, first, second)
     }
 
@@ -352,7 +347,7 @@ impl<'a> Candidates<'a> {
             let first = self.before(next, back.saturating_add(1));
             let text = self.exchanged(first, second)?;
             self.put(
-                Reason::Said("two are exchanged"),
+                Reason::Hinted(Hint::Exchanged),
                 first.start,
                 second.end,
                 &text,
@@ -433,7 +428,7 @@ impl<'a> Candidates<'a> {
         if !is_close && !is_blank(behind) && !is_end(behind) {
             text.push(b' ')?;
         }
-        self.put(Reason::Missing, place, place, &text)
+        self.put(Reason::Edit, place, place, &text)
     }
 
     /// Words that open something, in front of the expressions before the fault.
@@ -463,11 +458,11 @@ impl<'a> Candidates<'a> {
         let is_free = kind_of(self.text(here)) != Kind::Fixed;
         for fit in fits.as_slice() {
             if is_free || !is_constant(fit.word) {
-                self.put_at(Reason::Other, here, fit.word)?;
+                self.put_at(Reason::Edit, here, fit.word)?;
             }
         }
-        self.put_each(Reason::Other, here, &PIECES)?;
-        self.put_each(Reason::Other, here, &GUESSES)?;
+        self.put_each(Reason::Edit, here, &PIECES)?;
+        self.put_each(Reason::Edit, here, &GUESSES)?;
         self.is_guess = false;
         Ok(())
     }
@@ -486,7 +481,7 @@ impl<'a> Candidates<'a> {
         }
         for word in words.as_slice() {
             if !is_constant(word) {
-                self.put_at(Reason::Other, here, word)?;
+                self.put_at(Reason::Edit, here, word)?;
             }
         }
         self.is_guess = false;
@@ -516,9 +511,9 @@ impl<'a> Candidates<'a> {
             start: place,
             end: place,
         };
-        self.put_each(Reason::Missing, middle, &PARTING)?;
+        self.put_each(Reason::Edit, middle, &PARTING)?;
         let rest = Lexeme { start: place, end };
-        self.put_each(Reason::Other, rest, &PARTING)?;
+        self.put_each(Reason::Edit, rest, &PARTING)?;
         self.is_guess = false;
         Ok(())
     }
@@ -526,13 +521,13 @@ impl<'a> Candidates<'a> {
     /// The lexeme so many before the fault may be one too many.
     pub(crate) fn add_extra(&mut self, index: usize, back: usize) -> Result<(), AllocError> {
         let there = self.before(index, back);
-        self.put_at(Reason::Extra, there, b"")
+        self.put_at(Reason::Edit, there, b"")
     }
 
     /// Several words that may be missing in front of the fault.
     fn add_phrases(&mut self, index: usize) -> Result<(), AllocError> {
         let end = self.before(index, 1).end;
-        self.put_each(Reason::Missing, Lexeme { start: end, end }, &PHRASES)
+        self.put_each(Reason::Edit, Lexeme { start: end, end }, &PHRASES)
     }
 }
 

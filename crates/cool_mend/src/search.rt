@@ -11,7 +11,7 @@ use cool_check::TypeFault;
 use cool_faults::Fault;
 use cool_guess::{
     Candidate, Excerpt, Program, Reason, Source, beside_candidates, difference, index_at,
-    is_advised, meaning_candidates, part, reason_words, spliced, text_candidates,
+    is_advised, meaning_candidates, spliced, text_candidates,
 };
 use cool_lexer::LexKind;
 use cool_syntax::MOST_SOURCE_BYTES;
@@ -44,14 +44,13 @@ const MOST_FOUND: usize = 8;
 /// The number of excerpts that are tried once an edit is found on which other features may depend.
 const MOST_MORE: usize = 40;
 
-/// The words on an edit of another feature than that of the fault.
-const ELSEWHERE: &[u8] = b"; this changes another feature";
-
-/// An edit that may mend a fault, and the words on it.
+/// An edit that may mend a fault, and the reason for it.
 #[derive(Drop)]
 pub(crate) struct Found {
     pub(crate) edit: Edit,
-    pub(crate) words: Vec<u8>,
+    pub(crate) reason: Reason,
+    /// Whether the edit changes another feature than that of the fault.
+    pub(crate) elsewhere: bool,
 }
 
 /// The files, and the number of trials that are left.
@@ -226,18 +225,17 @@ impl<'a> Search<'a> {
         let mut found = Vec::new(self.alloc);
         for changed in all {
             let (start, end, text) = difference(self.alloc, old, &changed.text)?;
-            let reason = first.unwrap_or(changed.reason);
-            let mut words = reason_words(self.alloc, part(old, start, end), &text, reason)?;
-            if spot.is_elsewhere(start) || spot.is_elsewhere(end) {
-                words.extend_from_slice(ELSEWHERE)?;
-            }
             let edit = Edit {
                 file: spot.file,
                 start,
                 end,
                 text,
             };
-            found.push(Found { edit, words })?;
+            found.push(Found {
+                edit,
+                reason: first.unwrap_or(changed.reason),
+                elsewhere: spot.is_elsewhere(start) || spot.is_elsewhere(end),
+            })?;
         }
         Ok(found)
     }
