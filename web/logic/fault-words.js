@@ -12,7 +12,7 @@ const findingOf = (facts) => facts.find((it) => it.startsWith("found "));
 
 // The edit that is likely meant at the place of a notice: { text, words }, or undefined. The caller must check that the edited program is legal.
 function likelyEdit(words) {
-    return words.startsWith("`=` compares, and the answer is not used") ? { text: "<-", words: "`<-` in the place of `=`" } : undefined;
+    return words.startsWith("the result of this comparison is not used") ? { text: "<-", words: "write `<-` to assign" } : undefined;
 }
 
 if (typeof module === "object") module.exports = { findingOf, likelyEdit, nameBehind };

@@ -1,1 +1,2 @@
 pub mod NoticesInOrder
+pub mod ValuesOfParts

@@ -1,1 +1,3 @@
 pub mod Notices
+pub mod ValuePlaces
+pub mod ValuesLeft

@@ -3,7 +3,7 @@ use Rattle.std.specs.Prelude.{◌≡◌, ℕ, zero, ◌-◌, List, [], ◌∷◌
 use Rattle.std.specs.Option.{option_to_list}
 use Rattle.cool_syntax.specs.declared.operator.ArithOp.{ArithOp}
 use Rattle.cool_syntax.specs.declared.operator.ArithOp.TheVariants.{Div}
-use Rattle.cool_syntax.specs.declared.operator.CompareOp.TheVariants.{Equal}
+use Rattle.cool_syntax.specs.declared.operator.CompareOp.TheVariants.{Equal, Less}
 use Rattle.cool_syntax.specs.declared.place.Place.{Place}
 use Rattle.cool_syntax.specs.Tree.{Tree, Trees, MaybeTree, Cases, Last, More, Without, With, NoCase, CaseOf, place_of}
 use Rattle.cool_syntax.specs.Tree as trees
@@ -16,10 +16,10 @@ abbrev pub name_of : Tree → Option (List ℕ)
 name_of (trees.Id at name) = Some name
 name_of t = None
 
--- which notice is due at an expression whose value is not used: it has no effect of its own
+-- which notice is due at an expression whose value is not used: it has no effect of its own. A comparison with a name to its left likely was to be an
+-- assignment to that name.
 abbrev pub idle_kind : Tree → Option NoticeKind
-idle_kind (trees.Compare at Equal a b) = Some (if is_some (name_of a) then kind.Comparison else kind.Unused)
-idle_kind (trees.Compare at op a b) = Some kind.Unused
+idle_kind (trees.Compare at op a b) = Some (if is_some (name_of a) then kind.Comparison else kind.Unused)
 idle_kind (trees.Arith at op a b) = Some kind.Unused
 idle_kind (trees.Neg at t) = Some kind.Unused
 idle_kind (trees.Not at t) = Some kind.Unused
@@ -116,6 +116,13 @@ items_are_noticed : (p : Place) → due_notices (trees.Block p (More (trees.Comp
     ≡ record { kind = kind.SameSides; at = p } ∷ record { kind = kind.Comparison; at = p } ∷ record { kind = kind.Comparison; at = p } ∷ []
 items_are_noticed p = refl
 
+-- `n < 2` as such an item has the notice that `<-` was likely meant, and `1 < 2` only that its value is not used
+less_is_noticed : (p : Place) → idle_kind (trees.Compare p Less (trees.Id p (codes "n")) (trees.Int p 2)) ≡ Some kind.Comparison
+less_is_noticed p = refl
+
+numbers_are_not_assigned : (p : Place) → idle_kind (trees.Compare p Less (trees.Int p 1) (trees.Int p 2)) ≡ Some kind.Unused
+numbers_are_not_assigned p = refl
+
 division_is_noticed : (p : Place) → due_notices (trees.Arith p Div (trees.Int p 3) (trees.Int p 0)) ≡ record { kind = kind.ByZero; at = p } ∷ []
 division_is_noticed p = refl
 
@@ -124,9 +131,9 @@ other_division_is_not p = refl
 
 -- the text of a notice
 abbrev pub words : NoticeKind → List ℕ
-words kind.Comparison = codes "`=` compares, and the answer is not used: `<-` gives a value"
-words kind.Unused = codes "this has no effect: its value is not used"
-words kind.OwnValue = codes "this gives a name its own value: where a formal hides an attribute, one of them wants another name"
-words kind.AssignedTest = codes "`<-` gives a value: `=` compares"
-words kind.SameSides = codes "both sides are the same name"
-words kind.ByZero = codes "a division by 0 ends the program"
+words kind.Comparison = codes "the result of this comparison is not used: write `<-` to assign"
+words kind.Unused = codes "the value of this expression is not used"
+words kind.OwnValue = codes "this assigns a variable to itself; if it hides an attribute of the same name, rename one of them"
+words kind.AssignedTest = codes "`<-` assigns a value: write `=` to compare"
+words kind.SameSides = codes "both sides of this comparison are the same variable"
+words kind.ByZero = codes "this divides by 0, which ends the program with an error"

@@ -8,7 +8,7 @@ use cool_syntax::Place;
 /// A kind of notice.
 #[derive(Clone, Copy)]
 pub enum NoticeKind {
-    /// A comparison by `=` with a name to its left, whose value is not used. At the operator.
+    /// A comparison with a name to its left, whose value is not used: likely an assignment was meant. At the operator.
     Comparison,
     /// Another expression without an effect, whose value is not used. At it.
     Unused,
@@ -35,15 +35,16 @@ impl NoticeKind {
         ensures { result.now ≡ words self }
     {
         match self {
-            NoticeKind::Comparison =>
-                "`=` compares, and the answer is not used: `<-` gives a value",
-            NoticeKind::Unused => "this has no effect: its value is not used",
-            NoticeKind::OwnValue => {
-                "this gives a name its own value: where a formal hides an attribute, one of them wants another name"
+            NoticeKind::Comparison => {
+                "the result of this comparison is not used: write `<-` to assign"
             }
-            NoticeKind::AssignedTest => "`<-` gives a value: `=` compares",
-            NoticeKind::SameSides => "both sides are the same name",
-            NoticeKind::ByZero => "a division by 0 ends the program",
+            NoticeKind::Unused => "the value of this expression is not used",
+            NoticeKind::OwnValue => {
+                "this assigns a variable to itself; if it hides an attribute of the same name, rename one of them"
+            }
+            NoticeKind::AssignedTest => "`<-` assigns a value: write `=` to compare",
+            NoticeKind::SameSides => "both sides of this comparison are the same variable",
+            NoticeKind::ByZero => "this divides by 0, which ends the program with an error",
         }
     }
 }

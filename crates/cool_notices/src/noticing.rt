@@ -7,7 +7,7 @@ ghost use Rattle.cool_syntax.specs.NodeLists.{tree_at};
 ghost use Rattle.cool_notices.specs.Notices.{are_one_name, block_notices, due_notices, idle_kind, idle_notice, is_by_zero, is_name, is_zero, name_of, notice_if, own_notice, test_notice, up_to};
 
 use crate::kind::{Notice, NoticeKind};
-use cool_syntax::{ArithOp, Body, CompareOp, Name, Node, NodeId, Place};
+use cool_syntax::{ArithOp, Body, Name, Node, NodeId, Place};
 use std::alloc::{AllocError, Global};
 
 /// The first notices that are due in a body, at most so many: those of an expression after those of its parts. Returns `Err` only if memory runs out.
@@ -67,16 +67,11 @@ fn idle_kind(body: &Body, id: NodeId) -> Option<NoticeKind>
     ensures { result ≡ idle_kind (tree_at body.now id) }
 {
     match body.node(id) {
-        Node::Compare {
-            op: CompareOp::Equal,
-            left,
-            ..
-        } => match name_at(body, *left) {
+        Node::Compare { left, .. } => match name_at(body, *left) {
             Some(_) => Some(NoticeKind::Comparison),
             None => Some(NoticeKind::Unused),
         },
-        Node::Compare { .. }
-        | Node::Arith { .. }
+        Node::Arith { .. }
         | Node::Neg { .. }
         | Node::Not { .. }
         | Node::IsVoid { .. }
