@@ -3,6 +3,7 @@
 use Rattle.std.specs.Prelude.{◌≡◌, ◌≢◌, ℕ, suc, List, [], ◌∷◌, ◌++◌, map, Option, Some, None, IfSome}
 use Rattle.std.specs.List.{AllByRecursion}
 use Rattle.std.specs.Global.{Vec}
+use Rattle.cool_syntax.specs.declared.place.Place.{Place}
 use Rattle.cool_classes.specs.declared.class_id.ClassId.{ClassId}
 use Rattle.cool_classes.specs.declared.class_id.Ty.{Ty}
 use Rattle.cool_classes.specs.declared.class_id.Ty.TheVariants.{Class as IsClass, SelfType}
@@ -22,6 +23,7 @@ use Rattle.cool_mend.specs.declared.explanation.Methods.{Methods}
 use Rattle.cool_mend.specs.declared.explanation.Types.{Types}
 use Rattle.cool_mend.specs.Edits.{IsEdit}
 use Rattle.cool_mend.specs.Mends.{Mends}
+use Rattle.cool_mend.specs.Values.{values_told}
 
 -- the files are this class table
 abbrev pub IsTableOf : List (List ℕ) → List Class → Type 0
@@ -79,10 +81,15 @@ HaveTypes files fault told = (p : List Class) × IsTableOf files p × AreTypes p
 abbrev pub HaveMethods : List (List ℕ) → Fault → Methods → Type 0
 HaveMethods files fault told = (p : List Class) × IsTableOf files p × AreMethods p fault told.class.items told.all.items
 
--- the types and methods in an explanation, if there are any, are those of the class table of the files
+-- the value places in an explanation are those of the class table of the files, if one was made
+abbrev pub HaveValues : List (List ℕ) → Fault → List Place → Type 0
+HaveValues files fault values = (table : Option (List Class)) × IfSome table (IsTableOf files) × (values ≡ values_told table fault)
+
+-- the types and methods in an explanation, if there are any, are those of the class table of the files, and so are the places of the values
 pub record IsTold (files : List (List ℕ)) (x : Explanation) : Type 0 where
   pub types : IfSome x.types (HaveTypes files x.fault)
   pub methods : IfSome x.methods (HaveMethods files x.fault)
+  pub values : HaveValues files x.fault x.values.items
 
 -- a suggested mend is an edit of the files, and mends the fault of this number
 pub record IsMend (files : List (List ℕ)) (faults : List Fault) (number : ℕ) (m : Mend) : Type 0 where

@@ -2,3 +2,4 @@ pub mod Edits
 pub mod Explanations
 pub mod Mends
 pub mod Noticed
+pub mod Values

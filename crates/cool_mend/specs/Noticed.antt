@@ -3,7 +3,6 @@
 use Rattle.std.specs.Prelude.{◌≡◌, ℕ, List, [], map, take, Option, Some, None}
 use Rattle.std.specs.List.{flat_map}
 use Rattle.cool_syntax.specs.declared.file_tree.Feature.{Feature}
-use Rattle.cool_syntax.specs.declared.file_tree.Feature.TheVariants.{Method, Attribute}
 use Rattle.cool_syntax.specs.declared.place.Place.{Place}
 use Rattle.cool_syntax.specs.Tree.{Tree}
 use Rattle.cool_classes.specs.Chains.{Class}
@@ -12,11 +11,7 @@ use Rattle.cool_notices.specs.declared.kind.Notice.{Notice as Due}
 use Rattle.cool_notices.specs.Notices.{due_notices, words}
 use Rattle.cool_mend.specs.declared.explanation.Notice.{Notice}
 use Rattle.cool_mend.specs.declared.noticing.TheConstants.{MOST_NOTICES}
-
--- the expression of a feature, where it has one
-abbrev pub body_of : Feature → Option Tree
-body_of (Method m) = Some m.body
-body_of (Attribute a) = a.init
+use Rattle.cool_mend.specs.Values.{body_of}
 
 -- the notices that are due in a feature, in a class and in a program, in the order of the text
 abbrev pub due_in_body : Option Tree → List Due

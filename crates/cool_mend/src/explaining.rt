@@ -15,6 +15,7 @@ use crate::noticing::notices;
 use crate::search::{Found, Search};
 use crate::trial::mending;
 use crate::types::{class_table, fault_methods, fault_types};
+use crate::values::fault_values;
 use crate::words::fix_words;
 use cool_classes::ClassTable;
 use cool_faults::{Fault, Verdict, accept};
@@ -109,6 +110,7 @@ fn explanation(
         types: fault_types(alloc, classes, fault)?,
         methods: fault_methods(alloc, classes, fault, word)?,
         other: other_definition(alloc, files, fault)?,
+        values: fault_values(alloc, classes, fault)?,
         said: besides(alloc, said, &mend)?,
         mend,
     })

@@ -28,6 +28,8 @@ pub struct Explanation {
     pub methods: Option<Methods>,
     /// The place of the other definition of a thing that is defined twice.
     pub other: Option<Place>,
+    /// The places of the expressions that give the value, if a value has another type than the declared one.
+    pub values: Vec<Place>,
     /// Further words.
     pub said: Vec<Vec<u8>>,
     pub mend: Option<Mend>,

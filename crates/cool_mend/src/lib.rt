@@ -14,6 +14,7 @@ mod noticing;
 mod search;
 mod trial;
 mod types;
+mod values;
 mod words;
 
 pub use edit::Edit;

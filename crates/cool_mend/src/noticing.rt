@@ -1,15 +1,16 @@
 //! Notices about expressions that are legal and likely a mistake.
 
-ghost use Rattle.std.specs.Prelude.{◌≡◌, List, map, take, option_map, IfOk, OnOk};
+ghost use Rattle.std.specs.Prelude.{◌≡◌, List, map, take, IfOk, OnOk};
 ghost use Rattle.cool_notices.specs.declared.kind.Notice.{Notice as Due};
 ghost use Rattle.cool_notices.specs.Notices.{up_to};
-ghost use Rattle.cool_mend.specs.Noticed.{body_of, due_in_feature, due_in_program, due_saying, saying};
+ghost use Rattle.cool_mend.specs.Noticed.{due_in_feature, due_in_program, due_saying, saying};
 
 use crate::explanation::Notice;
+use crate::values::body_of;
 use cool_classes::{ClassId, ClassTable};
 use cool_guess::{index_at, lexemes};
 use cool_notices::{Notice as Found, body_notices};
-use cool_syntax::{Body, Feature, Place};
+use cool_syntax::Feature;
 use std::alloc::{AllocError, Global};
 
 /// The most notices of a program that are told.
@@ -51,19 +52,6 @@ fn add_of_feature(
         all.push(told(alloc, files, found[number])?)?;
     }
     Ok(())
-}
-
-/// The expression of a feature, where it has one.
-fn body_of(feature: &Feature) -> Option<&Body>
-    ensures { option_map (λ body. body.now) result ≡ body_of feature.now }
-{
-    match feature {
-        Feature::Method(method) => Some(&method.body),
-        Feature::Attribute(attribute) => match &attribute.init {
-            Some(body) => Some(body),
-            None => None,
-        },
-    }
 }
 
 /// A notice with its range and its words. Returns `Err` only if memory runs out.

@@ -78,7 +78,7 @@ all_but_last ts (a ∷ b ∷ ids) =
     ap (λ n. flat_map (idle_at ts) (take n (a ∷ b ∷ ids))) more ∙ ap (λ l. idle_at ts a ++ l) (all_but_last ts (b ∷ ids))
 
 -- one more turn
-pub one_more : {X : Type 0} (f : X → List Notice) (xs : List X) (i : ℕ) (d : X) → i < length xs → flat_map f (take i xs) ++ f (get_or xs i d) ≡ flat_map f (take (i + 1) xs)
+pub one_more : {X Y : Type 0} (f : X → List Y) (xs : List X) (i : ℕ) (d : X) → i < length xs → flat_map f (take i xs) ++ f (get_or xs i d) ≡ flat_map f (take (i + 1) xs)
 one_more f xs i d within =
     sym (ap (flat_map f) (take_more xs i d within) ∙ flat_map-append f (take i xs) (get_or xs i d ∷ []) ∙ ap (λ l. flat_map f (take i xs) ++ l) (append-nil (f (get_or xs i d))))
 
