@@ -80,7 +80,7 @@ class Answers {
 
 // An explained fault as a person reads it.
 function told({ kind, words, facts, cure, mend }) {
-    const parts = [`**${kind}: ${words}**`, facts.map((it) => `- ${it}`).join("\n"), cure ? `To mend it: ${cure}.` : ""];
+    const parts = [`**${kind}: ${words}**`, facts.map((it) => `- ${it}`).join("\n"), cure ? `To fix it: ${cure}.` : ""];
     parts.push(mend ? `Tried, as an edit (code action): ${mend.words}.` : "");
     return parts.filter(Boolean).join("\n\n");
 }

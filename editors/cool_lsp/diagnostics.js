@@ -171,11 +171,12 @@ class Checker {
         return [text.range(start, end), text.data.slice(start, end)];
     }
 
-    // Where what a fault names is defined, too.
+    // Where what a fault names is defined, too, and where its value comes from.
     related(fault) {
-        if (!fault?.other?.path) return {};
-        const { path: file, at } = fault.other;
-        return { relatedInformation: [{ location: { uri: this.files.uri(file), range: this.text(file).range(at, at) }, message: "defined here, too" }] };
+        const place = ({ path: file, at }, message) => ({ location: { uri: this.files.uri(file), range: this.text(file).range(at, at) }, message });
+        const values = (fault?.values ?? []).map((it) => place(it, "the value comes from here"));
+        const all = fault?.other?.path ? [...values, place(fault.other, "defined here, too")] : values;
+        return all.length > 0 ? { relatedInformation: all } : {};
     }
 
     text(file) {

@@ -13,7 +13,8 @@ class Explanation {
         };
         const located = (it) => ({ ...it, path: pathOf(it.file) });
         const { faults, notices } = explanationLines(lines);
-        this.faults = faults.map((it) => ({ ...located(it), other: it.other && located(it.other), mend: it.mend && located(it.mend) }));
+        const places = (it) => ({ values: it.values.map(located), other: it.other && located(it.other), mend: it.mend && located(it.mend) });
+        this.faults = faults.map((it) => ({ ...located(it), ...places(it) }));
         // An editor has no letters for some bytes.
         for (const it of this.faults) if (it.mend?.text.includes(UNREADABLE)) it.mend = undefined;
         this.notices = notices.map(located);

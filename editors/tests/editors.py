@@ -14,8 +14,8 @@ from .explanations import FAULTY, explained_by
 from .names import editor
 
 GREETED = r'greeted 0 "who? Anx\b \b\r\nhi An\r\nCOOL program successfully executed\r\n"'
-SHOWN = TOLD + ": found Bool, and due is Int"
-FACTS = ("- found Bool, and due is Int  To mend it: give a value of the declared class, or of a class below it.  "
+SHOWN = TOLD + ": expected Int, found Bool"
+FACTS = ("- expected Int, found Bool  To fix it: give a value of the declared class, or of a class below it.  "
          "Tried, as an edit (code action): `1` for `true`.")
 PREMISE = "T ≤ T₁"
 MENDED = 'mended:   s : String <- "ä𝒙"; t : Int <- 1;'
@@ -183,7 +183,7 @@ def vscode_by_modules(room, words):
     call = [room / "bin" / "node", HERE / "tests" / "vscode.cjs", package(room), "", room / "m.cl"]
     said = subprocess.run(call, timeout=SECONDS, stdout=subprocess.PIPE, check=True, env=environment).stdout.decode().splitlines()
     expect("VS Code", [said[0], said[4], *said[14:16], said[-1]],
-           ["1:23-1:24 E17 %s: found Bool, where Int is due 0" % TOLD, "definition 0:6-0:10", "run run run $cool 1 E17", GREETED, "0 told; 0 problems"])
+           ["1:23-1:24 E17 %s: expected Int, found Bool 0" % TOLD, "definition 0:6-0:10", "run run run $cool 1 E17", GREETED, "0 told; 0 problems"])
 
 
 def vscode_debugging(room, words):

@@ -13,16 +13,17 @@ TYPED = FAULTY.encode().index(b"t : Int")
 EDITED = FAULTY.encode().index(b"true;")
 FAULT = "initial value does not conform"
 # The output of a stand-in about the file. LINES has all kinds of lines.
-EXPLAINED = "fault 0:2:%d:%d E17: %s\nfact found Bool, and due is Int\ncure %s\nmend `1` for `true`\nedit 0:%d:%d 1\n" % (
+EXPLAINED = "fault 0:2:%d:%d E17: %s\nfact expected Int, found Bool\ncure %s\nmend `1` for `true`\nedit 0:%d:%d 1\n" % (
     TYPED, TYPED + 1, FAULT, CURE, EDITED, EDITED + 4)
 LINES = """fault 0:2:%d:%d E17: initial value does not conform
-fact found Bool, and due is Int
+fact expected Int, found Bool
 fact `t` is declared Int
+value 0:2:%d
 other 0:5:%d
 cure %s
 mend `1` in the place of `true`: a line\\nand a \\\\
 edit 0:%d:%d 1\\n\\\\
-""" % (TYPED, TYPED + 1, FAULTY.encode().index(b"Late"), CURE, EDITED, EDITED + 4)
+""" % (TYPED, TYPED + 1, EDITED, FAULTY.encode().index(b"Late"), CURE, EDITED, EDITED + 4)
 
 
 def stand_in(room, lines, before=""):
@@ -77,11 +78,12 @@ def faults_are_explained(room, words):
     first = client.open(at_, FAULTY)
     expect("at once", [(n["code"], n["range"]["start"]["character"], "relatedInformation" in n) for n in first], [("E17", 2, False)])
     said = hover(client, at_, at(FAULTY, TYPED)).split("\n\nThe rule ")[0].split("\n\n")
-    expect("hover", said, ["**E17: %s**" % FAULT, "- found Bool, and due is Int\n- `t` is declared Int", "To mend it: %s." % CURE,
+    expect("hover", said, ["**E17: %s**" % FAULT, "- expected Int, found Bool\n- `t` is declared Int", "To fix it: %s." % CURE,
                            "Tried, as an edit (code action): `1` in the place of `true`: a line\nand a \\."])
     note = client.told[at_.as_uri()][1][0]
     expect("range", whole(note), {"start": at(FAULTY, TYPED), "end": at(FAULTY, TYPED + 1)})
-    other = note["relatedInformation"][0]["location"]
+    value, other = (it["location"] for it in note["relatedInformation"])
+    expect("the value", (value["uri"], value["range"]["start"]), (at_.as_uri(), at(FAULTY, EDITED)))
     expect("the other place", (other["uri"], other["range"]["start"]), (at_.as_uri(), {"line": 4, "character": 6}))
     action = offered(client, at_, note["range"])[0]
     expect("action", (action["kind"], action["diagnostics"], action["title"]), ("quickfix", [note], "`1` in the place of `true`: a line\nand a \\"))
@@ -191,9 +193,9 @@ LEAST_WRITTEN, LEAST_PUT_BACK = 0.6, 0.8  # of the lines, and of the texts that 
 def faults_have_their_cures(room, words):
     """The advice is that of docs/faults.md."""
     path, client = room / "a.cl", Client(room, words.cool, explain=real())
-    client.open(path, "class Main { x : Int <- true; main() : Object { 0 }; };\n")
+    client.open(path, 'class Main { x : Bool <- if true then 1 else "a" fi; main() : Object { 0 }; };\n')
     row = next(line for line in (HERE.parent / "docs" / "faults.md").read_text().splitlines() if line.startswith("| `E17:"))
-    expect("cure", "To mend it: %s." % row.split("|")[3].strip() in hover(client, path, {"line": 0, "character": 13}), True)
+    expect("cure", "To fix it: %s." % row.split("|")[3].strip() in hover(client, path, {"line": 0, "character": 13}), True)
     expect("beside it", hover(client, path, {"line": 0, "character": 22}), None)
     client.end()
 

@@ -21,14 +21,15 @@ class ExplanationPlaces {
     fault(fault) {
         const found = { line: fault.line, words: `${fault.kind}: ${fault.words}`, ...this.range(fault), facts: fault.facts, cure: fault.cure };
         if (fault.rule) found.rule = fault.rule;
+        found.values = fault.values.map((it) => this.place(it.file, it.at));
         if (fault.other) found.other = this.place(fault.other.file, fault.other.at);
         if (fault.mend) found.mend = { words: fault.mend.words, ...this.range(fault.mend), text: fault.mend.text };
         return found;
     }
 }
 
-// Parses lines about these files to { faults, notices }, and throws if a line has no known form. A fault has { line, words, from, to, facts }, and may have
-// { rule: { name, premise }, other, cure, mend: { words, from, to, text } }.
+// Parses lines about these files to { faults, notices }, and throws if a line has no known form. A fault has { line, words, from, to, facts, values }, and
+// may have { rule: { name, premise }, other, cure, mend: { words, from, to, text } }.
 function explanationOf(files, lines) {
     const { faults, notices } = explanationLines(lines), places = new ExplanationPlaces(files);
     return { faults: faults.map((it) => places.fault(it)), notices: notices.map((it) => ({ words: it.words, ...places.range(it) })) };

@@ -12,10 +12,12 @@ const placeWords = ({ file, line }) => (files.length > 1 ? `${file}:${line}` : `
 const textBetween = ({ file, line, column }, to) => (linesOf(fileNamed(file)?.text ?? "")[line - 1] ?? "").slice(column, to.column);
 
 // The items below the place and the words of an error.
-function detailsOf({ facts, other, cure, mend }) {
+function detailsOf({ facts, values, other, cure, mend }) {
     const items = facts.map((it) => element("div", { className: "fact" }, ...spoken(it)));
-    if (other) items.push(element("button", { className: "other", onclick: () => goTo(other.file, other.line) }, `defined at ${placeWords(other)}, too`));
-    if (cure) items.push(element("div", { className: "cure" }, "To mend it: ", ...spoken(cure)));
+    const link = (it, words) => element("button", { className: "other", onclick: () => goTo(it.file, it.line) }, words);
+    items.push(...values.map((it) => link(it, `the value comes from ${placeWords(it)}`)));
+    if (other) items.push(link(other, `defined at ${placeWords(other)}, too`));
+    if (cure) items.push(element("div", { className: "cure" }, "To fix it: ", ...spoken(cure)));
     return mend ? [...items, ...mendItems(mend)] : items;
 }
 
@@ -23,7 +25,7 @@ function detailsOf({ facts, other, cure, mend }) {
 function mendItems(mend) {
     const title = `${mendedLines(mend)}\n\nCtrl+Z takes it back`;
     const fix = { className: "fix", disabled: !explanation, title, onclick: () => putMend(mend) };
-    return [element("button", fix, "Mend: ", ...spoken(mend.words)), changedLines(mend)];
+    return [element("button", fix, "Fix: ", ...spoken(mend.words)), changedLines(mend)];
 }
 
 // The number of equal lines at the beginning of two lists.

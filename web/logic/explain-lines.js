@@ -22,7 +22,7 @@ const EXPLAIN_READERS = {
     fault({ faults }, rest) {
         const [place, all] = parted(rest), [kind, words] = parted(all);
         const [file, line, start, end] = numbersOf(place);
-        faults.push({ file, line, start, end, kind: kind.replace(/:$/, ""), words: plainWords(words), facts: [] });
+        faults.push({ file, line, start, end, kind: kind.replace(/:$/, ""), words: plainWords(words), facts: [], values: [] });
     },
     rule({ faults }, rest) {
         const [, name, premise] = /^(\w+): (.*)$/.exec(rest);
@@ -30,6 +30,10 @@ const EXPLAIN_READERS = {
     },
     fact({ faults }, rest) {
         faults.at(-1).facts.push(plainWords(rest));
+    },
+    value({ faults }, rest) {
+        const [file, , at] = numbersOf(rest);
+        faults.at(-1).values.push({ file, at });
     },
     other({ faults }, rest) {
         const [file, , at] = numbersOf(rest);
@@ -51,8 +55,9 @@ const EXPLAIN_READERS = {
     },
 };
 
-// Parses lines to { faults, notices }, and throws if a line has no known form. A fault has { file, line, start, end, kind, words, facts }, and may have
-// { rule: { name, premise }, other: { file, at }, cure, mend: { words, file, start, end, text } }. A notice has { file, start, end, words }.
+// Parses lines to { faults, notices }, and throws if a line has no known form. A fault has { file, line, start, end, kind, words, facts, values },
+// where `values` are the places { file, at } of the expressions that give its value, and may have { rule: { name, premise }, other: { file, at }, cure,
+// mend: { words, file, start, end, text } }. A notice has { file, start, end, words }.
 function explanationLines(lines) {
     const found = { faults: [], notices: [] };
     for (const line of lines.split("\n").slice(0, -1)) {

@@ -7,8 +7,8 @@ function nameBehind(words, lexeme) {
     return words.startsWith("unknown ") ? ` \`${lexeme}\`` : `: \`${lexeme}\``;
 }
 
-// The first fact that says what was found.
-const findingOf = (facts) => facts.find((it) => it.startsWith("found "));
+// The first fact that says what was found: a token, or a type and what was expected or compared.
+const findingOf = (facts) => facts.find((it) => /^found |^expected \S+, found |^\S+ is compared with /.test(it));
 
 // The edit that is likely meant at the place of a notice: { text, words }, or undefined. The caller must check that the edited program is legal.
 function likelyEdit(words) {

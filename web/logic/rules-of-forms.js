@@ -55,7 +55,7 @@ const wordsOfPieces = (pieces) => pieces.filter(([kind]) => kind !== "s").map(([
 
 // The failed premise of conformance, with the types that were found and required. It is undefined if the facts do not include them.
 function failingOf(kind, facts) {
-    const [, found, due] = facts.map((it) => /^found (\S+), where (\S+) is due/.exec(it)).find(Boolean) ?? [];
+    const [, due, found] = facts.map((it) => /^expected (\S+), found (\S+)$/.exec(it)).find(Boolean) ?? [];
     if (found === undefined) return undefined;
     return /^E(3|6|8|17|18)$/.test(kind) ? `${found} ≤ ${due}` : `${found} = ${due}`;
 }

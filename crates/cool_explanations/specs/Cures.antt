@@ -1,5 +1,6 @@
 -- The general advice on each kind of fault.
-use Rattle.std.specs.Prelude.{ℕ, List, codes}
+use Rattle.std.specs.Prelude.{ℕ, List, [], ◌∷◌, codes, Option, Some, None}
+use Rattle.std.specs.Global.{Vec}
 use Rattle.cool_syntax.specs.declared.lexical.LexKind.{LexKind}
 use Rattle.cool_syntax.specs.declared.lexical.LexKind.TheVariants.{L1, L2, L3, L4, L5, L6, L7, L8}
 use Rattle.cool_classes.specs.declared.fault.ClassKind.{ClassKind}
@@ -8,6 +9,7 @@ use Rattle.cool_check.specs.declared.fault.TypeKind.{TypeKind}
 use Rattle.cool_check.specs.declared.fault.TypeKind.TheVariants.{E1, E2, E3, E4, E5, E6, E7, E8, E9, E10, E11, E12, E13, E14, E15, E16, E17, E18}
 use Rattle.cool_faults.specs.declared.fault.Fault.{Fault}
 use Rattle.cool_faults.specs.declared.fault.Fault.TheVariants.{Lex, Syntax, Class, Typing}
+use Rattle.cool_mend.specs.declared.explanation.Mend.{Mend}
 
 abbrev pub lex_cure : LexKind → List ℕ
 lex_cure L1 = codes "Cool has no `>`, `!`, `%`, `'` or `[`; if it is the first character of the file, save without a byte order mark"
@@ -63,3 +65,9 @@ cure_words (Lex f) = lex_cure f.kind
 cure_words (Syntax f) = codes "look for a missing `;`, `fi`, `pool` or `esac` before it; minus is `~`, and `--` begins a comment"
 cure_words (Class f) = class_cure f.kind
 cure_words (Typing f) = type_cure f.kind
+
+-- it is given only if the explanation of the fault has no further words and no fix
+abbrev pub cure_of : Fault → List (Vec ℕ) → Option Mend → Option (List ℕ)
+cure_of fault said (Some m) = None
+cure_of fault [] None = Some (cure_words fault)
+cure_of fault (words ∷ more) None = None

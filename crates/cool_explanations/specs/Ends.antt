@@ -13,7 +13,7 @@ use Rattle.cool_explanations.specs.declared.form.Form.TheVariants.{Text, Lines}
 
 -- the answer for files of these names, in this form
 abbrev pub form_text : Form → List (List ℕ) → List (List ℕ) → Explained → List ℕ
-form_text Text names contents told = text_of names contents told.explanations.items
+form_text Text names contents told = text_of names contents told
 form_text Lines names contents told = lines_of contents told
 
 -- The text on files of these bytes: an explanation of each of their faults, or if they have none the first notices that are due.

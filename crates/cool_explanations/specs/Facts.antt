@@ -28,7 +28,7 @@ found_facts file x (Syntax f) = found_words file x ∷ []
 found_facts file x (Class f) = []
 found_facts file x (Typing f) = []
 
--- the types of a fault are those of the two sides of =
+-- the types of a fault are those of the two sides of =: the found one is that of the right side
 abbrev pub is_of_equality : TypeKind → Bool
 is_of_equality E1 = false
 is_of_equality E2 = false
@@ -58,8 +58,9 @@ are_compared (Typing f) = is_of_equality f.kind
 -- two types that do not fit
 abbrev pub type_words : Fault → Types → List ℕ
 type_words fault types =
-    codes "found " ++ (types.found.items
-    ++ (if are_compared fault then codes ", compared with " ++ types.due.items else codes ", where " ++ (types.due.items ++ codes " is due")))
+    if are_compared fault
+    then types.due.items ++ (codes " is compared with " ++ types.found.items)
+    else codes "expected " ++ (types.due.items ++ (codes ", found " ++ types.found.items))
 
 abbrev pub type_facts : Fault → Option Types → List (List ℕ)
 type_facts fault None = []

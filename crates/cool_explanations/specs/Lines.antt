@@ -3,8 +3,9 @@
 --     fault FILE:LINE:START:END KIND: WORDS    as `check` tells it
 --     rule NAME: PREMISE                       the typing rule that the fault breaks, and the premise that fails
 --     fact WORDS                               what is known of the fault
+--     value FILE:LINE:BYTE                     an expression that gives the value, if a value has the wrong type
 --     other FILE:LINE:BYTE                     where the other definition stands of what is defined twice
---     cure WORDS                               what mends such a fault in general
+--     cure WORDS                               general advice on such a fault, if there are no further words and no mend
 --     mend WORDS                               an edit that was tried follows
 --     edit FILE:START:END TEXT                 TEXT goes in the place of these bytes
 --     notice FILE:LINE:START:END WORDS         legal, but likely a mistake
@@ -21,7 +22,7 @@ use Rattle.cool_mend.specs.declared.explanation.Explained.{Explained}
 use Rattle.cool_mend.specs.declared.explanation.Explanation.{Explanation}
 use Rattle.cool_mend.specs.declared.explanation.Mend.{Mend}
 use Rattle.cool_mend.specs.declared.explanation.Notice.{Notice}
-use Rattle.cool_explanations.specs.Cures.{cure_words}
+use Rattle.cool_explanations.specs.Cures.{cure_of}
 use Rattle.cool_explanations.specs.Facts.{facts}
 use Rattle.cool_explanations.specs.Rules.{rule_line}
 use Rattle.cool_explanations.specs.Texts.{file_of}
@@ -44,9 +45,20 @@ word_line what words = what ++ (escaped (shown words) ++ codes "\n")
 abbrev pub fact_line : List ℕ → List ℕ
 fact_line = word_line (codes "fact ")
 
+-- a line of a place behind what it is
+abbrev pub place_line : List ℕ → Place → List ℕ
+place_line what p = what ++ (decimal p.file ++ (codes ":" ++ (decimal p.line ++ (codes ":" ++ (decimal p.byte ++ codes "\n")))))
+
+abbrev pub value_line : Place → List ℕ
+value_line = place_line (codes "value ")
+
 abbrev pub other_line : Option Place → List ℕ
 other_line None = []
-other_line (Some p) = codes "other " ++ (decimal p.file ++ (codes ":" ++ (decimal p.line ++ (codes ":" ++ (decimal p.byte ++ codes "\n")))))
+other_line (Some p) = place_line (codes "other ") p
+
+abbrev pub cure_line : Option (List ℕ) → List ℕ
+cure_line None = []
+cure_line (Some cure) = word_line (codes "cure ") cure
 
 abbrev pub edit_line : Edit → List ℕ
 edit_line e =
@@ -69,9 +81,10 @@ explanation_lines files x =
     first_line x
     ++ (rule_line x.fault
     ++ (flat_map fact_line (facts (file_of files (place_of x.fault).file) x)
+    ++ (flat_map value_line x.values.items
     ++ (other_line x.other
-    ++ (word_line (codes "cure ") (cure_words x.fault)
-    ++ end_lines x.mend))))
+    ++ (cure_line (cure_of x.fault x.said.items x.mend)
+    ++ end_lines x.mend)))))
 
 abbrev pub notice_line : Notice → List ℕ
 notice_line n = codes "notice " ++ (range_text n.at n.end ++ word_line (codes " ") n.words.items)

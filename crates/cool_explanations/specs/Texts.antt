@@ -1,16 +1,17 @@
 -- Explanations for readers: for each fault the line of `check`, the source line with its range marked, what is known of the fault, and the lines that
--- mend it; or where no mend is told what mends such a fault in general.
-use Rattle.std.specs.Prelude.{ℕ, List, [], ◌++◌, codes, decimal, get_or, Option, Some, None, nat_eq, if◌then◌else◌}
+-- fix it, or general advice; and for each warning its line, and the source line.
+use Rattle.std.specs.Prelude.{ℕ, List, [], ◌∷◌, ◌++◌, codes, decimal, get_or, Option, Some, None, nat_eq, if◌then◌else◌}
 use Rattle.std.specs.List.{flat_map}
 use Rattle.cool_syntax.specs.declared.place.Place.{Place}
-use Rattle.cool_faults.specs.declared.fault.Fault.{Fault}
 use Rattle.cool_faults.specs.Shown.{shown}
 use Rattle.cool_faults.specs.Texts.{fault_line}
 use Rattle.cool_faults.specs.Verdicts.{place_of}
+use Rattle.cool_mend.specs.declared.explanation.Explained.{Explained}
 use Rattle.cool_mend.specs.declared.explanation.Explanation.{Explanation}
 use Rattle.cool_mend.specs.declared.explanation.Mend.{Mend}
+use Rattle.cool_mend.specs.declared.explanation.Notice.{Notice}
 use Rattle.cool_explanations.specs.Changes.{changed_text}
-use Rattle.cool_explanations.specs.Cures.{cure_words}
+use Rattle.cool_explanations.specs.Cures.{cure_of}
 use Rattle.cool_explanations.specs.Facts.{facts}
 use Rattle.cool_explanations.specs.SourceLines.{source_line}
 
@@ -35,9 +36,19 @@ abbrev pub other_text : List (List ℕ) → ℕ → Option Place → List ℕ
 other_text names file None = []
 other_text names file (Some p) = note_line (other_words names p file)
 
--- general advice for a fault
-abbrev pub cure_text : List ℕ → List ℕ
-cure_text cure = note_line (codes "to mend it: " ++ cure)
+-- the source line of an expression that gives a value, with a mark below its place
+abbrev pub value_line : List (List ℕ) → Place → List ℕ
+value_line files p = source_line (file_of files p.file) p.line p.byte p.byte
+
+-- where a value comes from, if that is known
+abbrev pub value_text : List (List ℕ) → List Place → List ℕ
+value_text files [] = []
+value_text files (p ∷ ps) = note_line (codes "the value comes from here:") ++ flat_map (value_line files) (p ∷ ps)
+
+-- general advice for a fault, if it is given
+abbrev pub cure_text : Option (List ℕ) → List ℕ
+cure_text None = []
+cure_text (Some cure) = note_line (codes "to fix it: " ++ cure)
 
 -- the words about a fix
 abbrev pub mend_line : List (List ℕ) → ℕ → Mend → List ℕ
@@ -48,9 +59,9 @@ abbrev pub mend_text : List (List ℕ) → List (List ℕ) → ℕ → Mend → 
 mend_text names files file m =
     mend_line names file m ++ changed_text (file_of files m.edit.file) m.edit
 
-abbrev pub end_text : List (List ℕ) → List (List ℕ) → Fault → Option Mend → List ℕ
-end_text names files fault None = cure_text (cure_words fault)
-end_text names files fault (Some m) = mend_text names files (place_of fault).file m
+abbrev pub end_text : List (List ℕ) → List (List ℕ) → ℕ → Option Mend → List ℕ
+end_text names files file None = []
+end_text names files file (Some m) = mend_text names files file m
 
 -- the explanation of a fault of files of these names
 abbrev pub explanation_text : List (List ℕ) → List (List ℕ) → Explanation → List ℕ
@@ -60,9 +71,20 @@ explanation_text names files x =
     fault_line names x.fault
     ++ (source_line file at.line at.byte x.here.end
     ++ (flat_map note_line (facts file x)
+    ++ (value_text files x.values.items
     ++ (other_text names at.file x.other
-    ++ end_text names files x.fault x.mend)))
+    ++ (cure_text (cure_of x.fault x.said.items x.mend)
+    ++ end_text names files at.file x.mend)))))
 
--- the explanations of faults, one after the other
-abbrev pub text_of : List (List ℕ) → List (List ℕ) → List Explanation → List ℕ
-text_of names files all = flat_map (explanation_text names files) all
+-- the line of a warning: its file and line, and its words
+abbrev pub warning_line : List (List ℕ) → Notice → List ℕ
+warning_line names n =
+    shown (file_of names n.at.file) ++ (codes ":" ++ (decimal n.at.line ++ (codes ": warning: " ++ (n.words.items ++ codes "\n"))))
+
+-- a warning, with its source line
+abbrev pub warning_text : List (List ℕ) → List (List ℕ) → Notice → List ℕ
+warning_text names files n = warning_line names n ++ source_line (file_of files n.at.file) n.at.line n.at.byte n.end
+
+-- the explanations of faults, one after the other, and then the warnings
+abbrev pub text_of : List (List ℕ) → List (List ℕ) → Explained → List ℕ
+text_of names files told = flat_map (explanation_text names files) told.explanations.items ++ flat_map (warning_text names files) told.notices.items

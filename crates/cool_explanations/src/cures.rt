@@ -1,15 +1,29 @@
 //! The general advice on each kind of fault.
 
-ghost use Rattle.std.specs.Prelude.{◌≡◌};
-ghost use Rattle.cool_explanations.specs.Cures.{class_cure, cure_words, lex_cure, type_cure};
+ghost use Rattle.std.specs.Prelude.{◌≡◌, option_map};
+ghost use Rattle.cool_explanations.specs.Cures.{class_cure, cure_of, cure_words, lex_cure, type_cure};
 
 use cool_check::TypeKind;
 use cool_classes::ClassKind;
 use cool_faults::Fault;
+use cool_mend::Explanation;
 use cool_syntax::LexKind;
 
+/// The general advice on a fault, if its explanation has no further words and no fix.
+pub(crate) fn cure_of(told: &Explanation) -> Option<&'static str>
+    ensures { option_map (λ words. words.now) result ≡ cure_of told.now.fault told.now.said.items told.now.mend }
+{
+    match &told.mend {
+        Some(_) => None,
+        None => match told.said.as_slice() {
+            [] => Some(cure_words(&told.fault)),
+            [_, ..] => None,
+        },
+    }
+}
+
 /// The general advice on a fault.
-pub fn cure_words(fault: &Fault) -> &'static str
+fn cure_words(fault: &Fault) -> &'static str
     ensures { result.now ≡ cure_words fault.now }
 {
     match fault {

@@ -86,7 +86,7 @@ fn form_text(
     ensures { IfOk result (λ text. text.items ≡ form_text form (map string_bytes names.now) (bytes_of contents.now) told.now) }
 {
     match form {
-        Form::Text => text_of(alloc, names, contents, &told.explanations),
+        Form::Text => text_of(alloc, names, contents, told),
         Form::Lines => lines_of(alloc, contents, told),
     }
 }

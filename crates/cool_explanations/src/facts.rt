@@ -1,6 +1,6 @@
 //! The facts about a fault, in words.
 
-ghost use Rattle.std.specs.Prelude.{◌≡◌, ◌++◌, IfOk, ℕ, List, [], map};
+ghost use Rattle.std.specs.Prelude.{◌≡◌, ◌++◌, IfOk, ℕ, List, [], codes, map};
 ghost use Rattle.std.specs.Global.{Vec};
 ghost use Rattle.cool_faults.specs.Files.{bytes_of};
 ghost use Rattle.cool_explanations.specs.Facts.{facts, found_facts, found_words, further, listed, lexeme_text, method_facts, method_words, type_facts, type_words, are_compared};
@@ -63,16 +63,31 @@ fn lexeme_text(alloc: Global, none: &[u8], lexeme: &[u8]) -> Result<Vec<u8>, All
 fn type_words(alloc: Global, fault: &Fault, types: &Types) -> Result<Vec<u8>, AllocError>
     ensures { IfOk result (λ words. words.items ≡ type_words fault.now types.now) }
 {
-    let mut words = Vec::from_slice(alloc, b"found ")?;
-    words.extend_from_slice(&types.found)?;
     if are_compared(fault) {
-        words.extend_from_slice(b", compared with ")?;
-        words.extend_from_slice(&types.due)?;
+        compared_words(alloc, types)
     } else {
-        words.extend_from_slice(b", where ")?;
-        words.extend_from_slice(&types.due)?;
-        words.extend_from_slice(b" is due")?;
+        expected_words(alloc, types)
     }
+}
+
+/// Two types that cannot be compared. Returns `Err` only if memory runs out.
+fn compared_words(alloc: Global, types: &Types) -> Result<Vec<u8>, AllocError>
+    ensures { IfOk result (λ words. words.items ≡ types.now.due.items ++ (codes " is compared with " ++ types.now.found.items)) }
+{
+    let mut words = Vec::from_slice(alloc, &types.due)?;
+    words.extend_from_slice(b" is compared with ")?;
+    words.extend_from_slice(&types.found)?;
+    Ok(words)
+}
+
+/// The type that is due, and the one that is found. Returns `Err` only if memory runs out.
+fn expected_words(alloc: Global, types: &Types) -> Result<Vec<u8>, AllocError>
+    ensures { IfOk result (λ words. words.items ≡ codes "expected " ++ (types.now.due.items ++ (codes ", found " ++ types.now.found.items))) }
+{
+    let mut words = Vec::from_slice(alloc, b"expected ")?;
+    words.extend_from_slice(&types.due)?;
+    words.extend_from_slice(b", found ")?;
+    words.extend_from_slice(&types.found)?;
     Ok(words)
 }
 

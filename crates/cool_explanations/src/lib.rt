@@ -18,6 +18,8 @@ mod rules;
 mod shown;
 mod source_line;
 mod text;
+mod values;
+mod warnings;
 
 pub use form::Form;
 pub use note::BAD_COMMAND_LINE;

@@ -1,11 +1,11 @@
 //! Explanations for programs.
 
-ghost use Rattle.std.specs.Prelude.{◌≡◌, ◌++◌, IfOk, ℕ, List, map};
+ghost use Rattle.std.specs.Prelude.{◌≡◌, ◌++◌, IfOk, ℕ, List, map, option_map};
 ghost use Rattle.std.specs.List.{flat_map};
 ghost use Rattle.cool_faults.specs.Files.{bytes_of};
-ghost use Rattle.cool_explanations.specs.Lines.{edit_line, end_lines, escaped, escaped_byte, explanation_lines, fact_line, first_line, lines_of, mend_lines, notice_line, other_line, range_text, word_line};
+ghost use Rattle.cool_explanations.specs.Lines.{cure_line, edit_line, end_lines, escaped, escaped_byte, explanation_lines, fact_line, first_line, lines_of, mend_lines, notice_line, other_line, place_line, range_text, value_line, word_line};
 
-use crate::cures::cure_words;
+use crate::cures::cure_of;
 use crate::facts::facts;
 use crate::rules::rule_line;
 use crate::text::file_of;
@@ -65,8 +65,9 @@ fn explanation_lines(
     let mut text = first_line(alloc, told)?;
     text.extend_from_slice(&rule_line(alloc, &told.fault)?)?;
     text.extend_from_slice(&fact_lines(alloc, &facts(alloc, file, told)?)?)?;
+    text.extend_from_slice(&value_lines(alloc, &told.values)?)?;
     text.extend_from_slice(&other_line(alloc, told.other)?)?;
-    text.extend_from_slice(&word_line(alloc, b"cure ", cure_words(&told.fault).as_bytes())?)?;
+    text.extend_from_slice(&cure_line(alloc, cure_of(told))?)?;
     text.extend_from_slice(&end_lines(alloc, &told.mend)?)?;
     Ok(text)
 }
@@ -126,9 +127,38 @@ fn other_line(alloc: Global, other: Option<Place>) -> Result<Vec<u8>, AllocError
     ensures { IfOk result (λ text. text.items ≡ other_line other) }
 {
     match other {
-        Some(Place { file, line, byte }) => {
-            Ok(format!(in alloc; "other {file}:{line}:{byte}\n")?.into_bytes())
-        }
+        Some(at) => place_line(alloc, b"other ", at),
+        None => Ok(Vec::new(alloc)),
+    }
+}
+
+/// A line for each expression that gives a value. Returns `Err` only if memory runs out.
+fn value_lines(alloc: Global, places: &[Place]) -> Result<Vec<u8>, AllocError>
+    ensures { IfOk result (λ text. text.items ≡ flat_map value_line places.now) }
+{
+    let mut text = Vec::new(alloc);
+    for at in places {
+        text.extend_from_slice(&place_line(alloc, b"value ", *at)?)?;
+    }
+    Ok(text)
+}
+
+/// A line of a place behind what it is. Returns `Err` only if memory runs out.
+fn place_line(alloc: Global, what: &[u8], at: Place) -> Result<Vec<u8>, AllocError>
+    ensures { IfOk result (λ text. text.items ≡ place_line what.now at) }
+{
+    let Place { file, line, byte } = at;
+    let mut text = Vec::from_slice(alloc, what)?;
+    text.extend_from_slice(format!(in alloc; "{file}:{line}:{byte}\n")?.as_bytes())?;
+    Ok(text)
+}
+
+/// The line of the general advice, if it is given. Returns `Err` only if memory runs out.
+fn cure_line(alloc: Global, cure: Option<&'static str>) -> Result<Vec<u8>, AllocError>
+    ensures { IfOk result (λ text. text.items ≡ cure_line (option_map (λ words. words.now) cure.entry)) }
+{
+    match cure {
+        Some(cure) => word_line(alloc, b"cure ", cure.as_bytes()),
         None => Ok(Vec::new(alloc)),
     }
 }

@@ -1,6 +1,6 @@
 //! Explanations for readers.
 
-ghost use Rattle.std.specs.Prelude.{◌≡◌, IfOk, length, map, string_bytes};
+ghost use Rattle.std.specs.Prelude.{◌≡◌, IfOk, length, map, option_map, string_bytes};
 ghost use Rattle.std.specs.List.{AllByRecursion, flat_map};
 ghost use Rattle.cool_syntax.specs.TokenFacts.{IsPlaced};
 ghost use Rattle.cool_faults.specs.Files.{bytes_of};
@@ -8,23 +8,40 @@ ghost use Rattle.cool_faults.specs.Verdicts.{place_of};
 ghost use Rattle.cool_explanations.specs.Texts.{cure_text, explanation_text, file_of, end_text, mend_line, mend_text, note_line, of_file, other_text, other_words, text_of};
 
 use crate::changes::changed_text;
-use crate::cures::cure_words;
+use crate::cures::cure_of;
 use crate::facts::facts;
 use crate::source_line::source_line;
+use crate::values::value_text;
+use crate::warnings::warnings_text;
 use cool_faults::{fault_text, shown};
-use cool_mend::{Explanation, Mend};
+use cool_mend::{Explained, Explanation, Mend};
 use cool_syntax::Place;
 use std::alloc::{AllocError, Global};
 
-/// The explanations of faults of files of these names, one after the other. Returns `Err` only if memory runs out.
+/// The explanations of faults of files of these names, one after the other, and then the warnings. Returns `Err` only if memory runs out.
 pub(crate) fn text_of(
+    alloc: Global,
+    names: &[String],
+    files: &[Vec<u8>],
+    told: &Explained,
+) -> Result<Vec<u8>, AllocError>
+    requires { AllByRecursion (λ x. IsPlaced (length names.now) (place_of x.fault)) told.now.explanations.items }
+    ensures { IfOk result (λ text. text.items ≡ text_of (map string_bytes names.now) (bytes_of files.now) told.now) }
+{
+    let mut text = explanations_text(alloc, names, files, &told.explanations)?;
+    text.extend_from_slice(&warnings_text(alloc, names, files, &told.notices)?)?;
+    Ok(text)
+}
+
+/// The explanations of faults of files of these names, one after the other. Returns `Err` only if memory runs out.
+fn explanations_text(
     alloc: Global,
     names: &[String],
     files: &[Vec<u8>],
     all: &[Explanation],
 ) -> Result<Vec<u8>, AllocError>
     requires { AllByRecursion (λ x. IsPlaced (length names.now) (place_of x.fault)) all.now }
-    ensures { IfOk result (λ text. text.items ≡ text_of (map string_bytes names.now) (bytes_of files.now) all.now) }
+    ensures { IfOk result (λ text. text.items ≡ flat_map (explanation_text (map string_bytes names.now) (bytes_of files.now)) all.now) }
 {
     let mut text = Vec::new(alloc);
     for told in all {
@@ -48,23 +65,26 @@ fn explanation_text(
     let mut text = fault_text(alloc, names, &told.fault)?;
     text.extend_from_slice(&source_line(alloc, file, at.line, at.byte as usize, told.here.end)?)?;
     text.extend_from_slice(&note_lines(alloc, &facts(alloc, file, told)?)?)?;
+    text.extend_from_slice(&value_text(alloc, files, &told.values)?)?;
     text.extend_from_slice(&other_text(alloc, names, at.file, told.other)?)?;
-    text.extend_from_slice(&end_text(alloc, names, files, told)?)?;
+    text.extend_from_slice(&cure_text(alloc, cure_of(told))?)?;
+    text.extend_from_slice(&end_text(alloc, names, files, at.file, &told.mend)?)?;
     Ok(text)
 }
 
-/// The text on a mend: the edit that was tried, or else the general advice. Returns `Err` only if memory runs out.
+/// The text on the edit that was tried, if there is one, for a fault of this file. Returns `Err` only if memory runs out.
 fn end_text(
     alloc: Global,
     names: &[String],
     files: &[Vec<u8>],
-    told: &Explanation,
+    file: u32,
+    mend: &Option<Mend>,
 ) -> Result<Vec<u8>, AllocError>
-    ensures { IfOk result (λ text. text.items ≡ end_text (map string_bytes names.now) (bytes_of files.now) told.now.fault told.now.mend) }
+    ensures { IfOk result (λ text. text.items ≡ end_text (map string_bytes names.now) (bytes_of files.now) file mend.now) }
 {
-    match &told.mend {
-        Some(mend) => mend_text(alloc, names, files, told.fault.place().file, mend),
-        None => cure_text(alloc, cure_words(&told.fault).as_bytes()),
+    match mend {
+        Some(mend) => mend_text(alloc, names, files, file, mend),
+        None => Ok(Vec::new(alloc)),
     }
 }
 
@@ -79,7 +99,7 @@ pub(crate) fn file_of(files: &[Vec<u8>], file: u32) -> &[u8]
 }
 
 /// A line of words below the source line. Returns `Err` only if memory runs out.
-fn note_line(alloc: Global, words: &[u8]) -> Result<Vec<u8>, AllocError>
+pub(crate) fn note_line(alloc: Global, words: &[u8]) -> Result<Vec<u8>, AllocError>
     ensures { IfOk result (λ line. line.items ≡ note_line words.now) }
 {
     let mut line = Vec::from_slice(alloc, b"      = ")?;
@@ -115,12 +135,7 @@ fn other_text(
 }
 
 /// The line of the other definition, and its file, if that is another one than this. Returns `Err` only if memory runs out.
-fn other_words(
-    alloc: Global,
-    names: &[String],
-    at: Place,
-    file: u32,
-) -> Result<Vec<u8>, AllocError>
+fn other_words(alloc: Global, names: &[String], at: Place, file: u32) -> Result<Vec<u8>, AllocError>
     ensures { IfOk result (λ words. words.items ≡ other_words (map string_bytes names.now) at file) }
 {
     let line = at.line;
@@ -148,7 +163,7 @@ fn of_file(
 }
 
 /// The name of the file of this number, or nothing.
-fn name_of(names: &[String], file: u32) -> &[u8]
+pub(crate) fn name_of(names: &[String], file: u32) -> &[u8]
     ensures { result.now ≡ file_of (map string_bytes names.now) file }
 {
     match names.get(file as usize) {
@@ -157,13 +172,18 @@ fn name_of(names: &[String], file: u32) -> &[u8]
     }
 }
 
-/// The general advice on a fault. Returns `Err` only if memory runs out.
-fn cure_text(alloc: Global, cure: &[u8]) -> Result<Vec<u8>, AllocError>
-    ensures { IfOk result (λ text. text.items ≡ cure_text cure.now) }
+/// The general advice on a fault, if it is given. Returns `Err` only if memory runs out.
+fn cure_text(alloc: Global, cure: Option<&'static str>) -> Result<Vec<u8>, AllocError>
+    ensures { IfOk result (λ text. text.items ≡ cure_text (option_map (λ words. words.now) cure.entry)) }
 {
-    let mut words = Vec::from_slice(alloc, b"to mend it: ")?;
-    words.extend_from_slice(cure)?;
-    note_line(alloc, &words)
+    match cure {
+        Some(cure) => {
+            let mut words = Vec::from_slice(alloc, b"to fix it: ")?;
+            words.extend_from_slice(cure.as_bytes())?;
+            note_line(alloc, &words)
+        }
+        None => Ok(Vec::new(alloc)),
+    }
 }
 
 /// The words on a mend, and the lines that it changes, for a fault of this file. Returns `Err` only if memory runs out.

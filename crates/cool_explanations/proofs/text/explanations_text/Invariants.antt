@@ -1,5 +1,5 @@
--- In the loop of `text_of`, the text so far, followed by that of the explanations that are left, is the text of all explanations. The faults that are left are
--- in the files.
+-- In the loop of `explanations_text`, the text so far, followed by that of the explanations that are left, is the text of all explanations. The faults that
+-- are left are in the files.
 use Rattle.std.proofs.Common.{◌≡◌, ◌++◌, drop, length, map}
 use Rattle.std.specs.Prelude.{string_bytes}
 use Rattle.std.specs.List.{AllByRecursion, flat_map}
@@ -7,7 +7,7 @@ use Rattle.cool_syntax.specs.TokenFacts.{IsPlaced}
 use Rattle.cool_faults.specs.Files.{bytes_of}
 use Rattle.cool_faults.specs.Verdicts.{place_of}
 use Rattle.cool_explanations.specs.Texts.{explanation_text}
-use Rattle.cool_explanations.proofs.text.text_of.Given as goal
+use Rattle.cool_explanations.proofs.text.explanations_text.Given as goal
 
 abbrev pub invariant-loop-told : goal.invariant-loop-told
 invariant-loop-told l = record {
