@@ -193,10 +193,10 @@ LEAST_WRITTEN, LEAST_PUT_BACK = 0.6, 0.8  # of the lines, and of the texts that 
 def faults_have_their_cures(room, words):
     """The advice is that of docs/faults.md."""
     path, client = room / "a.cl", Client(room, words.cool, explain=real())
-    client.open(path, 'class Main { x : Bool <- if true then 1 else "a" fi; main() : Object { 0 }; };\n')
+    client.open(path, 'class Main { main() : Int { let x : Int <- if true then 1 else "a" fi in x }; };\n')
     row = next(line for line in (HERE.parent / "docs" / "faults.md").read_text().splitlines() if line.startswith("| `E17:"))
-    expect("cure", "To fix it: %s." % row.split("|")[3].strip() in hover(client, path, {"line": 0, "character": 13}), True)
-    expect("beside it", hover(client, path, {"line": 0, "character": 22}), None)
+    expect("cure", "To fix it: %s." % row.split("|")[3].strip() in hover(client, path, {"line": 0, "character": 32}), True)
+    expect("beside it", hover(client, path, {"line": 0, "character": 41}), None)
     client.end()
 
 

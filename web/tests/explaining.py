@@ -175,10 +175,10 @@ def by_the_program(page):
     rows = dict(re.findall(r"^\| `(\w\d+): [^`]*` \| .* \| (.*) \|$", (ROOT / "docs/faults.md").read_text(), re.M))
     # An error that has a fix or hints has no general advice.
     same([it["cure"] for it in page.run("return explanation.faults;") if "cure" in it and it["cure"] not in (rows["E17"], rows["E1"])], [])
-    page.start(("p.cl", "class Main {\n  main() : Int { let x : Bool <- { 1; if true then 1 else \"a\" fi; } in 1 };\n};\n"))
+    page.start(("p.cl", "class Main {\n  main() : Int { let x : Int <- { 1; if true then 1 else \"a\" fi; } in x };\n};\n"))
     page.wait("explanation !== undefined")
     same(page.run("return explanation.faults.map((it) => [it.facts[0], it.values.map(({ line }) => line), it.cure]);"),
-         [["expected Bool, found Object", [2, 2], rows["E17"]]])
+         [["expected Int, found Object", [2, 2], rows["E17"]]])
     page.start(("p.cl", "class Main inherits IO {\n  main() : Object { {\n    out_int(3) out_int(4);\n  } };\n};\n"))
     page.wait("explanation !== undefined")
     page.run("at('faults').querySelector('.fix').click();")
