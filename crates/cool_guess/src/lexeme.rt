@@ -1,6 +1,9 @@
 //! Lexemes of any text, valid or not: where they begin and end. A byte that begins no lexeme is one of its own.
 
-ghost use Rattle.std.specs.Prelude.{◌≤◌, length};
+ghost use Rattle.std.specs.Prelude.{◌≡◌, ◌≤◌, length, true};
+ghost use Rattle.std.specs.List.{prefix_len};
+ghost use Rattle.cool_syntax.specs.Lexemes.{is_in_word};
+ghost use Rattle.cool_guess.specs.Lexemes.{lexeme_size, string_size};
 
 use std::alloc::{AllocError, Global};
 
@@ -139,8 +142,12 @@ fn comment_length(rest: &[u8]) -> usize {
 }
 
 /// The length of the lexeme that the bytes begin with.
-fn lexeme_length(rest: &[u8]) -> usize {
+pub fn lexeme_length(rest: &[u8]) -> usize
+    ensures size { result ≡ lexeme_size rest.now }
+    ensures within { result ≤ length rest.now }
+{
     match rest {
+        [] => 0,
         [b'"', ..] => string_length(rest),
         [b'<', b'-' | b'=', ..] | [b'=', b'>', ..] => 2,
         [first, ..] if is_name_byte(*first) => name_length(rest),
@@ -149,11 +156,14 @@ fn lexeme_length(rest: &[u8]) -> usize {
 }
 
 /// The length of the string constant that the bytes begin with, up to its quote or the end of its line.
-fn string_length(rest: &[u8]) -> usize {
+fn string_length(rest: &[u8]) -> usize
+    ensures size { result ≡ string_size true rest.now }
+    ensures within { result ≤ length rest.now }
+{
     let mut escaped = true;
     for index in 0..rest.len() {
         match rest[index] {
-            b'"' if !escaped => return index.saturating_add(1),
+            b'"' if !escaped => return index + 1,
             b'\n' if !escaped => return index,
             b'\\' => escaped = !escaped,
             _ => escaped = false,
@@ -163,7 +173,10 @@ fn string_length(rest: &[u8]) -> usize {
 }
 
 /// The length of the name or number that the bytes begin with.
-fn name_length(rest: &[u8]) -> usize {
+fn name_length(rest: &[u8]) -> usize
+    ensures size { result ≡ prefix_len is_in_word rest.now }
+    ensures within { result ≤ length rest.now }
+{
     for index in 0..rest.len() {
         if !is_name_byte(rest[index]) {
             return index;
@@ -173,6 +186,8 @@ fn name_length(rest: &[u8]) -> usize {
 }
 
 /// Whether a byte may stand in a name.
-pub(crate) fn is_name_byte(byte: u8) -> bool {
-    matches!(byte, b'a'..=b'z' | b'A'..=b'Z' | b'0'..=b'9' | b'_')
+pub(crate) fn is_name_byte(byte: u8) -> bool
+    ensures { result ≡ is_in_word byte }
+{
+    matches!(byte, b'A'..=b'Z' | b'a'..=b'z' | b'0'..=b'9' | b'_')
 }

@@ -15,7 +15,7 @@ use Rattle.cool_faults.specs.declared.fault.Fault.{Fault}
 use Rattle.cool_faults.specs.declared.fault.Fault.TheVariants.{Lex, Syntax, Class as OfClasses, Typing}
 use Rattle.cool_faults.specs.declared.fault.Untyped.{Untyped}
 use Rattle.cool_faults.specs.Untyped.{IsUntyped}
-use Rattle.cool_faults.specs.Verdicts.{IsFaultList}
+use Rattle.cool_faults.specs.Verdicts.{IsFaultList, place_of}
 use Rattle.cool_names.specs.Meanings.{method_meaning}
 use Rattle.cool_mend.specs.declared.explanation.Explanation.{Explanation}
 use Rattle.cool_mend.specs.declared.explanation.Mend.{Mend}
@@ -24,6 +24,7 @@ use Rattle.cool_mend.specs.declared.explanation.Types.{Types}
 use Rattle.cool_mend.specs.Edits.{IsEdit}
 use Rattle.cool_mend.specs.Mends.{Mends}
 use Rattle.cool_mend.specs.Values.{values_told}
+use Rattle.cool_mend.specs.Ranges.{IsRangeAt}
 
 -- the files are this class table
 abbrev pub IsTableOf : List (List ℕ) → List Class → Type 0
@@ -85,8 +86,10 @@ HaveMethods files fault told = (p : List Class) × IsTableOf files p × AreMetho
 abbrev pub HaveValues : List (List ℕ) → Fault → List Place → Type 0
 HaveValues files fault values = (table : Option (List Class)) × IfSome table (IsTableOf files) × (values ≡ values_told table fault)
 
--- the types and methods in an explanation, if there are any, are those of the class table of the files, and so are the places of the values
+-- the range in an explanation is that of the item at its fault; the types and methods, if there are any, are those of the class table of the files, and so are
+-- the places of the values
 pub record IsTold (files : List (List ℕ)) (x : Explanation) : Type 0 where
+  pub here : IsRangeAt files (place_of x.fault) x.here
   pub types : IfSome x.types (HaveTypes files x.fault)
   pub methods : IfSome x.methods (HaveMethods files x.fault)
   pub values : HaveValues files x.fault x.values.items

@@ -1,7 +1,7 @@
 -- The notices (warnings) of a program, for code that is legal but likely a mistake: `due_in_program` lists them, and `AreNoticed` says that the first of them
 -- are given for files.
 use Rattle.std.specs.Prelude.{◌≡◌, ℕ, List, [], map, take, Option, Some, None}
-use Rattle.std.specs.List.{flat_map}
+use Rattle.std.specs.List.{AllByRecursion, flat_map}
 use Rattle.cool_syntax.specs.declared.file_tree.Feature.{Feature}
 use Rattle.cool_syntax.specs.declared.place.Place.{Place}
 use Rattle.cool_syntax.specs.Tree.{Tree}
@@ -11,6 +11,7 @@ use Rattle.cool_notices.specs.declared.kind.Notice.{Notice as Due}
 use Rattle.cool_notices.specs.Notices.{due_notices, words}
 use Rattle.cool_mend.specs.declared.explanation.Notice.{Notice}
 use Rattle.cool_mend.specs.declared.noticing.TheConstants.{MOST_NOTICES}
+use Rattle.cool_mend.specs.Ranges.{HasRange}
 use Rattle.cool_mend.specs.Values.{body_of}
 
 -- the notices that are due in a feature, in a class and in a program, in the order of the text
@@ -38,8 +39,9 @@ due_saying n = record { at = n.at; words = words n.kind }
 abbrev pub saying : Notice → Saying
 saying n = record { at = n.at; words = n.words.items }
 
--- Files that are accepted as a program have these notices: the first that are due in it, so many as are told.
+-- Files that are accepted as a program have these notices: the first that are due in it, so many as are told, each with the range of the item at its place.
 pub record AreNoticed (files : List (List ℕ)) (notices : List Notice) : Type 0 where
   pub table : List Class
   pub accepted : IsAccepted files table
   pub first : map saying notices ≡ map due_saying (take MOST_NOTICES (due_in_program table))
+  pub ranges : AllByRecursion (HasRange files) notices

@@ -12,6 +12,7 @@ ghost use Rattle.cool_mend.specs.Explanations.{AreExplained, AreMends, IsMend, I
 use crate::edit::Edit;
 use crate::explanation::{Explained, Explanation, Mend};
 use crate::noticing::notices;
+use crate::range::range_at;
 use crate::search::{Found, Search};
 use crate::trial::mending;
 use crate::types::{class_table, fault_methods, fault_types};
@@ -96,17 +97,14 @@ fn explanation(
         None => (b"", &[]),
     };
     let index = index_at(all, at.byte as usize);
-    let here = lexeme_at(all, index, bytes.len());
+    let here = range_at(alloc, files, at)?;
     let word = part(bytes, here.start, here.end);
     let mut said = advice(alloc, bytes, all, index)?;
     said.append(&mut type_advice(alloc, fault)?)?;
     Ok(Explanation {
         fault: *fault,
         here,
-        before: match index.checked_sub(1) {
-            Some(last) => lexeme_at(all, last, bytes.len()),
-            None => Lexeme { start: 0, end: 0 },
-        },
+        before: lexeme_before(all, index, at.byte as usize),
         types: fault_types(alloc, classes, fault)?,
         methods: fault_methods(alloc, classes, fault, word)?,
         other: other_definition(alloc, files, fault)?,
@@ -134,11 +132,18 @@ fn besides(
     Ok(others)
 }
 
-/// The lexeme of this number, or an empty one at the end of the file.
-fn lexeme_at(lexemes: &[Lexeme], index: usize, end: usize) -> Lexeme {
+/// The lexeme before a byte, where the one of this number is the first that ends behind it; empty at the beginning of the file. If the byte is in the
+/// middle of that lexeme, it is the part in front of the byte.
+fn lexeme_before(lexemes: &[Lexeme], index: usize, at: usize) -> Lexeme {
     match lexemes.get(index) {
-        Some(lexeme) => *lexeme,
-        None => Lexeme { start: end, end },
+        Some(lexeme) if lexeme.start < at => Lexeme {
+            start: lexeme.start,
+            end: at,
+        },
+        _ => match lexemes[..index.min(lexemes.len())].last() {
+            Some(lexeme) => *lexeme,
+            None => Lexeme { start: 0, end: 0 },
+        },
     }
 }
 

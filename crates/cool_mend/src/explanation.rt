@@ -18,7 +18,7 @@ pub struct Explained {
 #[derive(Drop)]
 pub struct Explanation {
     pub fault: Fault,
-    /// The lexeme at the fault, in bytes of its file; empty at the end of the file.
+    /// The range of the item at the fault, in bytes of its file; empty at the end of the file.
     pub here: Lexeme,
     /// The lexeme before it; empty at the beginning of the file.
     pub before: Lexeme,
@@ -62,7 +62,7 @@ pub struct Mend {
 #[derive(Drop)]
 pub struct Notice {
     pub at: Place,
-    /// The byte behind the lexeme there.
+    /// The byte behind the item there.
     pub end: usize,
     pub words: Vec<u8>,
 }

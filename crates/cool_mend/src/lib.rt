@@ -11,6 +11,7 @@ mod explaining;
 mod explanation;
 mod mended;
 mod noticing;
+mod range;
 mod search;
 mod trial;
 mod types;

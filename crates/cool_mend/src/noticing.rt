@@ -1,14 +1,17 @@
 //! Notices about expressions that are legal and likely a mistake.
 
 ghost use Rattle.std.specs.Prelude.{◌≡◌, List, map, take, IfOk, OnOk};
+ghost use Rattle.std.specs.List.{AllByRecursion};
+ghost use Rattle.cool_faults.specs.Files.{bytes_of};
 ghost use Rattle.cool_notices.specs.declared.kind.Notice.{Notice as Due};
 ghost use Rattle.cool_notices.specs.Notices.{up_to};
 ghost use Rattle.cool_mend.specs.Noticed.{due_in_feature, due_in_program, due_saying, saying};
+ghost use Rattle.cool_mend.specs.Ranges.{HasRange};
 
 use crate::explanation::Notice;
+use crate::range::range_at;
 use crate::values::body_of;
 use cool_classes::{ClassId, ClassTable};
-use cool_guess::{index_at, lexemes};
 use cool_notices::{Notice as Found, body_notices};
 use cool_syntax::Feature;
 use std::alloc::{AllocError, Global};
@@ -22,7 +25,8 @@ pub(crate) fn notices(
     files: &[Vec<u8>],
     classes: &ClassTable,
 ) -> Result<Vec<Notice>, AllocError>
-    ensures { IfOk result (λ all. map saying all.items ≡ map due_saying (take MOST_NOTICES (due_in_program classes.now))) }
+    ensures first { IfOk result (λ all. map saying all.items ≡ map due_saying (take MOST_NOTICES (due_in_program classes.now))) }
+    ensures ranges { IfOk result (λ all. AllByRecursion (HasRange (bytes_of files.now)) all.items) }
 {
     let mut all = Vec::new(alloc);
     for number in 0..classes.count() {
@@ -41,7 +45,8 @@ fn add_of_feature(
     feature: &Feature,
     all: &mut Vec<Notice>,
 ) -> Result<(), AllocError>
-    ensures { (before : List Due) → map saying all.old.items ≡ map due_saying before
+    ensures ranges { AllByRecursion (HasRange (bytes_of files.now)) all.old.items → OnOk result (AllByRecursion (HasRange (bytes_of files.now)) all.new.items) }
+    ensures adds { (before : List Due) → map saying all.old.items ≡ map due_saying before
         → OnOk result (map saying all.new.items ≡ map due_saying (up_to MOST_NOTICES before (due_in_feature feature.now))) }
 {
     let Some(body) = body_of(feature) else {
@@ -56,19 +61,12 @@ fn add_of_feature(
 
 /// A notice with its range and its words. Returns `Err` only if memory runs out.
 fn told(alloc: Global, files: &[Vec<u8>], found: Found) -> Result<Notice, AllocError>
-    ensures { IfOk result (λ notice. saying notice ≡ due_saying found) }
+    ensures saying { IfOk result (λ notice. saying notice ≡ due_saying found) }
+    ensures range { IfOk result (HasRange (bytes_of files.now)) }
 {
-    let at = found.at;
-    let mut end = at.byte as usize;
-    if let Some(bytes) = files.get(at.file as usize) {
-        let all = lexemes(alloc, bytes)?;
-        if let Some(lexeme) = all.get(index_at(&all, end)) {
-            end = end.max(lexeme.end);
-        }
-    }
     Ok(Notice {
-        at,
-        end,
+        at: found.at,
+        end: range_at(alloc, files, found.at)?.end,
         words: Vec::from_slice(alloc, found.kind.words().as_bytes())?,
     })
 }

@@ -7,5 +7,7 @@ use Rattle.cool_mend.proofs.NoticesTold.{next_feature}
 use Rattle.cool_mend.proofs.noticing.notices.Goals as goal
 
 pub loop-index-preserved : goal.loop-index-preserved
-loop-index-preserved c =
-    next_feature MOST_NOTICES (flat_map due_in_class (take c.loop-number.number c.args.classes.now)) c.features-features.result.now c.loop-index.index _ _ _ _ (omega (arith, c.loop-index-test.true)) c.index-features-index.is c.loop-index.invariant c.in_ok-add_of_feature.ensures
+loop-index-preserved c = record {
+  first = next_feature MOST_NOTICES (flat_map due_in_class (take c.loop-number.number c.args.classes.now)) c.features-features.result.now c.loop-index.index _ _ _ _ (omega (arith, c.loop-index-test.true)) c.index-features-index.is c.loop-index.invariant.first c.in_ok-add_of_feature.ensures.adds;
+  ranges = c.in_ok-add_of_feature.ensures.ranges c.loop-index.invariant.ranges;
+}
