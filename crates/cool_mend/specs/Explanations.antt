@@ -25,6 +25,7 @@ use Rattle.cool_mend.specs.Edits.{IsEdit}
 use Rattle.cool_mend.specs.Mends.{Mends}
 use Rattle.cool_mend.specs.Values.{values_told}
 use Rattle.cool_mend.specs.Ranges.{IsRangeAt}
+use Rattle.cool_mend.specs.Words.{HasWords}
 
 -- the files are this class table
 abbrev pub IsTableOf : List (List ℕ) → List Class → Type 0
@@ -94,10 +95,11 @@ pub record IsTold (files : List (List ℕ)) (x : Explanation) : Type 0 where
   pub methods : IfSome x.methods (HaveMethods files x.fault)
   pub values : HaveValues files x.fault x.values.items
 
--- a suggested mend is an edit of the files, and mends the fault of this number
+-- a suggested mend is an edit of the files, mends the fault of this number, and has the words on this edit
 pub record IsMend (files : List (List ℕ)) (faults : List Fault) (number : ℕ) (m : Mend) : Type 0 where
   pub edit : IsEdit files m.edit
   pub mends : Mends files faults number m.edit
+  pub words : HasWords files m
 
 -- each suggested mend in these explanations is correct; the first explanation is that of the fault of this number
 abbrev pub AreMends : List (List ℕ) → List Fault → ℕ → List Explanation → Type 0

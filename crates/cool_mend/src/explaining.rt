@@ -9,7 +9,6 @@ ghost use Rattle.cool_faults.specs.Verdicts.{place_of};
 ghost use Rattle.cool_mend.specs.Noticed.{AreNoticed};
 ghost use Rattle.cool_mend.specs.Explanations.{AreExplained, AreMends, IsMend, IsTableOf, IsTold};
 
-use crate::edit::Edit;
 use crate::explanation::{Explained, Explanation, Mend};
 use crate::noticing::notices;
 use crate::range::range_at;
@@ -17,7 +16,7 @@ use crate::search::{Found, Search};
 use crate::trial::mending;
 use crate::types::{class_table, fault_methods, fault_types};
 use crate::values::fault_values;
-use crate::words::fix_words;
+use crate::words::mend_of;
 use cool_classes::ClassTable;
 use cool_faults::{Fault, Verdict, accept};
 use cool_guess::{Lexeme, Source, advice, index_at, other_definition, part, type_advice};
@@ -178,30 +177,17 @@ fn tried(
             return Ok(kept);
         }
         *left -= size;
-        let Found {
-            edit,
-            reason,
-            elsewhere,
-        } = each;
-        if let Some(rest) = mending(alloc, files, faults, number, &edit)? {
-            let words = fix_words(alloc, file_bytes(files, &edit), &edit, reason, elsewhere)?;
+        if let Some(rest) = mending(alloc, files, faults, number, &each.edit)? {
+            let mend = mend_of(alloc, files, each)?;
             if rest == 0 || faults.len() > 1 {
-                return Ok(Some(Mend { edit, words }));
+                return Ok(Some(mend));
             }
             if kept.is_none() {
-                kept = Some(Mend { edit, words });
+                kept = Some(mend);
             }
         }
     }
     Ok(kept)
-}
-
-/// The bytes of the file that an edit changes; none if there is no such file.
-fn file_bytes<'a>(files: &'a [Vec<u8>], edit: &Edit) -> &'a [u8] {
-    match files.get(edit.file as usize) {
-        Some(file) => file.as_slice(),
-        None => b"",
-    }
 }
 
 /// The number of bytes of files, or the greatest number if it is smaller.

@@ -17,7 +17,7 @@ pub(crate) fn range_at(alloc: Global, files: &[Vec<u8>], place: Place) -> Result
 }
 
 /// The file of this number, or none of its bytes.
-fn file_of(files: &[Vec<u8>], file: u32) -> &[u8]
+pub(crate) fn file_of(files: &[Vec<u8>], file: u32) -> &[u8]
     ensures { result.now ≡ get_or (bytes_of files.now) file [] }
 {
     match files.get(file as usize) {

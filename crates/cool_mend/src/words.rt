@@ -1,24 +1,61 @@
 //! The words on a fix.
 
+ghost use Rattle.std.specs.Prelude.{◌≡◌, ◌-◌, IfOk, drop, take};
+ghost use Rattle.cool_faults.specs.Files.{bytes_of};
+ghost use Rattle.cool_mend.specs.Words.{HasWords, fix_words};
+
 use crate::edit::Edit;
-use cool_guess::{Reason, part, reason_words};
+use crate::explanation::Mend;
+use crate::range::file_of;
+use crate::search::Found;
+use cool_guess::{Reason, reason_words};
 use std::alloc::{AllocError, Global};
 
-/// The words that follow those of an edit of another feature than that of the fault.
-const ELSEWHERE: &[u8] = b"; this changes another feature";
+/// The edit of files that was found, with its words. Returns `Err` only if memory runs out.
+pub(crate) fn mend_of(alloc: Global, files: &[Vec<u8>], found: Found) -> Result<Mend, AllocError>
+    ensures edit { IfOk result (λ mend. mend.edit ≡ found.edit) }
+    ensures words { IfOk result (HasWords (bytes_of files.now)) }
+{
+    let Found {
+        edit,
+        reason,
+        elsewhere,
+    } = found;
+    let words = fix_words(alloc, files, &edit, reason, elsewhere)?;
+    Ok(Mend { edit, words })
+}
 
-/// The words on an edit of a file with these bytes, for this reason. Returns `Err` only if memory runs out.
-pub(crate) fn fix_words(
+/// The words on an edit of files for this reason, with a remark if it changes another feature than that of the fault. Returns `Err` only if memory runs
+/// out.
+fn fix_words(
     alloc: Global,
-    bytes: &[u8],
+    files: &[Vec<u8>],
     edit: &Edit,
     reason: Reason,
     elsewhere: bool,
-) -> Result<Vec<u8>, AllocError> {
-    let old = part(bytes, edit.start, edit.end);
+) -> Result<Vec<u8>, AllocError>
+    ensures { IfOk result (λ words. words.items ≡ fix_words reason elsewhere edit.now (bytes_of files.now)) }
+{
+    let old = taken(file_of(files, edit.file), edit);
     let mut words = reason_words(alloc, old, &edit.text, reason)?;
     if elsewhere {
-        words.extend_from_slice(ELSEWHERE)?;
+        words.extend_from_slice(b"; this changes another feature")?;
     }
     Ok(words)
+}
+
+/// The bytes that an edit takes away from a file with these bytes.
+fn taken<'a>(bytes: &'a [u8], edit: &Edit) -> &'a [u8]
+    ensures { result.now ≡ take (edit.now.end - edit.now.start) (drop edit.now.start bytes.now) }
+{
+    if edit.start >= bytes.len() {
+        return b"";
+    }
+    let rest = &bytes[edit.start..];
+    let size = edit.end.saturating_sub(edit.start);
+    if size < rest.len() {
+        &rest[..size]
+    } else {
+        rest
+    }
 }
