@@ -25,7 +25,7 @@ pub fn part(bytes: &[u8], start: usize, end: usize) -> &[u8] {
 }
 
 /// The lexemes of a text, without white space and comments. Returns `Err` only if memory runs out.
-pub fn lexemes(alloc: Global, bytes: &[u8]) -> Result<Vec<Lexeme>, AllocError> {
+pub(crate) fn lexemes(alloc: Global, bytes: &[u8]) -> Result<Vec<Lexeme>, AllocError> {
     let mut all = Vec::new(alloc);
     let mut end = 0;
     let mut open: usize = 0;

@@ -29,7 +29,7 @@ pub use candidate::{Candidate, Reason, Splice, spliced};
 pub use definition::other_definition;
 pub use excerpt::{Excerpt, Program};
 pub use hint::{Hint, hint_words};
-pub use lexeme::{Lexeme, index_at, lexeme_length, lexemes, part};
+pub use lexeme::{Lexeme, index_at, lexeme_length, part};
 pub use meaning_guesses::{beside_candidates, meaning_candidates};
 pub use other_words::{advice, is_advised, type_advice};
 pub use source::{Range, Source};
