@@ -5,7 +5,7 @@ ghost use Rattle.std.specs.List.{AllByRecursion};
 ghost use Rattle.cool_syntax.specs.declared.TheConstants.{MOST_FILES, MOST_SOURCE_BYTES};
 ghost use Rattle.cool_syntax.specs.TokenFacts.{IsPlaced};
 ghost use Rattle.cool_faults.specs.Files.{bytes_of, total};
-ghost use Rattle.cool_faults.specs.Verdicts.{place_of};
+ghost use Rattle.cool_faults.specs.Verdicts.{IsAccepted, place_of};
 ghost use Rattle.cool_mend.specs.Noticed.{AreNoticed};
 ghost use Rattle.cool_mend.specs.Explanations.{AreExplained, AreMends, IsMend, IsTableOf, IsTold};
 
@@ -36,18 +36,43 @@ pub fn explain(alloc: Global, files: &[Vec<u8>]) -> Result<Explained, AllocError
     ensures quiet { IfOk result (λ told. told.notices.items ≢ [] → told.explanations.items ≡ []) }
 {
     match accept(alloc, files)? {
-        Verdict::Accepted(program) => Ok(Explained {
-            explanations: Vec::new(alloc),
-            notices: notices(alloc, files, program.table())?,
-        }),
-        Verdict::Refused(faults) => {
-            let classes = class_table(alloc, files)?;
-            Ok(Explained {
-                explanations: explanations(alloc, files, &classes, faults.as_slice())?,
-                notices: Vec::new(alloc),
-            })
-        }
+        Verdict::Accepted(program) => of_program(alloc, files, program.table()),
+        Verdict::Refused(faults) => of_faults(alloc, files, faults.as_slice()),
     }
+}
+
+/// The notices of files that are this program, and no explanation. Returns `Err` only if memory runs out.
+fn of_program(alloc: Global, files: &[Vec<u8>], table: &ClassTable) -> Result<Explained, AllocError>
+    requires accepted { IsAccepted (bytes_of files.now) table.now }
+    ensures none { IfOk result (λ told. told.explanations.items ≡ []) }
+    ensures explained { IfOk result (λ told. AreExplained (bytes_of files.now) told.explanations.items) }
+    ensures noticed { IfOk result (λ told. AreNoticed (bytes_of files.now) told.notices.items) }
+{
+    let notices = notices(alloc, files, table)?;
+    Ok(Explained {
+        explanations: Vec::new(alloc),
+        notices,
+    })
+}
+
+/// The explanations of files with these faults, and no notice. Returns `Err` only if memory runs out.
+fn of_faults(alloc: Global, files: &[Vec<u8>], faults: &[Fault]) -> Result<Explained, AllocError>
+    requires few { length files.now ≤ MOST_FILES }
+    requires small { total (bytes_of files.now) ≤ MOST_SOURCE_BYTES }
+    requires placed { 0 < length (bytes_of files.now) → AllByRecursion (λ f. IsPlaced (length (bytes_of files.now)) (place_of f)) faults.now }
+    ensures each { IfOk result (λ all. map (λ x. x.fault) all.explanations.items ≡ faults.now) }
+    ensures placed { 0 < length (bytes_of files.now)
+        → IfOk result (λ all. AllByRecursion (λ x. IsPlaced (length (bytes_of files.now)) (place_of x.fault)) all.explanations.items) }
+    ensures told { IfOk result (λ all. AllByRecursion (IsTold (bytes_of files.now)) all.explanations.items) }
+    ensures mends { IfOk result (λ all. AreMends (bytes_of files.now) faults.now 0 all.explanations.items) }
+    ensures none { IfOk result (λ all. all.notices.items ≡ []) }
+{
+    let classes = class_table(alloc, files)?;
+    let explanations = explanations(alloc, files, &classes, faults)?;
+    Ok(Explained {
+        explanations,
+        notices: Vec::new(alloc),
+    })
 }
 
 /// The explanations of these faults of files. Returns `Err` only if memory runs out.
