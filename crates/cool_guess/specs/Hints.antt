@@ -6,17 +6,18 @@ use Rattle.cool_guess.specs.declared.hint.Hint.TheVariants.{StringNotClosed, Str
 use Rattle.cool_guess.specs.declared.hint.Hint.TheVariants.{TruthInSmallLetters, GreatestInt, ArrowAssigns, EqualsCompares, OneEqualsSign, NoColonEquals}
 use Rattle.cool_guess.specs.declared.hint.Hint.TheVariants.{ArrowWithoutColon, ArrowOfBranches, BranchArrow, NoUnequalSign, NoGreaterSign, LessOrEqual}
 use Rattle.cool_guess.specs.declared.hint.Hint.TheVariants.{OneSign, NoAnd, NoOr, NotBefore, NotWord, Negative, NoRemainder, NoAssignmentOfSums, NoIncrement}
-use Rattle.cool_guess.specs.declared.hint.Hint.TheVariants.{NoDecrement, NoChainedComparison, NoSemicolon, NoComma, Exchanged, InheritsWord, LoopWord}
-use Rattle.cool_guess.specs.declared.hint.Hint.TheVariants.{PoolEnds, FiEnds, EsacEnds, ElseIf, ElseWithoutThen, CaseWord, BranchOfClass, BranchType, SelfWord}
-use Rattle.cool_guess.specs.declared.hint.Hint.TheVariants.{SelfIsNoFormal, NoReturn, NoFor, NoBreak, NoContinue, NoNull, NoSuper, NoImport, NoExceptions}
-use Rattle.cool_guess.specs.declared.hint.Hint.TheVariants.{NoArrays, NoCasts, NoModifiers, NoAccessModifiers, NoOverride, NoConstructors, NoVoidType}
-use Rattle.cool_guess.specs.declared.hint.Hint.TheVariants.{ResultType, TypeAfterName, TypesOfMethod, CapitalLetter, SmallLetter, DeclareByLet}
-use Rattle.cool_guess.specs.declared.hint.Hint.TheVariants.{AttributeWithoutLet, BodyOfLet, DeclareAttribute, InheritedAttribute, DeclaredType}
-use Rattle.cool_guess.specs.declared.hint.Hint.TheVariants.{InheritFromObject, InheritFromIO, ClassMain, MethodMain, MainWithoutFormals, EmptyBlock}
-use Rattle.cool_guess.specs.declared.hint.Hint.TheVariants.{BlockOfSeveral, NewWithoutParentheses, NewWithoutArguments, MethodOfObject, MethodAfterObject}
-use Rattle.cool_guess.specs.declared.hint.Hint.TheVariants.{CallWithParentheses, ArgumentsInParentheses, ArgumentForEachFormal, AttributeAlone, NoFieldAccess}
-use Rattle.cool_guess.specs.declared.hint.Hint.TheVariants.{AssignByMethod, NoMethodEquals, CompareWithZero, NumbersOnly, JoinStrings, PrintingMethods}
-use Rattle.cool_guess.specs.declared.hint.Hint.TheVariants.{NoTextOfInt}
+use Rattle.cool_guess.specs.declared.hint.Hint.TheVariants.{NoDecrement, PlainCharacters, DotCalls, DigitsOnly, NoDecimals, NoUnderscore, NoConditional}
+use Rattle.cool_guess.specs.declared.hint.Hint.TheVariants.{NoInstanceof, NoInterfaces, NoDo, TypeOfVariable, TruthAsCondition, NoChainedComparison}
+use Rattle.cool_guess.specs.declared.hint.Hint.TheVariants.{NoSemicolon, NoComma, Exchanged, InheritsWord, LoopWord, PoolEnds, FiEnds, EsacEnds, ElseIf}
+use Rattle.cool_guess.specs.declared.hint.Hint.TheVariants.{ElseWithoutThen, CaseWord, BranchOfClass, BranchType, SelfWord, SelfIsNoFormal, NoReturn, NoFor}
+use Rattle.cool_guess.specs.declared.hint.Hint.TheVariants.{NoBreak, NoContinue, NoNull, NoSuper, NoImport, NoExceptions, NoArrays, NoCasts, NoModifiers}
+use Rattle.cool_guess.specs.declared.hint.Hint.TheVariants.{NoAccessModifiers, NoOverride, NoConstructors, NoVoidType, ResultType, TypeAfterName}
+use Rattle.cool_guess.specs.declared.hint.Hint.TheVariants.{TypesOfMethod, CapitalLetter, SmallLetter, DeclareByLet, AttributeWithoutLet, BodyOfLet}
+use Rattle.cool_guess.specs.declared.hint.Hint.TheVariants.{DeclareAttribute, InheritedAttribute, DeclaredType, InheritFromObject, InheritFromIO, ClassMain}
+use Rattle.cool_guess.specs.declared.hint.Hint.TheVariants.{MethodMain, MainWithoutFormals, EmptyBlock, BlockOfSeveral, NewWithoutParentheses}
+use Rattle.cool_guess.specs.declared.hint.Hint.TheVariants.{NewWithoutArguments, MethodOfObject, MethodAfterObject, CallWithParentheses}
+use Rattle.cool_guess.specs.declared.hint.Hint.TheVariants.{ArgumentsInParentheses, ArgumentForEachFormal, AttributeAlone, NoFieldAccess, AssignByMethod}
+use Rattle.cool_guess.specs.declared.hint.Hint.TheVariants.{NoMethodEquals, CompareWithZero, NumbersOnly, JoinStrings, PrintingMethods, NoTextOfInt}
 
 abbrev pub hint_words : Hint → List ℕ
 hint_words ByteOrderMark = codes "save the file without a byte order mark"
@@ -52,6 +53,17 @@ hint_words NoRemainder = codes "Cool has no `%` or `mod`: write `a - a / b * b` 
 hint_words NoAssignmentOfSums = codes "Cool has no `+=` or `-=`: write `x <- x + a`"
 hint_words NoIncrement = codes "Cool has no `++`: write `x <- x + 1`"
 hint_words NoDecrement = codes "`--` begins a comment: write `x <- x - 1`"
+hint_words PlainCharacters = codes "write plain blanks and minus signs: these were copied from another program"
+hint_words DotCalls = codes "call a method with `.` after the object"
+hint_words DigitsOnly = codes "write a number with the digits `0` to `9` only"
+hint_words NoDecimals = codes "Cool has only whole numbers: write an Int without a decimal point"
+hint_words NoUnderscore = codes "begin a name with a letter"
+hint_words NoConditional = codes "Cool has no `? :`: write `if a then b else c fi`"
+hint_words NoInstanceof = codes "Cool has no `instanceof`: write `case`, which selects a branch by the class of a value"
+hint_words NoInterfaces = codes "Cool has no interfaces or abstract classes: write a class whose methods the classes below redefine"
+hint_words NoDo = codes "Cool has no `do`: write `while condition loop body pool`"
+hint_words TypeOfVariable = codes "declare the type of the variable, as in `let x : Int <- 5 in ..`"
+hint_words TruthAsCondition = codes "write `true` or `false`: a condition has type Bool"
 hint_words NoChainedComparison = codes "compare two values at a time: write `if a < b then b < c else false fi`"
 hint_words NoSemicolon = codes "remove the `;`: write it after a class, a feature, or an expression of a block"
 hint_words NoComma = codes "remove the last `,`: write it only between two items"
@@ -65,7 +77,7 @@ hint_words ElseIf = codes "Cool has no `elif`: write `else if`, and a `fi` for e
 hint_words ElseWithoutThen = codes "remove the `then`: the expression follows `else`"
 hint_words CaseWord = codes "write `case x of`, which selects a branch by the class of `x`"
 hint_words BranchOfClass = codes "name a class in each branch of `case`, as in `x : Int => ..`: to compare values, write `if`"
-hint_words BranchType = codes "write a type in each branch of `case`: a branch of Object takes all other values"
+hint_words BranchType = codes "write a name and a type in each branch of `case`: a branch of Object takes all other values"
 hint_words SelfWord = codes "write `self` instead of `this`"
 hint_words SelfIsNoFormal = codes "remove the formal `self`: every method can use `self`"
 hint_words NoReturn = codes "Cool has no `return`: the last expression of a method is its value"

@@ -1,12 +1,12 @@
 //! Candidates for declarations and statements of Java, C and Python: the forms of Cool that mean the same.
 
-use crate::candidate::{Candidate, Candidates, Reason, Splice};
+use crate::candidate::{Candidates, Reason, Splice};
 use crate::definition::is_class;
 use crate::hint::Hint;
 use crate::kind::{Kind, is_one_of, kind_of};
-use crate::lexeme::{Lexeme, index_at, line_length, part};
+use crate::lexeme::{Lexeme, line_length, part};
 use crate::names::BASIC_METHODS;
-use crate::signs::TYPES;
+use crate::signs::{NAMES, TYPES};
 use std::alloc::AllocError;
 
 /// The signs behind the name in a declaration `int x = 5;`, `int x <- 5;` or `int x;`.
@@ -29,6 +29,9 @@ static BEFORE_FORMALS: [&str; 2] = ["(", ","];
 
 /// The signs in front of a feature.
 static BEFORE_FEATURES: [&str; 2] = ["{", ";"];
+
+/// The signs and words in front of a statement or a feature.
+static BEFORE_STATEMENTS: [&str; 5] = ["{", ";", "in", "const", "final"];
 
 /// The methods that print.
 static PRINTING: [&str; 2] = ["out_string", "out_int"];
@@ -61,6 +64,10 @@ impl<'a> Candidates<'a> {
             let said = Reason::Hinted(Hint::SelfIsNoFormal);
             let end = self.lexeme(index.saturating_add(1)).start;
             return self.put(said, last.start, end, b"");
+        }
+        if kind_of(word) == Kind::Type && self.word(index.saturating_add(1)) == b"=>".as_slice() {
+            let start = self.lexeme(index).start;
+            return self.put(Reason::Hinted(Hint::BranchType), start, start, b"it : ");
         }
         if word == b"=>".as_slice() {
             let said = Reason::Hinted(Hint::BranchType);
@@ -177,13 +184,21 @@ impl<'a> Candidates<'a> {
             kind_of(self.text(here)),
             Kind::Object | Kind::Number | Kind::String
         );
-        if kind_of(self.text(last)) != Kind::Object
-            || !is_operand
-            || !self.is_method(self.text(last))
-        {
+        if kind_of(self.text(last)) != Kind::Object || !is_operand {
             return Ok(());
         }
         let end = self.before(self.expression_end(index), 1).end;
+        for (other, ours) in &NAMES {
+            if other.as_bytes() == self.text(last) && is_one_of(&PRINTING, ours.as_bytes()) {
+                let text = self.joined(&[ours.as_bytes(), b"("])?;
+                let first = self.splice(last.start, here.start, &text)?;
+                let second = self.splice(end, end, b")")?;
+                self.put_two(Reason::Hinted(Hint::PrintingMethods), first, second)?;
+            }
+        }
+        if !self.is_method(self.text(last)) {
+            return Ok(());
+        }
         let first = self.splice(last.end, here.start, b"(")?;
         let second = self.splice(end, end, b")")?;
         let said = Reason::Hinted(Hint::ArgumentsInParentheses);
@@ -261,6 +276,13 @@ impl<'a> Candidates<'a> {
 
     /// No `import ..;` at the head of a file.
     fn add_import(&mut self, index: usize) -> Result<(), AllocError> {
+        let next = self.word(index.saturating_add(1));
+        if self.word(index) == b"#".as_slice() && is_one_of(&IMPORTS, next) {
+            let start = self.lexeme(index).start;
+            let line = line_length(part(self.bytes, start, self.bytes.len()));
+            let end = start.saturating_add(line);
+            return self.put(Reason::Hinted(Hint::NoImport), start, end, b"");
+        }
         if !is_one_of(&IMPORTS, self.word(index)) {
             return Ok(());
         }
@@ -278,8 +300,8 @@ impl<'a> Candidates<'a> {
         let class = self.lexeme(index);
         let name = self.lexeme(index.saturating_add(1));
         let open = index.saturating_add(2);
-        let is_one = matches!(kind_of(self.text(class)), Kind::Object | Kind::Type)
-            && matches!(kind_of(self.text(name)), Kind::Object)
+        let is_one = self.names_type(index)
+            && kind_of(self.text(name)) == Kind::Object
             && self.word(open) == b"(".as_slice();
         let Some(close) = self.closing(open) else {
             return Ok(());
@@ -315,9 +337,30 @@ impl<'a> Candidates<'a> {
         Ok(())
     }
 
-    /// Whether a constructor or a value with a cast stands at a position: Cool has no form for them.
-    pub(crate) fn is_foreign(&self, index: usize) -> bool {
-        self.is_cast(index) || self.is_constructor(index)
+    /// Whether a declaration in Java's or C's way stands at a position or in front of it: a type, a name, and a sign.
+    pub(crate) fn is_declaration(&self, index: usize) -> bool {
+        for there in [index, index.saturating_sub(1)] {
+            let sign = self.word(there.saturating_add(2));
+            if self.names_type(there)
+                && kind_of(self.word(there.saturating_add(1))) == Kind::Object
+                && (is_one_of(&BEHIND_VARIABLES, sign) || sign == b",".as_slice())
+            {
+                return true;
+            }
+        }
+        false
+    }
+
+    /// Whether the name of a type stands at a position, also one of another language.
+    fn names_type(&self, index: usize) -> bool {
+        let word = self.word(index);
+        for (other, _) in &TYPES {
+            if other.as_bytes() == word {
+                return true;
+            }
+        }
+        let before = self.word_before(index, 1);
+        kind_of(word) == Kind::Type && is_one_of(&BEFORE_STATEMENTS, before)
     }
 
     /// Whether the type of a cast `(T) x` stands at a position, or the value behind it.
@@ -341,44 +384,5 @@ impl<'a> Candidates<'a> {
             Some(class) => is_method && self.word(class.saturating_add(1)) == self.word(index),
             None => false,
         }
-    }
-
-    /// Whether a candidate takes away a call or a type that was written, though all that is said for it is that the rest is legal.
-    pub(crate) fn is_silly(&self, candidate: &Candidate) -> bool {
-        if matches!(candidate.reason, Reason::Hinted(_)) {
-            return false;
-        }
-        for splice in candidate.splices.as_slice() {
-            if splice.start < splice.end && self.takes_meaning(splice) {
-                return true;
-            }
-        }
-        false
-    }
-
-    /// Whether a splice takes away a call or a type, and puts no other name in its place.
-    fn takes_meaning(&self, splice: &Splice) -> bool {
-        let new = kind_of(splice.text.trim_ascii());
-        for index in index_at(self.lexemes, splice.start)..self.lexemes.len() {
-            let lexeme = self.lexeme(index);
-            if lexeme.start >= splice.end {
-                return false;
-            }
-            let is_whole = lexeme.start >= splice.start && lexeme.end <= splice.end;
-            if is_whole && self.has_meaning(index) && new != kind_of(self.text(lexeme)) {
-                return true;
-            }
-        }
-        false
-    }
-
-    /// Whether the name of a call or a type stands at a position, and does not stand twice.
-    fn has_meaning(&self, index: usize) -> bool {
-        let word = self.word(index);
-        let next = self.word(index.saturating_add(1));
-        let is_call = kind_of(word) == Kind::Object && next == b"(".as_slice();
-        (is_call || kind_of(word) == Kind::Type)
-            && word != next
-            && word != self.word_before(index, 1)
     }
 }

@@ -9,6 +9,19 @@ use std::alloc::AllocError;
 /// The words and signs in front of a type.
 static BEFORE_TYPES: [&str; 5] = [":", "new", "@", "inherits", "class"];
 
+/// The quotes of text programs, in UTF-8.
+static OPEN_QUOTE: [u8; 3] = [226, 128, 156];
+
+static CLOSE_QUOTE: [u8; 3] = [226, 128, 157];
+
+/// Marks in UTF-8, and the text in their place.
+static MARKS: [(&[u8], &str, Hint); 4] = [
+    (b"\xEF\xBB\xBF", "", Hint::ByteOrderMark),
+    (b"\xC2\xA0", " ", Hint::PlainCharacters),
+    (b"\xE2\x88\x92", "-", Hint::PlainCharacters),
+    (b"\xE2\x80\x93", "-", Hint::PlainCharacters),
+];
+
 /// The number of lexemes behind `elif` among which its `fi` is looked for.
 const LOOKED_AHEAD: usize = 200;
 
@@ -27,12 +40,23 @@ impl<'a> Candidates<'a> {
             b"&" => self.add_both(index, 2)?,
             b"|" => self.add_either(index, 2)?,
             b"%" | b"mod" => self.add_remainder(index)?,
+            b">" if last == b"<".as_slice() => { self.add_unequal(index.saturating_sub(1), index)? }
+            b">" if last == b"-".as_slice() => self.add_dot(index)?,
             b">" => self.add_turned(index)?,
-            b"!" if next == b"=".as_slice() => self.add_unequal(index)?,
+            b"!" | b"~" if next == b"=".as_slice() => {
+                self.add_unequal(index, index.saturating_add(1))?
+            }
             b"'" => self.add_quoted(index)?,
             b"elif" | b"elsif" | b"elseif" => self.add_else_if(index)?,
+            b"=" if self.word_before(index, 2) == b"let".as_slice() => self.add_let(index)?,
             b"=" | b"+" | b"-" => self.add_changed(index)?,
-            b"(" if kind_of(last) == Kind::Type => self.add_new(index)?,
+            b";" => self.add_returned_call(index)?,
+            [b'_', name @ ..] => {
+                let said = Reason::Hinted(Hint::NoUnderscore);
+                self.put_at(said, self.lexeme(index), without_underscores(name))?
+            }
+            b"(" if self.word_before(index, 2) == b"new".as_slice() => self.add_new(index)?,
+            b"(" if self.word_before(index, 2) == b"class".as_slice() => self.add_parent(index)?,
             b"<-" if self.word_before(index, 2) == b".".as_slice() => self.add_setter(index)?,
             _ => {}
         }
@@ -122,14 +146,87 @@ impl<'a> Candidates<'a> {
         Ok(())
     }
 
-    /// `a != b` as `not a = b`.
-    fn add_unequal(&mut self, index: usize) -> Result<(), AllocError> {
+    /// `a != b` as `not a = b`, where the sign goes from a position to another.
+    fn add_unequal(&mut self, index: usize, last: usize) -> Result<(), AllocError> {
         let start = self.expression_start(index);
         let from = self.lexeme(start).start;
         let first = self.splice(from, from, b"not ")?;
-        let sign = self.lexeme(index);
-        let second = self.splice(sign.start, sign.end, b"")?;
+        let second = self.splice(self.lexeme(index).start, self.lexeme(last).end, b"=")?;
         self.put_two(Reason::Hinted(Hint::NoUnequalSign), first, second)
+    }
+
+    /// `a->f()` as `a.f()`, where the `>` stands at a position.
+    fn add_dot(&mut self, index: usize) -> Result<(), AllocError> {
+        if !self.is_call(index.saturating_add(1)) {
+            return Ok(());
+        }
+        let start = self.before(index, 1).start;
+        let end = self.lexeme(index).end;
+        self.put(Reason::Hinted(Hint::DotCalls), start, end, b".")
+    }
+
+    /// `class A(B)` as `class A inherits B`.
+    fn add_parent(&mut self, index: usize) -> Result<(), AllocError> {
+        let parent = self.word(index.saturating_add(1));
+        let close = index.saturating_add(2);
+        if self.word(close) != b")".as_slice() || kind_of(parent) != Kind::Type {
+            return Ok(());
+        }
+        let text = self.joined(&[b" inherits ", parent])?;
+        let start = self.before(index, 1).end;
+        let end = self.lexeme(close).end;
+        self.put(Reason::Hinted(Hint::InheritsWord), start, end, &text)
+    }
+
+    /// Marks that a text has from another program: a byte order mark, other quotes, blanks and dashes.
+    pub(crate) fn add_marks(&mut self, index: usize) -> Result<(), AllocError> {
+        let at = self.lexeme(index).start;
+        for (mark, text, hint) in &MARKS {
+            let end = at.saturating_add(mark.len());
+            if part(self.bytes, at, end) == *mark {
+                self.put(Reason::Hinted(*hint), at, end, text.as_bytes())?;
+            }
+        }
+        if part(self.bytes, at, at.saturating_add(3)) == OPEN_QUOTE.as_slice() {
+            return self.add_other_quotes(at);
+        }
+        Ok(())
+    }
+
+    /// A string in the quotes of a text program, the first of which begins at a byte.
+    fn add_other_quotes(&mut self, at: usize) -> Result<(), AllocError> {
+        let behind = at.saturating_add(3);
+        let rest = part(self.bytes, behind, self.bytes.len());
+        for offset in 0..line_length(rest) {
+            let start = behind.saturating_add(offset);
+            let end = start.saturating_add(3);
+            if part(self.bytes, start, end) == CLOSE_QUOTE.as_slice() {
+                let first = self.splice(at, behind, b"\"")?;
+                let second = self.splice(start, end, b"\"")?;
+                return self.put_two(Reason::Hinted(Hint::DoubleQuotes), first, second);
+            }
+        }
+        Ok(())
+    }
+
+    /// `let x = 5` as `let x : Int <- 5`, where the type can be seen.
+    fn add_let(&mut self, index: usize) -> Result<(), AllocError> {
+        let sign = self.lexeme(index);
+        let word = self.word(index.saturating_add(1));
+        let class: &[u8] = match kind_of(word) {
+            Kind::Number => b"Int",
+            Kind::String => b"String",
+            _ if matches!(word, b"true" | b"false") => b"Bool",
+            _ if word == b"new".as_slice() => self.word(index.saturating_add(2)),
+            _ => return Ok(()),
+        };
+        let text = self.joined(&[b": ", class, b" <-"])?;
+        self.put(
+            Reason::Hinted(Hint::TypeOfVariable),
+            sign.start,
+            sign.end,
+            &text,
+        )
     }
 
     /// A string in single quotes.
@@ -266,6 +363,19 @@ impl<'a> Candidates<'a> {
         Ok(())
     }
 
+    /// `return(a);` as `(a)`, where the semicolon stands at a position.
+    fn add_returned_call(&mut self, index: usize) -> Result<(), AllocError> {
+        let there = self.operand_start(index);
+        if self.word(there) != b"return".as_slice() {
+            return Ok(());
+        }
+        let word = self.lexeme(there);
+        let semicolon = self.lexeme(index);
+        let first = self.splice(word.start, word.end, b"")?;
+        let second = self.splice(semicolon.start, semicolon.end, b"")?;
+        self.put_two(Reason::Hinted(Hint::NoReturn), first, second)
+    }
+
     /// `C x` as `x : C`.
     fn add_declaration(&mut self, index: usize) -> Result<(), AllocError> {
         let class = self.lexeme(index);
@@ -279,6 +389,16 @@ impl<'a> Candidates<'a> {
 /// Whether a type is that of the object itself, or this class.
 fn is_self_type(word: &[u8], class: &[u8]) -> bool {
     word == b"SELF_TYPE".as_slice() || word == class
+}
+
+/// The name without the underscores at its beginning.
+fn without_underscores(name: &[u8]) -> &[u8] {
+    for index in 0..name.len() {
+        if name[index] != b'_' {
+            return &name[index..];
+        }
+    }
+    b"x"
 }
 
 /// Whether a type stands behind a word.

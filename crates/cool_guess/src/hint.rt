@@ -72,6 +72,28 @@ pub enum Hint {
     NoIncrement,
     /// `--` for a decrement.
     NoDecrement,
+    /// A blank or dash of a text program.
+    PlainCharacters,
+    /// `->` for a dot.
+    DotCalls,
+    /// A number in hexadecimal, or with `_`.
+    DigitsOnly,
+    /// A decimal number.
+    NoDecimals,
+    /// A name that begins with `_`.
+    NoUnderscore,
+    /// `? :`.
+    NoConditional,
+    /// `instanceof`.
+    NoInstanceof,
+    /// `interface` or `abstract`.
+    NoInterfaces,
+    /// `do`.
+    NoDo,
+    /// `let` without a type.
+    TypeOfVariable,
+    /// 0 or 1 as a condition.
+    TruthAsCondition,
     /// Two comparisons in one.
     NoChainedComparison,
     /// `;` in the middle of an expression.
@@ -243,6 +265,20 @@ pub fn hint_words(hint: Hint) -> &'static str
         Hint::NoAssignmentOfSums => "Cool has no `+=` or `-=`: write `x <- x + a`",
         Hint::NoIncrement => "Cool has no `++`: write `x <- x + 1`",
         Hint::NoDecrement => "`--` begins a comment: write `x <- x - 1`",
+        Hint::PlainCharacters =>
+            "write plain blanks and minus signs: these were copied from another program",
+        Hint::DotCalls => "call a method with `.` after the object",
+        Hint::DigitsOnly => "write a number with the digits `0` to `9` only",
+        Hint::NoDecimals => "Cool has only whole numbers: write an Int without a decimal point",
+        Hint::NoUnderscore => "begin a name with a letter",
+        Hint::NoConditional => "Cool has no `? :`: write `if a then b else c fi`",
+        Hint::NoInstanceof =>
+            "Cool has no `instanceof`: write `case`, which selects a branch by the class of a value",
+        Hint::NoInterfaces =>
+            "Cool has no interfaces or abstract classes: write a class whose methods the classes below redefine",
+        Hint::NoDo => "Cool has no `do`: write `while condition loop body pool`",
+        Hint::TypeOfVariable => "declare the type of the variable, as in `let x : Int <- 5 in ..`",
+        Hint::TruthAsCondition => "write `true` or `false`: a condition has type Bool",
         Hint::NoChainedComparison =>
             "compare two values at a time: write `if a < b then b < c else false fi`",
         Hint::NoSemicolon =>
@@ -260,7 +296,7 @@ pub fn hint_words(hint: Hint) -> &'static str
         Hint::BranchOfClass =>
             "name a class in each branch of `case`, as in `x : Int => ..`: to compare values, write `if`",
         Hint::BranchType =>
-            "write a type in each branch of `case`: a branch of Object takes all other values",
+            "write a name and a type in each branch of `case`: a branch of Object takes all other values",
         Hint::SelfWord => "write `self` instead of `this`",
         Hint::SelfIsNoFormal => "remove the formal `self`: every method can use `self`",
         Hint::NoReturn => "Cool has no `return`: the last expression of a method is its value",

@@ -50,6 +50,11 @@ pub(crate) fn is_name(word: &[u8]) -> bool {
     matches!(kind_of(word), Kind::Object | Kind::Type)
 }
 
+/// Whether a word is a number or a string.
+pub(crate) fn is_constant(word: &[u8]) -> bool {
+    matches!(kind_of(word), Kind::Number | Kind::String)
+}
+
 /// Whether a word is the name of a class.
 pub(crate) fn is_type_name(word: &[u8]) -> bool {
     matches!(word, [b'A'..=b'Z', ..])

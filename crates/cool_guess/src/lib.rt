@@ -21,6 +21,7 @@ mod nearness;
 mod other_words;
 mod outline;
 mod signs;
+mod silly;
 mod source;
 mod telling;
 mod text_guesses;

@@ -4,15 +4,15 @@ use crate::candidate::{Candidate, Candidates, Reason};
 use crate::definition::{is_class, parent_around};
 use crate::fitting::fitting;
 use crate::hint::Hint;
-use crate::kind::{Kind, is_number, is_one_of, is_type_name, kind_of};
+use crate::kind::{Kind, is_constant, is_number, is_one_of, is_type_name, kind_of};
 use crate::lexeme::Lexeme;
 use crate::names::{BASIC_CLASSES, MOST_NAMES, class_names, names_near, type_name};
 use crate::nearness::{are_near, distance};
 use crate::signs::{NAMES, TYPES};
+use crate::silly::is_foreign_word;
 use crate::source::Source;
-use crate::text_guesses::is_constant;
 use cool_check::{TypeFault, TypeKind};
-use cool_classes::ClassKind;
+use cool_classes::{ClassKind, OBJECT, Ty};
 use cool_faults::Fault;
 use std::alloc::{AllocError, Global};
 
@@ -84,8 +84,10 @@ pub fn beside_candidates(
     index: usize,
 ) -> Result<Vec<Candidate>, AllocError> {
     let mut found = Candidates::new(alloc, bytes, lexemes);
-    if let Fault::Typing(_) = fault {
-        found.add_beside(index)?;
+    if let Fault::Typing(fault) = fault {
+        if fault.kind != TypeKind::E2 {
+            found.add_beside(index)?;
+        }
     }
     let Candidates { all, .. } = found;
     Ok(all)
@@ -100,17 +102,15 @@ impl<'a> Candidates<'a> {
         index: usize,
     ) -> Result<(), AllocError> {
         match kind {
-            ClassKind::C2 | ClassKind::C3 | ClassKind::C4 | ClassKind::C5 => {
+            ClassKind::C3 => self.add_near_after(sources, index, 4),
+            ClassKind::C2 | ClassKind::C4 | ClassKind::C5 => {
                 self.add_near_after(sources, index, 4)?;
                 self.add_parents(index)
             }
             ClassKind::C6 => self.add_main_class(),
-            ClassKind::F2 => self.add_no_attribute(index),
+            ClassKind::F2 => self.add_no_attribute(sources, index),
             ClassKind::F5 => self.add_own_class(index),
-            ClassKind::F6 => {
-                self.add_near_after(sources, index, 1)?;
-                self.add_types(sources, self.lexeme(index))
-            }
+            ClassKind::F6 => self.add_near_after(sources, index, 1),
             ClassKind::F7 => self.add_all_declared(sources, index),
             ClassKind::F8 => self.add_main_method(index),
             _ => Ok(()),
@@ -140,7 +140,8 @@ impl<'a> Candidates<'a> {
                 self.add_near(sources, index)
             }
             TypeKind::E5 => self.add_arguments(index),
-            TypeKind::E7 | TypeKind::E8 | TypeKind::E11 | TypeKind::E12 => {
+            TypeKind::E11 => self.add_near_after(sources, index, 1),
+            TypeKind::E7 | TypeKind::E8 | TypeKind::E12 => {
                 self.add_near_after(sources, index, 1)?;
                 self.add_types(sources, self.lexeme(index))
             }
@@ -172,8 +173,7 @@ impl<'a> Candidates<'a> {
             }
             TypeKind::E17 | TypeKind::E18 => {
                 self.add_constants(index, 24)?;
-                self.add_found(sources, fault, index)?;
-                self.add_declared(sources, index)
+                self.add_found(sources, fault, index)
             }
             _ => Ok(()),
         }
@@ -311,8 +311,34 @@ impl<'a> Candidates<'a> {
         Ok(())
     }
 
+    /// Whether several features of the class use the name at a position, and no other language has a word like it.
+    fn is_shared(&self, index: usize) -> Result<bool, AllocError> {
+        let word = self.word(index);
+        if is_foreign_word(word) {
+            return Ok(false);
+        }
+        let Some(class) = self.class_before(index) else {
+            return Ok(false);
+        };
+        let here = Source::new(self.alloc, self.bytes)?;
+        let at = self.lexeme(index).start;
+        for there in class.saturating_add(1)..self.lexemes.len() {
+            if is_class(self.word(there)) {
+                return Ok(false);
+            }
+            let is_it = self.word(there) == word && self.word_before(there, 1) != b".".as_slice();
+            if is_it && here.are_in_different_features(at, self.lexeme(there).start) {
+                return Ok(true);
+            }
+        }
+        Ok(false)
+    }
+
     /// An attribute of this name, in front of the features of the class.
     fn add_attribute(&mut self, sources: &[Source<'_>], index: usize) -> Result<(), AllocError> {
+        if !self.is_shared(index)? {
+            return Ok(());
+        }
         let Some(class) = self.class_before(index) else {
             return Ok(());
         };
@@ -354,6 +380,9 @@ impl<'a> Candidates<'a> {
         let Some(close) = self.closing(open) else {
             return Ok(());
         };
+        if self.text(here) == b"return".as_slice() {
+            return self.put_at(Reason::Hinted(Hint::NoReturn), here, b"");
+        }
         let behind = open.saturating_add(1);
         let given = self.between(behind, close);
         let end = self.lexeme(close).end;
@@ -421,6 +450,11 @@ impl<'a> Candidates<'a> {
         }
         let from = self.lexeme(start).start;
         let to = self.before(end, 1).end;
+        match self.between(start, end) {
+            b"0" => return self.put(Reason::Hinted(Hint::TruthAsCondition), from, to, b"false"),
+            b"1" => return self.put(Reason::Hinted(Hint::TruthAsCondition), from, to, b"true"),
+            _ => {}
+        }
         let first = self.splice(from, from, b"not ")?;
         let second = self.splice(to, to, b" = 0")?;
         self.put_two(Reason::Hinted(Hint::CompareWithZero), first, second)
@@ -436,6 +470,10 @@ impl<'a> Candidates<'a> {
         let Some(found) = fault.found else {
             return Ok(());
         };
+        // Object is the type of a `while`, and of branches of several types: it is not what is meant.
+        if matches!(found, Ty::Class(OBJECT)) {
+            return Ok(());
+        }
         let name = type_name(self.alloc, sources, found)?;
         let said = Reason::Hinted(Hint::DeclaredType);
         if let Some(declared) = self.declared(fault.kind, index) {
@@ -588,16 +626,23 @@ impl<'a> Candidates<'a> {
         Ok(())
     }
 
-    /// Other types in the declaration that begins at a position.
-    fn add_declared(&mut self, sources: &[Source<'_>], index: usize) -> Result<(), AllocError> {
-        match self.type_behind(index) {
-            Some(declared) => self.add_types(sources, declared),
-            None => Ok(()),
+    /// No attribute at a position, where another one has its name and its type.
+    fn add_no_attribute(&mut self, sources: &[Source<'_>], index: usize) -> Result<(), AllocError> {
+        let name = self.word(index);
+        let class = self.word(index.saturating_add(2));
+        let mut many: usize = 0;
+        for source in sources {
+            let around = Candidates::new(self.alloc, source.bytes, &source.lexemes);
+            for there in 0..source.lexemes.len() {
+                let is_one = around.word(there) == name
+                    && around.word(there.saturating_add(1)) == b":".as_slice()
+                    && around.word(there.saturating_add(2)) == class;
+                many = many.saturating_add(usize::from(is_one));
+            }
         }
-    }
-
-    /// No attribute at a position.
-    fn add_no_attribute(&mut self, index: usize) -> Result<(), AllocError> {
+        if many < 2 {
+            return Ok(());
+        }
         let end = self.lexeme(self.expression_end(index)).end;
         let said = Reason::Hinted(Hint::InheritedAttribute);
         self.put(said, self.before(index, 1).end, end, b"")

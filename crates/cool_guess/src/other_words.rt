@@ -33,11 +33,11 @@ pub fn advice(
 /// The hint on a form of another language at a position, for which no edit at one place will do.
 fn foreign_form(alloc: Global, bytes: &[u8], lexemes: &[Lexeme], index: usize) -> Option<Hint> {
     let around = Candidates::new(alloc, bytes, lexemes);
-    if around.is_constructor(index) {
-        return Some(Hint::NoConstructors);
+    if matches!(bytes, [254, 255, ..] | [255, 254, ..]) {
+        return Some(Hint::NoUtf16);
     }
-    if around.is_cast(index) {
-        return Some(Hint::NoCasts);
+    if let Some(hint) = around.foreign_hint(index) {
+        return Some(hint);
     }
     let is_constant = matches!(kind_of(around.word(index)), Kind::Number | Kind::String);
     if is_constant && around.word_before(index, 1) == b"of".as_slice() {

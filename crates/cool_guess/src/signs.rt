@@ -4,13 +4,12 @@ use crate::hint::Hint;
 
 /// Two lexemes beside each other, of which the fault is told at one, what stands in their place, and what is said of it. The likeliest come
 /// first.
-pub(crate) static PAIRS: [(&str, &str, &str, Hint); 25] = [
+pub(crate) static PAIRS: [(&str, &str, &str, Hint); 24] = [
     ("=", "=", "=", Hint::OneEqualsSign),
     (":", "=", "<-", Hint::NoColonEquals),
     ("-", ">", "=>", Hint::BranchArrow),
     ("-", ">", ":", Hint::ResultType),
     ("=", "<", "<=", Hint::LessOrEqual),
-    ("<", ">", "=", Hint::NoUnequalSign),
     ("/", "/", "--", Hint::LineComment),
     ("*", ")", "", Hint::CommentNotOpen),
     ("(", ")", "", Hint::NewWithoutParentheses),
@@ -124,7 +123,7 @@ pub(crate) static NAMES: [(&str, &str); 17] = [
 ];
 
 /// Words and signs of other languages, and what is said of them.
-pub(crate) static ADVICE: [(&str, Hint); 24] = [
+pub(crate) static ADVICE: [(&str, Hint); 32] = [
     ("and", Hint::NoAnd),
     ("or", Hint::NoOr),
     ("&", Hint::NoAnd),
@@ -149,4 +148,12 @@ pub(crate) static ADVICE: [(&str, Hint); 24] = [
     ("throw", Hint::NoExceptions),
     ("[", Hint::NoArrays),
     ("void", Hint::NoVoidType),
+    ("switch", Hint::CaseWord),
+    ("?", Hint::NoConditional),
+    ("instanceof", Hint::NoInstanceof),
+    ("toString", Hint::NoTextOfInt),
+    ("interface", Hint::NoInterfaces),
+    ("abstract", Hint::NoInterfaces),
+    ("do", Hint::NoDo),
+    ("NULL", Hint::NoNull),
 ];

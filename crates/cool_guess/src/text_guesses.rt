@@ -5,10 +5,11 @@ use crate::extents::{begins_expression, closes, opens};
 use crate::fitting::{fitting, is_known, words_around};
 use crate::forms::wants_type;
 use crate::hint::Hint;
-use crate::kind::{KEYWORDS, Kind, is_one_of, kind_of};
+use crate::kind::{KEYWORDS, Kind, is_constant, is_one_of, kind_of};
 use crate::lexeme::{Lexeme, line_length, part};
 use crate::nearness::are_near;
 use crate::signs::{PAIRS, TYPES, WORDS};
+use crate::silly::is_unknown;
 use std::alloc::{AllocError, Global};
 
 /// Braces, and words that have an expression behind them.
@@ -28,9 +29,6 @@ static GUESSES: [&str; 24] = [
     "=", "+", "<", "-", "*", "/", "<=", "@", "let", "if", "while", "case", "new", "not", "isvoid",
     "~", "inherits", "class", "self", "Int", "String", "Bool", "Object", "IO",
 ];
-
-/// Values that are tried where one is missing, and nowhere else.
-static VALUES: [&str; 4] = ["0", "true", "\"\"", "1"];
 
 /// Several at once.
 static PHRASES: [&str; 10] = [
@@ -77,12 +75,17 @@ pub fn text_candidates(
     index: usize,
 ) -> Result<Vec<Candidate>, AllocError> {
     let mut found = Candidates::new(alloc, bytes, lexemes);
-    if found.is_foreign(index) {
+    if found.foreign_hint(index).is_some() {
         return Ok(Vec::new(alloc));
     }
+    found.add_marks(index)?;
     found.add_words(index)?;
     found.add_statements(index)?;
     found.add_forms(index)?;
+    if found.is_hopeless(index) {
+        let Candidates { all, .. } = found;
+        return Ok(all);
+    }
     found.add_commented(index)?;
     found.add_closed(index)?;
     found.add_names(index)?;
@@ -186,7 +189,7 @@ impl<'a> Candidates<'a> {
                 let end = self.bytes.len();
                 self.put(said, end, end, b" *)\n")
             }
-            (_, b"*") => {
+            (_, b"*") if self.word(index.saturating_add(1)) == b")".as_slice() => {
                 let said = Reason::Hinted(Hint::CommentNotOpen);
                 self.put(said, here.start, here.end.saturating_add(1), b"")
             }
@@ -278,7 +281,8 @@ impl<'a> Candidates<'a> {
         for back in from..to {
             let second = self.before(index, back);
             let first = self.before(index, back.saturating_add(1));
-            if self.text(first) == self.text(second) && first.end > first.start {
+            let is_twice = self.text(first) == self.text(second) && first.end > first.start;
+            if is_twice && !self.is_other_sign(index.saturating_sub(back)) {
                 self.put_at(Reason::Edit, second, b"")?;
             }
         }
@@ -345,6 +349,9 @@ impl<'a> Candidates<'a> {
         for back in 0..LOOKED_BACK {
             let second = self.before(next, back);
             let first = self.before(next, back.saturating_add(1));
+            if self.is_call(next.saturating_sub(back).saturating_sub(1)) {
+                continue;
+            }
             let text = self.exchanged(first, second)?;
             self.put(
                 Reason::Hinted(Hint::Exchanged),
@@ -381,15 +388,14 @@ impl<'a> Candidates<'a> {
         let fits = fitting(self.alloc, self.bytes, self.lexemes, there, false)?;
         for fit in fits.as_slice() {
             self.is_guess = kind_of(fit.word) != Kind::Fixed;
-            self.insert(there, fit.word)?;
+            if !is_value(fit.word) {
+                self.insert(there, fit.word)?;
+            }
         }
         self.is_guess = false;
         self.insert_each(there, &PIECES)?;
         self.is_guess = true;
         self.insert_each(there, &GUESSES)?;
-        if back == 0 {
-            self.insert_each(there, &VALUES)?;
-        }
         self.is_guess = false;
         Ok(())
     }
@@ -453,6 +459,9 @@ impl<'a> Candidates<'a> {
             return Ok(());
         };
         let here = self.lexeme(there);
+        if is_unknown(self.text(here)) {
+            return Ok(());
+        }
         let fits = fitting(self.alloc, self.bytes, self.lexemes, there, true)?;
         self.is_guess = true;
         let is_free = kind_of(self.text(here)) != Kind::Fixed;
@@ -477,7 +486,9 @@ impl<'a> Candidates<'a> {
         let words = words_around(self.alloc, self.bytes, self.lexemes, there, is_type)?;
         self.is_guess = true;
         for word in words.as_slice() {
-            self.insert(there, word)?;
+            if !is_value(word) {
+                self.insert(there, word)?;
+            }
         }
         for word in words.as_slice() {
             if !is_constant(word) {
@@ -520,8 +531,11 @@ impl<'a> Candidates<'a> {
 
     /// The lexeme so many before the fault may be one too many.
     pub(crate) fn add_extra(&mut self, index: usize, back: usize) -> Result<(), AllocError> {
-        let there = self.before(index, back);
-        self.put_at(Reason::Edit, there, b"")
+        let there = index.saturating_sub(back);
+        if self.is_other_sign(there) || self.is_other_sign(there.saturating_add(1)) {
+            return Ok(());
+        }
+        self.put_at(Reason::Edit, self.before(index, back), b"")
     }
 
     /// Several words that may be missing in front of the fault.
@@ -536,12 +550,12 @@ fn is_opener(word: &[u8]) -> bool {
     is_one_of(&OPENERS, word)
 }
 
+/// Whether a word is a constant: no value is made up where one is missing.
+fn is_value(word: &[u8]) -> bool {
+    is_constant(word) || matches!(word, b"true" | b"false" | b"self")
+}
+
 /// Whether a byte is a sign that stands right behind a word.
 fn is_end(byte: &[u8]) -> bool {
     matches!(byte, b";" | b")" | b"," | b".")
-}
-
-/// Whether a word is a number or a string.
-pub(crate) fn is_constant(word: &[u8]) -> bool {
-    matches!(kind_of(word), Kind::Number | Kind::String)
 }
