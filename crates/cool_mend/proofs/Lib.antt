@@ -3,3 +3,4 @@ pub mod PartsOfLists
 pub mod MendsTold
 pub mod FaultsPassed
 pub mod NoticesTold
+pub mod MethodsTold

@@ -1,11 +1,10 @@
 -- Explanations whose edits mend their faults, with one more explanation for the next fault.
-use Rattle.std.proofs.Common.{◌≡◌, ℕ, ◌+◌, ◌<◌, suc, List, [], ◌∷◌, ◌++◌, length, get_or, map, take, Option, Some, None, IfSome, arith, subst, sym, ap, ◌∙◌}
+use Rattle.std.proofs.Common.{◌≡◌, ℕ, ◌+◌, ◌<◌, suc, List, [], ◌∷◌, ◌++◌, length, get_or, map, take, IfSome, arith, subst, sym, ap, ◌∙◌}
 use Rattle.std.proofs.lemmas.List.{length-map, length-take, map_push, take_more}
 use Rattle.std.specs.List.{AllByRecursion}
-use Rattle.cool_classes.specs.Chains.{Class}
 use Rattle.cool_faults.specs.declared.fault.Fault.{Fault}
 use Rattle.cool_mend.specs.declared.explanation.Explanation.{Explanation}
-use Rattle.cool_mend.specs.Explanations.{AreMends, IsMend, IsTableOf}
+use Rattle.cool_mend.specs.Explanations.{AreMends, IsMend}
 
 -- the next one's mend is of the fault of the next number
 pub mends_pushed : (files : List (List ℕ)) (faults : List Fault) (from next : ℕ) (xs : List Explanation) (x : Explanation) → from + length xs ≡ next
@@ -26,11 +25,6 @@ of_faults P xs faults is all = by xs (subst (AllByRecursion P) (sym is) all) whe
   by : (ys : List Explanation) → AllByRecursion P (map (λ (x : Explanation). x.fault) ys) → AllByRecursion (λ (x : Explanation). P x.fault) ys
   by [] h = tt
   by (y ∷ ys) h = (h.0, by ys h.1)
-
--- something is told of the table of the files
-pub some_of_table : {X : Type 0} (P : List Class → X → Type 0) (files : List (List ℕ)) (p : List Class) (o : Option X) → IsTableOf files p → IfSome o (P p) → IfSome o (λ x. (p : List Class) × IsTableOf files p × P p x)
-some_of_table P files p None is h = tt
-some_of_table P files p (Some x) is h = (p, is, h)
 
 -- the faults of the explanations so far and of the next one
 pub faults_next : (faults : List Fault) (next : ℕ) (f d : Fault) (xs : List Explanation) (x : Explanation) → next < length faults → f ≡ get_or faults next d → map (λ (x : Explanation). x.fault) xs ≡ take next faults → x.fault ≡ f

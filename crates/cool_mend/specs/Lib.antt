@@ -4,4 +4,5 @@ pub mod Mends
 pub mod Ranges
 pub mod Words
 pub mod Noticed
+pub mod Told
 pub mod Values

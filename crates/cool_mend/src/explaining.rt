@@ -7,19 +7,19 @@ ghost use Rattle.cool_syntax.specs.TokenFacts.{IsPlaced};
 ghost use Rattle.cool_faults.specs.Files.{bytes_of, total};
 ghost use Rattle.cool_faults.specs.Verdicts.{IsAccepted, place_of};
 ghost use Rattle.cool_mend.specs.Noticed.{AreNoticed};
-ghost use Rattle.cool_mend.specs.Explanations.{AreExplained, AreMends, IsMend, IsTableOf, IsTold};
+ghost use Rattle.cool_mend.specs.Explanations.{AreExplained, AreMends, HaveTable, IsMend, IsTold};
 
 use crate::explanation::{Explained, Explanation, Mend};
 use crate::noticing::notices;
 use crate::range::range_at;
 use crate::search::{Found, Search};
 use crate::trial::mending;
-use crate::types::{class_table, fault_methods, fault_types};
+use crate::types::{class_table, fault_methods, fault_types, word_at};
 use crate::values::fault_values;
 use crate::words::mend_of;
 use cool_classes::ClassTable;
 use cool_faults::{Fault, Verdict, accept};
-use cool_guess::{Lexeme, Source, advice, index_at, other_definition, part, type_advice};
+use cool_guess::{Lexeme, Source, advice, index_at, other_definition, type_advice};
 use std::alloc::{AllocError, Global};
 
 /// An explanation of each fault of the files, in the order of the fault list, with an edit that was tried and mends it, if one was found. There are at
@@ -84,7 +84,7 @@ fn explanations(
 ) -> Result<Vec<Explanation>, AllocError>
     requires few { length files.now ≤ MOST_FILES }
     requires small { total (bytes_of files.now) ≤ MOST_SOURCE_BYTES }
-    requires classes { IfSome classes.now (IsTableOf (bytes_of files.now)) }
+    requires classes { HaveTable (bytes_of files.now) classes.now }
     ensures each { IfOk result (λ all. map (λ x. x.fault) all.items ≡ faults.now) }
     ensures told { IfOk result (λ all. AllByRecursion (IsTold (bytes_of files.now)) all.items) }
     ensures mends { IfOk result (λ all. AreMends (bytes_of files.now) faults.now 0 all.items) }
@@ -110,7 +110,7 @@ fn explanation(
     fault: &Fault,
     mend: Option<Mend>,
 ) -> Result<Explanation, AllocError>
-    requires classes { IfSome classes.now (IsTableOf (bytes_of files.now)) }
+    requires classes { HaveTable (bytes_of files.now) classes.now }
     ensures fault { IfOk result (λ x. x.fault ≡ fault.now) }
     ensures told { IfOk result (IsTold (bytes_of files.now)) }
     ensures mend { IfOk result (λ x. x.mend ≡ mend) }
@@ -122,7 +122,7 @@ fn explanation(
     };
     let index = index_at(all, at.byte as usize);
     let here = range_at(alloc, files, at)?;
-    let word = part(bytes, here.start, here.end);
+    let word = word_at(files, fault, here);
     let mut said = advice(alloc, bytes, all, index)?;
     said.append(&mut type_advice(alloc, fault)?)?;
     Ok(Explanation {

@@ -4,5 +4,5 @@ use Rattle.cool_faults.specs.Files.{bytes_of}
 use Rattle.cool_faults.specs.Untyped.{IsClassVerdict}
 use Rattle.cool_mend.proofs.types.class_table.Goals as goal
 
-pub returns-in-Untyped-clause-is : goal.returns-in-Untyped-clause-is
-returns-in-Untyped-clause-is c = (_, subst (IsClassVerdict (bytes_of c.args.files.now)) c.in-Untyped.is c.in_ok-untyped.ensures.verdict, refl)
+pub returns-in-Untyped : goal.returns-in-Untyped
+returns-in-Untyped c = (_, subst (IsClassVerdict (bytes_of c.args.files.now)) c.in-Untyped.is c.in_ok-untyped.ensures.verdict, refl)
