@@ -1,3 +1,4 @@
 mod LinesChanged
 mod LinesOfBytes
+mod LinesReplaced
 mod WordsAsked

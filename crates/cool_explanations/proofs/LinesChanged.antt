@@ -1,38 +1,43 @@
--- The lines that an edit changes, as lists of vectors.
-use Rattle.std.proofs.Common.{◌≡◌, ℕ, ◌+◌, List, ◌++◌, length, take, drop, sym, ◌∙◌, ap, append_assoc}
-use Rattle.std.specs.Prelude.{codes, min}
-use Rattle.std.specs.Global.{Vec}
-use Rattle.std.proofs.lemmas.List.{drop-map, length-map, map-append, take-map}
-use Rattle.cool_faults.specs.Files.{bytes_of}
-use Rattle.cool_explanations.specs.Changes.{changed_lines, changes, numbered_lines}
+-- The changes of lines, one number after the other.
+use Rattle.std.proofs.Common.{◌≡◌, ℕ, zero, suc, ◌+◌, List, [], ◌∷◌, ◌++◌, drop, map, Option, refl, ap, sym, ◌∙◌, append_assoc, arith}
+use Rattle.std.specs.Prelude.{slice_get}
+use Rattle.std.proofs.lemmas.List.{drop-drop, map-append}
+use Rattle.cool_explanations.specs.Changes.{Change, change_at, change_text, changes}
 
--- where as many lines are of both
-abbrev changes_from : ℕ → ℕ → List (List ℕ) → List (List ℕ) → List (List ℕ)
-changes_from n same olds news =
-    changed_lines n (take same olds) (take same news)
-    ++ (numbered_lines (n + same) (codes " + ") (drop same news) ++ numbered_lines (n + same) (codes " - ") (drop same olds))
+-- the change of the first lines, and those of the others
+changes_first : (n : ℕ) (olds news : List (List ℕ)) → changes n olds news ≡ change_at n (slice_get olds 0) (slice_get news 0) ++ changes (suc n) (drop 1 olds) (drop 1 news)
+changes_first n [] [] = refl
+changes_first n [] (new ∷ news) = refl
+changes_first n (old ∷ olds) [] = refl
+changes_first n (old ∷ olds) (new ∷ news) = refl
 
--- the lines that become others, and behind them those that come and those that go
-pub all_changes : (n same : ℕ) (old new first second third come go fresh gone : List (Vec ℕ)) → same ≡ min (length old) (length new)
-    → bytes_of first ≡ changed_lines n (bytes_of (take same old)) (bytes_of (take same new))
-    → fresh ≡ drop same new → bytes_of come ≡ numbered_lines (n + same) (codes " + ") (bytes_of fresh)
-    → gone ≡ drop same old → bytes_of go ≡ numbered_lines (n + same) (codes " - ") (bytes_of gone)
-    → second ≡ first ++ come → third ≡ second ++ go → bytes_of third ≡ changes n (bytes_of old) (bytes_of new)
-all_changes n same old new first second third come go fresh gone is changed of_new comes of_old goes next last =
-    let items : Vec ℕ → List ℕ = λ v. v.items in
-    let of_changed : bytes_of first ≡ changed_lines n (take same (bytes_of old)) (take same (bytes_of new)) =
-    changed ∙ ap (λ (l : List (List ℕ)). changed_lines n l (bytes_of (take same new))) (sym (take-map items same old))
-    ∙ ap (changed_lines n (take same (bytes_of old))) (sym (take-map items same new)) in
-    let of_come : bytes_of come ≡ numbered_lines (n + same) (codes " + ") (drop same (bytes_of new)) =
-    comes ∙ ap (λ (l : List (Vec ℕ)). numbered_lines (n + same) (codes " + ") (bytes_of l)) of_new
-    ∙ ap (numbered_lines (n + same) (codes " + ")) (sym (drop-map items same new)) in
-    let of_go : bytes_of go ≡ numbered_lines (n + same) (codes " - ") (drop same (bytes_of old)) =
-    goes ∙ ap (λ (l : List (Vec ℕ)). numbered_lines (n + same) (codes " - ") (bytes_of l)) of_old
-    ∙ ap (numbered_lines (n + same) (codes " - ")) (sym (drop-map items same old)) in
-    let same_of_bytes : same ≡ min (length (bytes_of old)) (length (bytes_of new)) =
-    is ∙ ap (λ (k : ℕ). min k (length new)) (sym (length-map old items)) ∙ ap (min (length (bytes_of old))) (sym (length-map new items)) in
-    ap bytes_of last ∙ map-append items second go ∙ ap (λ (l : List (List ℕ)). l ++ bytes_of go) (ap bytes_of next ∙ map-append items first come)
-    ∙ append_assoc (bytes_of first) (bytes_of come) (bytes_of go) ∙ ap (λ (l : List (List ℕ)). l ++ (bytes_of come ++ bytes_of go)) of_changed
-    ∙ ap (λ (l : List (List ℕ)). changed_lines n (take same (bytes_of old)) (take same (bytes_of new)) ++ (l ++ bytes_of go)) of_come
-    ∙ ap (λ (l : List (List ℕ)). changed_lines n (take same (bytes_of old)) (take same (bytes_of new)) ++ (numbered_lines (n + same) (codes " + ") (drop same (bytes_of new)) ++ l)) of_go
-    ∙ ap (λ (k : ℕ). changes_from n k (bytes_of old) (bytes_of new)) same_of_bytes
+at_front : {X : Type 0} (xs : List X) (i : ℕ) → slice_get (drop i xs) 0 ≡ slice_get xs i
+at_front xs zero = refl
+at_front [] (suc i) = refl
+at_front (x ∷ xs) (suc i) = at_front xs i
+
+changes_at : (n i : ℕ) (olds news : List (List ℕ))
+    → changes n (drop i olds) (drop i news) ≡ change_at n (slice_get olds i) (slice_get news i) ++ changes (suc n) (drop (i + 1) olds) (drop (i + 1) news)
+changes_at n i olds news =
+    changes_first n (drop i olds) (drop i news)
+    ∙ ap (λ (o : Option (List ℕ)). change_at n o (slice_get (drop i news) 0) ++ changes (suc n) (drop 1 (drop i olds)) (drop 1 (drop i news))) (at_front olds i)
+    ∙ ap (λ (o : Option (List ℕ)). change_at n (slice_get olds i) o ++ changes (suc n) (drop 1 (drop i olds)) (drop 1 (drop i news))) (at_front news i)
+    ∙ ap (λ (l : List (List ℕ)). change_at n (slice_get olds i) (slice_get news i) ++ changes (suc n) l (drop 1 (drop i news))) (drop-drop 1 i olds)
+    ∙ ap (λ (l : List (List ℕ)). change_at n (slice_get olds i) (slice_get news i) ++ changes (suc n) (drop (i + 1) olds) l) (drop-drop 1 i news)
+
+-- one more line has been passed
+pub change_passed : (first i : ℕ) (olds news so_far next due : List (List ℕ)) (old new : Option (List ℕ)) → old ≡ slice_get olds i → new ≡ slice_get news i
+    → so_far ++ map change_text (changes (first + i) (drop i olds) (drop i news)) ≡ due → next ≡ so_far ++ map change_text (change_at (first + i) old new)
+    → next ++ map change_text (changes (first + (i + 1)) (drop (i + 1) olds) (drop (i + 1) news)) ≡ due
+change_passed first i olds news so_far next due old new is_old is_new all added =
+    let here : next ≡ so_far ++ map change_text (change_at (first + i) (slice_get olds i) (slice_get news i)) =
+    added ∙ ap (λ (o : Option (List ℕ)). so_far ++ map change_text (change_at (first + i) o new)) is_old
+    ∙ ap (λ (o : Option (List ℕ)). so_far ++ map change_text (change_at (first + i) (slice_get olds i) o)) is_new in
+    let rest = changes (suc (first + i)) (drop (i + 1) olds) (drop (i + 1) news) in
+    let number : first + (i + 1) ≡ suc (first + i) = omega arith in
+    ap (λ (n : ℕ). next ++ map change_text (changes n (drop (i + 1) olds) (drop (i + 1) news))) number
+    ∙ ap (λ (l : List (List ℕ)). l ++ map change_text rest) here
+    ∙ append_assoc so_far (map change_text (change_at (first + i) (slice_get olds i) (slice_get news i))) (map change_text rest)
+    ∙ ap (λ (l : List (List ℕ)). so_far ++ l) (sym (map-append change_text (change_at (first + i) (slice_get olds i) (slice_get news i)) rest))
+    ∙ ap (λ (l : List Change). so_far ++ map change_text l) (sym (changes_at (first + i) i olds news))
+    ∙ all

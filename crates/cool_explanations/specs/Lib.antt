@@ -1,3 +1,4 @@
+pub mod ChangedLines
 pub mod Changes
 pub mod Cures
 pub mod Ends

@@ -1,9 +1,10 @@
 //! The lines that an edit changes.
 
-ghost use Rattle.std.specs.Prelude.{◌≡◌, ◌++◌, ◌+◌, ◌<◌, ◌≤◌, ◌^◌, IfOk, length};
+ghost use Rattle.std.specs.Prelude.{◌≡◌, ◌++◌, ◌+◌, ◌≤◌, ◌^◌, IfOk, OnOk, length, map, option_map};
 ghost use Rattle.std.specs.List.{concat};
 ghost use Rattle.cool_faults.specs.Files.{bytes_of};
-ghost use Rattle.cool_explanations.specs.Changes.{all_but_last, changed, changed_lines, changed_text, changes, changes_before_end, is_blank, last_of, line_number, lines, numbered, numbered_lines, shortened};
+ghost use Rattle.cool_explanations.specs.Changes.{all_but_last, change_at, change_text, changed_text, changes, is_blank, last_of, line_number, lines, numbered, shortened};
+ghost use Rattle.cool_explanations.specs.Changes.Change.{becomes};
 
 use crate::shown::{from, part, up_to};
 use crate::source_line::{first_line, last_line, number};
@@ -26,7 +27,16 @@ pub(crate) fn changed_text(alloc: Global, file: &[u8], edit: &Edit) -> Result<Ve
         &joined(alloc, front, part(file, edit.start, edit.end), back)?,
     )?;
     let new = lines(alloc, &joined(alloc, front, &edit.text, back)?)?;
-    let all = changes_before_end(alloc, line_number(before), &old, &new)?;
+    let all = if last_of(&old) == last_of(&new) {
+        changes(
+            alloc,
+            line_number(before),
+            all_but_last(&old),
+            all_but_last(&new),
+        )?
+    } else {
+        changes(alloc, line_number(before), &old, &new)?
+    };
     shortened(alloc, &all)
 }
 
@@ -72,23 +82,6 @@ fn line_number(bytes: &[u8]) -> usize
     number
 }
 
-/// The same as `changes`, without the last line of both where that stays. Returns `Err` only if memory runs out.
-fn changes_before_end(
-    alloc: Global,
-    first: usize,
-    old: &[Vec<u8>],
-    new: &[Vec<u8>],
-) -> Result<Vec<Vec<u8>>, AllocError>
-    requires { first ≤ 2 ^ 63 }
-    ensures { IfOk result (λ all. bytes_of all.items ≡ changes_before_end first (bytes_of old.now) (bytes_of new.now)) }
-{
-    if last_of(old) == last_of(new) {
-        changes(alloc, first, all_but_last(old), all_but_last(new))
-    } else {
-        changes(alloc, first, old, new)
-    }
-}
-
 /// The last line, or nothing.
 fn last_of(lines: &[Vec<u8>]) -> &[u8]
     ensures { result.now ≡ last_of (bytes_of lines.now) }
@@ -106,7 +99,7 @@ fn all_but_last(lines: &[Vec<u8>]) -> &[Vec<u8>]
     &lines[..lines.len().saturating_sub(1)]
 }
 
-/// The lines, of which the first has this number, that become others, come or go. Returns `Err` only if memory runs out.
+/// The texts of the changes of lines, of which the first has this number, into others. Returns `Err` only if memory runs out.
 fn changes(
     alloc: Global,
     first: usize,
@@ -114,55 +107,47 @@ fn changes(
     new: &[Vec<u8>],
 ) -> Result<Vec<Vec<u8>>, AllocError>
     requires { first ≤ 2 ^ 63 }
-    ensures { IfOk result (λ all. bytes_of all.items ≡ changes first (bytes_of old.now) (bytes_of new.now)) }
+    ensures { IfOk result (λ all. bytes_of all.items ≡ map change_text (changes first (bytes_of old.now) (bytes_of new.now))) }
 {
-    let same = old.len().min(new.len());
-    let mut all = changed_lines(alloc, first, &old[..same], &new[..same])?;
-    all.append(&mut numbered_lines(alloc, first + same, b" + ", &new[same..])?)?;
-    all.append(&mut numbered_lines(alloc, first + same, b" - ", &old[same..])?)?;
+    let mut all = Vec::new(alloc);
+    for index in 0..old.len().max(new.len()) {
+        add_change(
+            alloc,
+            first + index,
+            old.get(index),
+            new.get(index),
+            &mut all,
+        )?;
+    }
     Ok(all)
 }
 
-/// As many lines that become as many others, as far as they differ. Returns `Err` only if memory runs out.
-fn changed_lines(
+/// Adds the text of the change of a line into another, unless it stays. Returns `Err` only if memory runs out.
+fn add_change(
     alloc: Global,
-    first: usize,
-    old: &[Vec<u8>],
-    new: &[Vec<u8>],
-) -> Result<Vec<Vec<u8>>, AllocError>
-    requires room { first ≤ 2 ^ 63 }
-    requires each { length old.now ≡ length new.now }
-    ensures { IfOk result (λ all. bytes_of all.items ≡ changed_lines first (bytes_of old.now) (bytes_of new.now)) }
+    line: usize,
+    old: Option<&Vec<u8>>,
+    new: Option<&Vec<u8>>,
+    all: &mut Vec<Vec<u8>>,
+) -> Result<(), AllocError>
+    ensures { OnOk result (bytes_of all.new.items ≡ bytes_of all.old.items ++ map change_text (change_at line (option_map (λ l. l.now.items) old.entry) (option_map (λ l. l.now.items) new.entry))) }
 {
-    let mut all = Vec::new(alloc);
-    for index in 0..old.len() {
-        if old[index].as_slice() != new[index].as_slice() {
-            all.push(changed(alloc, first + index, &old[index], &new[index])?)?;
+    match (old, new) {
+        (Some(old), Some(new)) => {
+            if old.as_slice() != new.as_slice() {
+                all.push(changed(alloc, line, old, new)?)?;
+            }
         }
+        (Some(old), None) => all.push(numbered(alloc, line, b" - ", old)?)?,
+        (None, Some(new)) => all.push(numbered(alloc, line, b" + ", new)?)?,
+        (None, None) => {}
     }
-    Ok(all)
+    Ok(())
 }
 
-/// Lines with their numbers and a sign. Returns `Err` only if memory runs out.
-fn numbered_lines(
-    alloc: Global,
-    first: usize,
-    sign: &[u8],
-    lines: &[Vec<u8>],
-) -> Result<Vec<Vec<u8>>, AllocError>
-    requires { first + length lines.now < 2 ^ 64 }
-    ensures { IfOk result (λ all. bytes_of all.items ≡ numbered_lines first sign.now (bytes_of lines.now)) }
-{
-    let mut all = Vec::new(alloc);
-    for index in 0..lines.len() {
-        all.push(numbered(alloc, first + index, sign, &lines[index])?)?;
-    }
-    Ok(all)
-}
-
-/// A line that becomes another: it goes where only white space is left of it. Returns `Err` only if memory runs out.
+/// The text of a line that becomes another: the old line if only white space is left of it. Returns `Err` only if memory runs out.
 fn changed(alloc: Global, line: usize, old: &[u8], new: &[u8]) -> Result<Vec<u8>, AllocError>
-    ensures { IfOk result (λ text. text.items ≡ changed line old.now new.now) }
+    ensures { IfOk result (λ text. text.items ≡ change_text (becomes line old.now new.now)) }
 {
     if is_blank(new) {
         numbered(alloc, line, b" - ", old)

@@ -11,6 +11,7 @@ mod cures;
 mod explaining;
 mod facts;
 mod form;
+mod laws;
 mod lines;
 mod note;
 mod process;
@@ -22,5 +23,6 @@ mod values;
 mod warnings;
 
 pub use form::Form;
+pub use laws::law_changes_are_lines;
 pub use note::BAD_COMMAND_LINE;
 pub use process::perform;

@@ -1,0 +1,31 @@
+-- `IsChange` says that a change which an explanation shows of a fix is one of the edited file: an old line stands at its number in the file, and a new line
+-- at its number in the edited file. `IsReplacement` adds that all other lines of the file stay.
+use Rattle.std.specs.Prelude.{◌≡◌, ℕ, ◌+◌, ◌-◌, ◌≤◌, List, ◌++◌, length, slice_get, Some, get_or, []}
+use Rattle.std.specs.List.{AllByRecursion}
+use Rattle.cool_mend.specs.declared.edit.Edit.{Edit}
+use Rattle.cool_mend.specs.Edits.{edited_file}
+use Rattle.cool_explanations.specs.Changes.Change.{comes, goes, becomes}
+use Rattle.cool_explanations.specs.Changes.{Change, Stretch, changes_by, lines, touched, without_end}
+
+-- The lines of a file and those of the edited file are the same in front of a stretch and behind it.
+pub record IsReplacement (file edited : List ℕ) (s : Stretch) : Type 0 where
+  pub before : List (List ℕ)
+  pub after : List (List ℕ)
+  pub olds : lines file ≡ before ++ (s.olds ++ after)
+  pub news : lines edited ≡ before ++ (s.news ++ after)
+  pub number : s.number ≡ length before + 1
+
+-- this is the line of bytes with this number, counted from 1
+abbrev pub IsLine : List ℕ → ℕ → List ℕ → Type 0
+IsLine bytes n line = (1 ≤ n) × (slice_get (lines bytes) (n - 1) ≡ Some line)
+
+-- a change is at its line
+abbrev pub IsChange : List ℕ → List ℕ → Change → Type 0
+IsChange file edited (comes n new) = IsLine edited n new
+IsChange file edited (goes n old) = IsLine file n old
+IsChange file edited (becomes n old new) = IsLine file n old × IsLine edited n new
+
+-- The lines that are shown of an edit are those of the edited file.
+pub record ShowsEdit (files : List (List ℕ)) (e : Edit) : Type 0 where
+  pub replaced : IsReplacement (get_or files e.file []) (edited_file e files) (without_end (touched (get_or files e.file []) e))
+  pub each : AllByRecursion (IsChange (get_or files e.file []) (edited_file e files)) (changes_by (get_or files e.file []) e)

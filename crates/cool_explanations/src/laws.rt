@@ -1,0 +1,12 @@
+//! A law on the lines that are shown of an edit.
+
+ghost use Rattle.std.specs.Prelude.{ℕ, List};
+ghost use Rattle.cool_mend.specs.declared.edit.Edit.{Edit};
+ghost use Rattle.cool_mend.specs.Edits.{IsEdit};
+ghost use Rattle.cool_explanations.specs.ChangedLines.{ShowsEdit};
+
+/// The lines that are shown of an edit of files are those that it changes: each stands at its number in the file or in the edited file, and no other line
+/// changes.
+pub fn law_changes_are_lines()
+    ensures { (files : List (List ℕ)) (e : Edit) → IsEdit files e → ShowsEdit files e }
+{}
