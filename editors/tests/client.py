@@ -137,7 +137,7 @@ class Client:
 
 def said(note):
     """The words of a fault as `check` has them: what was found, or the name, stands behind them once it is explained."""
-    return re.split(": found |:? `", note["message"])[0]
+    return re.split(": found |: expected |: \\S+ is compared with |:? `", note["message"])[0]
 
 
 def call_of(process):

@@ -12,9 +12,10 @@ CURE = "give a value of the declared class, or of a class below it"
 TYPED = FAULTY.encode().index(b"t : Int")
 EDITED = FAULTY.encode().index(b"true;")
 FAULT = "initial value does not conform"
+PREMISE = "the type of the initial value conforms to the declared type"
 # The output of a stand-in about the file. LINES has all kinds of lines.
-EXPLAINED = "fault 0:2:%d:%d E17: %s\nfact expected Int, found Bool\ncure %s\nmend `1` for `true`\nedit 0:%d:%d 1\n" % (
-    TYPED, TYPED + 1, FAULT, CURE, EDITED, EDITED + 4)
+EXPLAINED = "fault 0:2:%d:%d E17: %s\nrule Attribute: %s\nfact expected Int, found Bool\ncure %s\nmend `1` for `true`\nedit 0:%d:%d 1\n" % (
+    TYPED, TYPED + 1, FAULT, PREMISE, CURE, EDITED, EDITED + 4)
 LINES = """fault 0:2:%d:%d E17: initial value does not conform
 fact expected Int, found Bool
 fact `t` is declared Int
