@@ -1,4 +1,4 @@
--- The outcome of the run of an image on empty input, if its sink did not fail.
+-- The status and the output of a machine that ran an image on empty input are those of the specified run of the image, unless a write of its output failed.
 use Rattle.std.proofs.Common.{◌≡◌, ◌∙◌, sym, ap, subst, ℕ, ◌<◌, ◌≤◌, List, [], length, arith, refl}
 use Rattle.std.specs.Prelude.{Option, Some}
 use Rattle.cool_ports.specs.SinkBytes.{appended}

@@ -1,4 +1,4 @@
--- The end of calls that write only once (output or message), and of calls that refuse their files.
+-- A call that writes only one text, or that only reports why its files are refused, ends as the specification of its command demands.
 use Rattle.std.proofs.Common.{List, [], arith, inl, inr, ℕ, ◌≡◌, ◌≢◌, ◌≤◌}
 use Rattle.cool_driver.specs.{Calls.{Call, Got, Request, shelf_of}, Comes.{Comes, Dues, Pieces}, Does.{Goes}, Refusals.{IsTold, RefusalNoted}, Sources.{IsNoProgram}}
 use Rattle.cool_driver.specs.{Statuses.{code_of}, Telling.{Noted}, declared.refusal.Refusal.{Refusal}, declared.status.Status.{Status}}

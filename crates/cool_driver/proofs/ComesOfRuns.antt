@@ -1,4 +1,4 @@
--- Lemmas on the end of calls that ran an image: their status, output, note and rest of the input are those that are due.
+-- A call that ran an image ends with the specified status, output, message on standard error, and rest of the input, or reports that a read or write failed.
 use Rattle.std.proofs.Common.{List, Option, Some, [], arith, inl, inr, refl, ℕ, ◌∙◌, ◌≡◌, ◌⊎◌}
 use Rattle.cool_words.specs.declared.plan.RunLimits.{RunLimits}
 use Rattle.mips_isa.specs.{Calls.{Exited, Outcome, Running, State, Trapped}, ImageBounds.{ImageParts}, Run.{start}}

@@ -1,4 +1,5 @@
--- The end of calls: facts about their devices, the promise of their command, and that their arguments were valid.
+-- A call satisfies its command's postcondition, and its status agrees with the failures of files, input and outputs, whether its last write succeeds or fails
+-- or memory runs out.
 use Rattle.std.proofs.Common.{List, Option, Some, [], arith, inl, inr, refl, sym, ℕ, ◌++◌, ◌<◌, ◌≡◌, ◌≢◌, ◌≤◌, ◌⊎◌}
 use Rattle.cool_ports.proofs.GettingBytes.{appended-nil}
 use Rattle.cool_ports.specs.{Counts.{Rose}, SinkBytes.{appended}}

@@ -1,4 +1,4 @@
--- `Does` for commands that read no input, and for commands that refuse no source files.
+-- The effects of a command (`Does`) follow from fewer facts if the command reads no input, or if it did not refuse its source files for their errors.
 use Rattle.std.proofs.Common.{◌≡◌, ◌≢◌, ℕ, Bool, false, List}
 use Rattle.std.specs.Prelude.{IfSome}
 use Rattle.cool_ports.proofs.InputsInParts.{leaves_same, took_nothing}

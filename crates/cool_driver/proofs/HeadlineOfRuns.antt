@@ -1,4 +1,4 @@
--- If an image means a program, a call that ran the image within the limits of a plan ends as the field `headline` of `RunEnds` says.
+-- If an image is a correct compilation of a program, each call that ran the image within its limits satisfies the main theorem about `run` (`Headline`).
 use Rattle.std.proofs.Common.{arith, ◌≡◌, ℕ, ◌+◌, ◌<◌, ◌⊎◌, inl, inr, List, [], ◌++◌, Some, refl, sym, ◌∙◌, ap, subst, append_assoc, append-nil}
 use Rattle.cool_classes.specs.Chains.{Class}
 use Rattle.cool_eval.specs.Ends.{IsPartOf}

@@ -1,4 +1,4 @@
--- Uniqueness: with a shelf of known contents, each name has exactly one content, and so has the last file given.
+-- If the contents of the file system are known, each file name has exactly one content, so all readings of the same names give the same bytes.
 use Rattle.std.proofs.Common.{◌≡◌, ℕ, zero, suc, ◌+◌, ◌-◌, ◌<◌, ◌≤◌, List, [], ◌∷◌, ◌++◌, length, length-append, Some, None, refl, sym, ◌∙◌, ap, append_assoc, arith}
 use Rattle.std.specs.Prelude.{Option, Contains}
 use Rattle.cool_ports.specs.{Counts.{last_count}, ShelfFiles.{FileMap, MayHold, AreHeld, IsMissing, IsLonger}}

@@ -1,4 +1,4 @@
--- The notes of the debugger: each ends in a line feed.
+-- Each message that the debugger writes to standard error ends in a line feed.
 use Rattle.std.proofs.Common.{◌≡◌, ℕ, ◌+◌, Bool, true, false, inl, inr, List, [], ◌∷◌, ◌++◌, length, refl}
 use Rattle.std.specs.{Prelude.{flat_map, codes, decimal, Option}, List.{range_with_len}}
 use Rattle.cool_ports.specs.{Answers.{Past, Leaves}, Taking.{Took}}

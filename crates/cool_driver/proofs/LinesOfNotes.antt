@@ -1,4 +1,4 @@
--- The lines of notes: each ends in a line feed.
+-- Each line that a command writes to standard error, such as a compile-time error, ends in a line feed.
 use Rattle.std.proofs.Common.{◌≡◌, ◌≢◌, ℕ, zero, suc, ◌+◌, ◌<◌, true, List, [], ◌∷◌, ◌++◌, length, get_or, drop, map, refl, sym, ◌∙◌, ap, subst, append_assoc, append-nil, arith}
 use Rattle.std.proofs.lemmas.List.{at_drop_more}
 use Rattle.std.specs.{Prelude.{codes, decimal}, Global.{Vec}, List.{concat, AllByRecursion}}

@@ -1,4 +1,5 @@
--- The code compiled from the program of a command's files means that program, folded or not; and so does the code for the program of `big`.
+-- The image generated for an accepted program, with or without constant folding, is a correct compilation of the program. The same holds for the generated
+-- program of the command `big`.
 use Rattle.std.proofs.{Common.{◌≡◌, ℕ, Bool, true, false, List, length, refl, sym, ◌∙◌, subst, [], arith}, lemmas.List.{length-map}}
 use Rattle.std.specs.{Prelude.{String, string_bytes}, List.{list_all, AllByRecursion}, Global.{Global}}
 use Rattle.cool_classes.specs.Chains.{Class}

@@ -1,4 +1,5 @@
--- The puts of a call, compared with the texts that were due.
+-- The texts that a call writes to its output are the specified ones in order, one write for each, or the first of these if a read or write fails or memory runs
+-- out.
 use Rattle.std.proofs.Common.{List, [], ◌++◌, ap, append-nil, inl, inr, refl, subst, sym, ℕ, ◌≡◌, ◌≢◌}
 use Rattle.cool_ports.specs.SinkPuts.{PutFront}
 use Rattle.spim_machine.specs.{Puts.{PutWithin}, declared.halt.Halt.{Halt}}

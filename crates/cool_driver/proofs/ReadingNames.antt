@@ -1,4 +1,5 @@
--- Files that are asked for, read and refused, by the state at the end.
+-- If the files of a command are read, or one of them is refused, the file names requested and the contents returned satisfy the specification of the command's
+-- source files.
 use Rattle.std.proofs.Common.{◌≡◌, ℕ, ◌≤◌, List, [], length, ap, arith}
 use Rattle.std.proofs.lemmas.Bool.{le-ltb}
 use Rattle.std.specs.Prelude.{Bool, if◌then◌else◌}

@@ -1,4 +1,4 @@
--- The lines of refusals: one line for each fault, or one line with the reason.
+-- If a command refuses its files, its message has one line for each compile-time error, or one line with the reason, and each line ends in a line feed.
 use Rattle.std.proofs.Common.{◌≡◌, ◌≢◌, ◌∙◌, ℕ, true, List, [], ◌++◌, Some, inl, inr, refl, sym, ap, subst, arith}
 use Rattle.std.specs.{Prelude.{Result, Ok, Err, IfErr, codes}, List.{concat}}
 use Rattle.cool_faults.specs.{declared.fault.Fault.{Fault}, Shown.{shown}, Verdicts.{IsRefused}}

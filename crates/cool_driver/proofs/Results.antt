@@ -1,4 +1,4 @@
--- Facts about `Ok` and `Err` results.
+-- Lemmas on `Result` values: a fact that always holds also holds for an `Ok` value, and a fact about each error holds for the error returned.
 use Rattle.std.specs.Prelude.{Result, Ok, Err, IfErr, OnOk}
 
 -- a fact holds for an `Ok` result, too

@@ -1,4 +1,4 @@
--- The meaning of a file for `exec` is unique: one image, or one fault.
+-- A file for `exec` determines either exactly one image, or exactly one error, and never both.
 use Rattle.std.proofs.Common.{◌≡◌, ℕ, inl, inr, true, false, List, Some, sym, ◌∙◌, ap}
 use Rattle.mips_isa.specs.{Assembly.{fault_of, image_of}, ImageBounds.{ImageParts}, declared.asm_fault.AsmFault.{AsmFault}}
 use Rattle.mips_image.specs.{ImageReading.{first_fault, parts_of}, declared.image_error.ImageError.{ImageError}}

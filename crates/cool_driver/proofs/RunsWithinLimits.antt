@@ -1,4 +1,4 @@
--- The run of an image within limits, and of a machine that was loaded with the image.
+-- A machine loaded with an image and limits runs as the specification of running this image within the limits says.
 use Rattle.std.proofs.Common.{◌≡◌, ◌∙◌, refl, ℕ, List, []}
 use Rattle.std.specs.Prelude.{Option, Some}
 use Rattle.mips_isa.specs.{ImageBounds.{ImageParts}, Bytes.{Segments, segments_of}, Calls.{State}, Run.{run, start}}

@@ -1,4 +1,4 @@
--- The files of a call: they are read once, and either they are one program, or there is one reason why not.
+-- If the contents of the file system are known, the source files of a call are either exactly one program, or have exactly one list of errors, and never both.
 use Rattle.std.proofs.Common.{Err, IfErr, IfOk, List, Ok, Result, Some, String, [], ap, arith, inl, inr, length, refl, string_bytes, sym, true, ℕ, ◌<◌, ◌∙◌, ◌≡◌, ◌≢◌, ◌≤◌, ◌⊎◌}
 use Rattle.std.proofs.lemmas.List.{length-map}
 use Rattle.std.specs.{Global.{Global, Vec}, List.{AllByRecursion, list_all}}

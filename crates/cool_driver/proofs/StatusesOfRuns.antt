@@ -1,4 +1,4 @@
--- The statuses with which runs of images and of the source end.
+-- The exit status of a run of an image or of a source program is one of those allowed for runs, and is not the status of a failed read.
 use Rattle.std.proofs.Common.{Bool, arith, cond, false, true, ℕ, ◌==◌, ◌≡◌, ◌≢◌, ◌⊎◌}
 use Rattle.mips_isa.specs.Calls.{Exited, Outcome, Running, Trapped}
 use Rattle.cool_driver.specs.{Calls.{Request}, Execution.{status_of}}

@@ -1,4 +1,4 @@
--- The lemmas of one command each; no file of one command needs one of another.
+-- Lemmas on each command of `cool`, one file for each command; no file depends on the file of another command.
 pub mod Checks
 pub mod Evaluations
 pub mod Builds

@@ -1,5 +1,5 @@
--- `Comes` says how a call ends whose result is specified (`due`). All of the result was written, or a part of it because a write failed, or nothing because
--- memory ran out before.
+-- `Comes` says how a call with a specified result (`due`) ends: the whole result was written, or a part of it because a write failed, or nothing because memory
+-- ran out before.
 use Rattle.std.specs.Prelude.{◌≡◌, ◌≢◌, ℕ, List, [], ◌++◌}
 use Rattle.cool_ports.specs.SinkPuts.{PutFront}
 use Rattle.cool_driver.specs.{Calls.{Call, SinkUse, Got, GotPart, DidNothing, UnlessCutShort}, Statuses.{READ_FAULT, WRITE_FAULT, OUT_OF_MEMORY}}

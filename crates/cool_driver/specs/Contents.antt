@@ -1,4 +1,4 @@
--- `texts` converts a list of byte vectors (`Vec`), which are the contents of files or lines, to a list of byte lists.
+-- `texts` converts a list of byte vectors (`Vec`) to a list of byte lists. The vectors are the contents of files, or lines.
 use Rattle.std.specs.{Prelude.{ℕ, List, map}, Global.{Vec}}
 
 abbrev pub texts : List (Vec ℕ) → List (List ℕ)

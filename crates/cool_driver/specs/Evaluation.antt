@@ -1,4 +1,5 @@
--- The status and the note of the command `eval`, given how its run of the source program ended. `GoesOn` means that the run reached its limit of steps.
+-- The exit status of the command `eval`, and its message on standard error, for each way in which the evaluation of the source program can end. `GoesOn` means
+-- that the evaluation reached its limit of steps.
 use Rattle.std.specs.Prelude.{ℕ, List, [], Option, Some, None}
 use Rattle.cool_meaning.specs.SourceRun.{End, Done, Failed, GoesOn, IsStuck}
 use Rattle.cool_driver.specs.{Notes.{step_limit_note}, Statuses.{DONE, FAILED, STEP_LIMIT}}

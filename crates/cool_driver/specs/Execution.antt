@@ -1,5 +1,5 @@
--- `IsRunnable` gives the image that `exec` runs for the bytes of a file: they encode it, or are assembly for it. `run_of` is its run within limits, and
--- `status_of` and `note_of` give the status and the note of the run's end.
+-- `IsRunnable` relates the bytes of a file to the image that `exec` runs: the bytes encode the image, or are assembly text for it. `run_of` is the run of an
+-- image within limits, and `status_of` and `note_of` give its exit status and message.
 use Rattle.std.specs.Prelude.{◌≡◌, ℕ, ◌*◌, ◌==◌, ◌⊎◌, not, if◌then◌else◌, Bool, true, List, [], ◌∷◌, None, Some}
 use Rattle.mips_isa.specs.{ImageBounds.{ImageParts, IsImage}, Bytes.{Segments, segments_of}, Lines.{Line}, Assembly.{fault_of, image_of}, declared.asm_fault.AsmFault.{AsmFault}}
 use Rattle.mips_isa.specs.{Calls.{State, Outcome, Running, Exited, Trapped}, Run.{start, run_image}}

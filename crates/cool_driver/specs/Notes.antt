@@ -1,4 +1,4 @@
--- The texts of the notes. `shown` replaces the bytes of a name that a terminal obeys.
+-- The texts of the messages that `cool` writes to standard error. `shown` replaces those bytes of a file name that a terminal would interpret as control codes.
 use Rattle.std.specs.{Prelude.{◌≡◌, refl, ℕ, List, [], ◌++◌, map, codes, decimal}, List.{concat}}
 use Rattle.std.specs.Fmt as decimals
 use Rattle.cool_faults.specs.{declared.fault.Fault.{Fault}, Shown.{shown}, Texts.{fault_line}}

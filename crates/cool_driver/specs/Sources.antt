@@ -1,5 +1,5 @@
--- The source files of a command: `AreRead` says that they were read, `IsProgram` that they are an accepted program, and `IsNoProgram` gives the status and
--- the note otherwise.
+-- The source files of a command: `AreRead` says that they were read, and `IsProgram` that they are an accepted program. Otherwise `IsNoProgram` gives the exit
+-- status and the message.
 use Rattle.std.specs.{Prelude.{◌≡◌, ◌≢◌, ℕ, ◌-◌, ◌<◌, ◌≤◌, ◌⊎◌, nat_lt, if◌then◌else◌, true, List, [], ◌∷◌, ◌++◌, length, Contains, Some, None, String}, List.{list_all, AllByRecursion}}
 use Rattle.std.specs.Global.{Global, Vec}
 use Rattle.cool_syntax.specs.declared.TheConstants.{MOST_FILES, MOST_SOURCE_BYTES}

@@ -1,4 +1,4 @@
--- The thirteen statuses with which a call ends, by their names.
+-- The thirteen exit statuses of a call of `cool`, as numbers with names.
 use Rattle.std.specs.Prelude.{ℕ}
 use Rattle.cool_driver.specs.declared.status.Status.{Status}
 use Rattle.cool_driver.specs.declared.status.Status.TheVariants as status

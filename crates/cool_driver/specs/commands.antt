@@ -1,4 +1,4 @@
--- The promise (postcondition) of each command, in a file each.
+-- The postconditions of the commands of `cool`, one file for each command.
 pub mod Usage
 pub mod Check
 pub mod Build

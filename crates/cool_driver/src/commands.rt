@@ -1,4 +1,4 @@
-//! The commands of `cool`, in a file each.
+//! The commands of `cool`, each implemented in a file of its own.
 
 pub mod big;
 pub mod build;

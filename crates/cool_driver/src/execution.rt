@@ -1,4 +1,4 @@
-//! Runs of images within limits.
+//! Runs an image on the machine within limits of heap, stack and steps, and reports how the run ended.
 
 ghost use Rattle.std.specs.Prelude.{◌≡◌, ◌≢◌, List, ℕ, Bool, false};
 ghost use Rattle.cool_ports.specs.Answers.{Leaves};

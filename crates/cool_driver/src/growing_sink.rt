@@ -1,4 +1,4 @@
-//! A sink in memory that grows.
+//! An output stream that stores its bytes in a growing buffer in memory.
 
 ghost use Rattle.std.specs.Prelude.{◌≡◌, ℕ, ◌<◌, [], ◌∷◌, ◌++◌, List, length, OnOk, OnErr, Option, Some};
 ghost use Rattle.cool_ports.specs.Counts.{GoesOn, Rose};

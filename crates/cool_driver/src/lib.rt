@@ -1,4 +1,4 @@
-//! The program: the function `cool`, which does what its arguments ask for over the files, input and writers that it is given.
+//! The function `cool` parses the arguments of a call and executes the requested command, with the files, input and outputs that it is given.
 //!
 //! Input: words, files, input. Output: output, notes and a status. It implements `specs/Ends.antt`.
 #![tactic(auto)]

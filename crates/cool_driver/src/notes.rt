@@ -1,4 +1,4 @@
-//! The notes: their texts, and how they are written.
+//! The texts of the messages to standard error, and the functions that write them.
 
 ghost use Rattle.std.specs.Prelude.{◌≡◌, ◌≢◌, ◌+◌, ◌≤◌, [], ◌∷◌, ◌++◌, length, true, IfOk, Some, string_bytes};
 ghost use Rattle.cool_faults.specs.Shown.{shown};

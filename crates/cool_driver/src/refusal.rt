@@ -1,4 +1,4 @@
-//! The reasons why a command does not continue, and how they are written.
+//! The reasons why a command stops before its work, such as compile-time errors, and the functions that report them.
 
 ghost use Rattle.std.specs.Prelude.{◌≡◌, ◌<◌, ◌∷◌, [], ℕ, List, length, IfOk, Some, map};
 ghost use Rattle.std.specs.List.{AllByRecursion};

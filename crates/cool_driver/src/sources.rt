@@ -1,4 +1,4 @@
-//! The source files of a command: they are read, and accepted as a program, or refused.
+//! Reads the source files of a command and checks them: the result is an accepted program, or the reason why there is none.
 
 ghost use Rattle.std.specs.Prelude.{◌≡◌, ◌<◌, ◌≤◌, ◌^◌, ◌++◌, length, IfErr, IfOk, OnOk, true};
 ghost use Rattle.cool_ports.specs.ShelfFiles.{AskedFront};

@@ -1,4 +1,4 @@
-//! `cool` over the system: a runtime's files, and std's streams.
+//! Calls `cool` with the files of the operating system and with streams of the standard library.
 
 ghost use Rattle.std.specs.Prelude.{ℕ, List};
 ghost use Rattle.cool_ports.specs.Answers.{Leaves};

@@ -1,4 +1,4 @@
-//! Writing an image to the output, in pieces.
+//! Writes the bytes of an image or of a text to the output, in pieces of at most 4,096 bytes.
 
 ghost use Rattle.std.specs.Prelude.{◌≢◌};
 ghost use Rattle.cool_ports.specs.SinkPuts.{pieces_of};

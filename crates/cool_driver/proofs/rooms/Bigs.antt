@@ -1,4 +1,4 @@
--- The end of a call of `big`.
+-- A call of `big` that wrote its line about a generated program, or failed to write it, satisfies the postcondition `BigEnds` of the command.
 use Rattle.std.proofs.Common.{List, refl, ℕ, ◌≡◌}
 use Rattle.cool_driver.specs.{Calls.{Call, Request}, Comes.{Comes}, commands.Big.{BigEnds, DueToBig, IsBigLine, PiecesOfBig}}
 use Rattle.cool_driver.proofs.DevicesOfCalls.{came}

@@ -1,4 +1,4 @@
--- The end of a call of `asm` or `build`.
+-- A call of `asm` or `build` that wrote the compiled program, or the errors of its files, satisfies the postcondition `BuildEnds` of these commands.
 use Rattle.cool_ports.specs.SinkPuts.{pieces_of}
 use Rattle.cool_driver.specs.{declared.writing.TheConstants.{MOST_PIECE_BYTES}, Calls.{Call, Request, ShelfUse, shelf_of}, Comes.{Comes, NoPieces, PutAsDue}, Does.{Goes}, Sources.{AreKnown, IsNoProgram, IsProgram}}
 use Rattle.cool_driver.specs.{commands.Build.{BuildEnds, DueToBuild, IsBuilt, IsCompiled, PiecesOfBuild, built_bytes}, declared.commands.build.Form.{Form}}

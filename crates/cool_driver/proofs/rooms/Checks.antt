@@ -1,4 +1,4 @@
--- The end of a call of `check`.
+-- A call of `check` that reported the errors of its files, if there are any, satisfies the postcondition `CheckEnds` of the command.
 use Rattle.std.proofs.Common.{List, [], inl, inr, refl, ℕ, ◌≡◌, ◌≢◌}
 use Rattle.cool_faults.specs.{Verdicts.{IsFaultList}, declared.fault.Fault.{Fault}}
 use Rattle.cool_syntax.specs.declared.TheConstants.{MOST_SOURCE_BYTES}

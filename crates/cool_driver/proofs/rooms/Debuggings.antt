@@ -1,4 +1,4 @@
--- The end of a call of `debug`.
+-- A call of `debug` that ran the program under the debugger, or reported why not, satisfies the postcondition `DebugEnds` of the command.
 use Rattle.std.specs.Prelude.{◌∷◌, codes}
 use Rattle.cool_driver.specs.Sources.{EndsWith, AreKnown, FilesExactly, IsNoProgram, IsProgram}
 use Rattle.cool_sources.specs.Reading.{IsCause}

@@ -1,4 +1,4 @@
--- The end of a call of `eval`.
+-- A call of `eval` that evaluated the program in its files, or reported why not, satisfies the postcondition `EvalEnds` of the command.
 use Rattle.std.proofs.Common.{List, Option, Some, [], ap, append-nil, append_assoc, arith, inl, inr, refl, subst, suc, sym, zero, ℕ, ◌++◌, ◌∙◌, ◌≡◌, ◌≢◌, ◌≤◌, ◌⊎◌}
 use Rattle.cool_classes.specs.Chains.{Class}
 use Rattle.cool_eval.proofs.PartsOfRuns.{part_of_last_line, part_of_reading, part_of_short, part_of_writing}

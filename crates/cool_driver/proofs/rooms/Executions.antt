@@ -1,4 +1,4 @@
--- The end of a call of `exec`.
+-- A call of `exec` that ran the image of its file, or reported why there is none, satisfies the postcondition `ExecEnds` of the command.
 use Rattle.std.proofs.Common.{Err, IfErr, IfOk, List, Ok, Result, [], ap, arith, get_or, inl, inr, refl, subst, true, ℕ, ◌∷◌, ◌≡◌, ◌⊎◌}
 use Rattle.std.specs.Global.{Vec}
 use Rattle.cool_words.specs.declared.plan.RunLimits.{RunLimits}

@@ -1,4 +1,4 @@
--- The end of a call of `run`.
+-- A call of `run` that compiled and ran the program in its files, or reported why not, satisfies the postcondition `RunEnds` of the command.
 use Rattle.std.proofs.Common.{List, arith, inl, inr, refl, subst, ℕ, ◌≡◌, ◌≢◌, ◌⊎◌}
 use Rattle.cool_classes.specs.Chains.{Class}
 use Rattle.cool_emit.specs.Programs.{program_lines}

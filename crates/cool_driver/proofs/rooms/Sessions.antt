@@ -1,4 +1,5 @@
--- The end of a call of `session`: its result is that of the session in its input, and the input has only one session.
+-- A call of `session` satisfies the postcondition `SessionEnds` of the command: replies and status are those of the sequence of commands in its input, and the
+-- input determines this sequence.
 use Rattle.std.proofs.Common.{Err, List, Ok, Result, [], ap, arith, inl, inr, refl, sym, ℕ, ◌≡◌, ◌⊎◌}
 use Rattle.cool_ports.specs.Counts.{Rose}
 use Rattle.cool_session.proofs.OneExchange.{one_exchange}

@@ -1,4 +1,4 @@
-//! The command `big`: a large program, compiled and run, and one line about it.
+//! The command `big`: generates a large program, compiles and runs it, and writes one line with its sizes and outcome.
 
 ghost use Rattle.std.specs.Prelude.{◌≡◌, ◌≤◌, [], length, IfOk, string_bytes};
 ghost use Rattle.std.specs.List.{AllByRecursion};

@@ -1,4 +1,4 @@
-//! The commands `asm` and `build`: the lines or the image of a program, written to the output.
+//! The commands `asm` and `build`: compile source files and write the assembly lines or the image to the output.
 
 ghost use Rattle.std.specs.Prelude.{◌≡◌, ◌<◌, ◌≤◌, length, IfErr, IfOk, true};
 ghost use Rattle.cool_ports.specs.ShelfFiles.{AskedFront};

@@ -1,4 +1,4 @@
-//! The command `check`: whether files are a program.
+//! The command `check`: checks source files and writes their compile-time errors, if there are any.
 
 ghost use Rattle.std.specs.Prelude.{◌≡◌, ◌<◌, length, true};
 ghost use Rattle.std.specs.List.{list_all};

@@ -1,4 +1,4 @@
-//! The command `debug`: a program, compiled and run under the debugger, which does what a script says.
+//! The command `debug`: compiles a program and runs it under the debugger, which executes the commands of a script.
 
 ghost use Rattle.std.specs.Prelude.{◌≡◌, ◌≢◌, ◌<◌, ◌≤◌, ℕ, List, Bool, false, length, IfErr, IfOk, None, OnOk, Ok, true, [], ◌∷◌, ◌++◌};
 ghost use Rattle.std.specs.List.{list_all};

@@ -1,4 +1,4 @@
-//! The command `exec`: an image or a text of assembly, run.
+//! The command `exec`: runs an image file, or assembles and runs a file of assembly text.
 
 ghost use Rattle.std.specs.Prelude.{◌≡◌, ◌≤◌, false, length, IfErr, IfOk, string_bytes, true, [], ◌∷◌};
 ghost use Rattle.cool_ports.specs.ShelfFiles.{AskedFront};

@@ -1,4 +1,4 @@
-//! The command `run`: a program, compiled and run.
+//! The command `run`: compiles source files and runs the image on the machine.
 
 ghost use Rattle.std.specs.Prelude.{◌≡◌, ◌<◌, ◌≤◌, ℕ, length, IfErr, IfOk, true};
 ghost use Rattle.std.specs.List.{list_all};

@@ -1,4 +1,4 @@
-//! The command `session`: commands in the input, and their replies.
+//! The command `session`: reads commands from the input, executes each and writes its reply to the output.
 
 ghost use Rattle.std.specs.Prelude.{◌≡◌, List, ℕ, Bool, false};
 ghost use Rattle.cool_ports.specs.Answers.{Leaves};
