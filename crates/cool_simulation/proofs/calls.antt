@@ -1,4 +1,5 @@
--- The calls of methods and of initializers: frames, names at home, bodies and initial values, and the induction on the steps.
+-- Proofs that the code of methods and of initializers simulates the calls of the semantics: stack frames, addresses of parameters and attributes, bodies, and
+-- an induction on the number of steps.
 pub mod AllCalls
 pub mod AttributesAtHome
 pub mod BasicAttributes

@@ -1,4 +1,5 @@
--- The forms of expressions: the code of each does what it means, if the code of its parts does; and the basic methods.
+-- Proofs that the code of each kind of expression simulates its evaluation, if the code of its subexpressions does, and that the routines of the basic methods
+-- simulate these methods.
 pub mod Arguments
 pub mod Arithmetic
 pub mod Assignments

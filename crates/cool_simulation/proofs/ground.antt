@@ -1,4 +1,5 @@
--- The ground of the proof: pictures that stay, parts of runs put together, walks over lines, numbers as words, and errors.
+-- Common lemmas of the simulation proof: preservation of the simulation relation, composition of runs, runs over short instruction sequences, numbers as
+-- machine words, and run-time errors.
 pub mod Between
 pub mod BoundVariables
 pub mod CallErrors

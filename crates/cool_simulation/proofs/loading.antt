@@ -1,4 +1,4 @@
--- The loading of a program: what stands in the text and the data of its machine, and the state in which it starts.
+-- Lemmas on loading a program: the text and data of the machine that is loaded with its image, and the state in which this machine starts.
 pub mod ConstantsAmong
 pub mod Loaded
 pub mod LoadedConstants

@@ -1,4 +1,4 @@
--- The theorem: the whole run of a loaded program, how its ends accord with the source, and that accepted files are such a program.
+-- Proofs of the main theorem: the run of a loaded program agrees with the runs of its source, and accepted files are a program to which this applies.
 pub mod AcceptedPrograms
 pub mod AcceptedTexts
 pub mod AcceptedWritable

@@ -1,5 +1,5 @@
--- `IsQuietAt` says that a set of marked addresses contains none in the code of an expression between its parts and behind them. If no part comes first, only
--- the first word of the code may have a mark.
+-- `IsQuietAt` says that, in the code of an expression, no instruction between its subexpressions' codes or after them is at a watched address. If no
+-- subexpression comes first, only the first word of the code may be watched.
 use Rattle.std.specs.Prelude.{◌≡◌, ℕ, ◌+◌, ◌-◌, ◌%◌, ◌<◌, ◌≤◌, List, [], ◌∷◌, codes, Bool as Truth, false, Some, IfSome, flat_map, Contains}
 use Rattle.cool_syntax.specs.Tree.{Tree, Trees, Last, More, Without, With, tree_size}
 use Rattle.cool_syntax.specs.Tree as trees

@@ -1,5 +1,5 @@
--- The visits of an evaluation are the expressions that it begins: its own expression, then the parts that its rule of evaluation names, in order, each if all
--- parts before it came to a value. Those begun in the methods and initial values that it calls belong to them.
+-- The visits of an evaluation are the expressions that it begins, in order: the expression itself, and its subexpressions, each if all before it have a value.
+-- Expressions begun in called methods and initial values are also visits.
 use Rattle.std.proofs.Common.{inl, inr, ap, arith}
 use Rattle.std.specs.Prelude.{◌≡◌, refl, ℕ, zero, suc, ◌+◌, Bool as Truth, true, false, ◌==◌, ◌⊎◌, List, [], ◌∷◌, ◌++◌, Option, Some, None, codes, bytes_eq, if◌then◌else◌}
 use Rattle.cool_syntax.specs.declared.file_tree.MethodDef.{MethodDef}

@@ -1,4 +1,4 @@
-//! The theorems on compiled programs.
+//! The compiler correctness theorems, as laws that the prover checks: the image of an accepted program behaves as the program.
 
 ghost use Rattle.cool_simulation.specs.Shown.{ProgramsShown, RowsAreVisits, VisitsShown};
 ghost use Rattle.cool_simulation.specs.SpansLoaded.{InitialValuesStand, MethodsStand};

@@ -1,4 +1,5 @@
--- Calls do what they mean, by induction on the steps: a call of a program runs a body or initial values, whose own calls have fewer steps.
+-- The code of every method and every initializer simulates its call in the semantics. The proof is by induction on the number of steps, since calls within a
+-- call have fewer steps.
 use Rattle.std.proofs.Common.{ℕ, zero, suc, ◌<◌, subst, arith}
 use Rattle.cool_syntax.specs.declared.file_tree.Feature.TheVariants.{Method, Attribute}
 use Rattle.cool_syntax.specs.Tree.{Tree}

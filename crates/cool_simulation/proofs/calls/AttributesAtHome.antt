@@ -1,4 +1,5 @@
--- The homes of a class's attributes are words of the object `self`. Together with the formals, all names of a body have homes.
+-- The attributes of a class are stored in consecutive words of the object `self`. Together with the formal parameters, each name of a method's body then has an
+-- address that holds its value.
 use Rattle.std.proofs.Common.{◌≡◌, ◌≢◌, ℕ, suc, ◌+◌, ◌-◌, ◌*◌, ◌<◌, ◌≤◌, inr, List, [], ◌∷◌, ◌++◌, map as each, length, get_or, Bool as Truth, true, false, cond, not, refl, sym, ap, ◌∙◌, subst, arith, append_assoc}
 use Rattle.std.specs.Prelude.{slice_get}
 use Rattle.std.specs.List.{AllByRecursion, position_or_len}

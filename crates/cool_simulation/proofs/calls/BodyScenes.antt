@@ -1,4 +1,4 @@
--- The code of a body begins: the names of its formals and of the attributes of its class are in scope, at home where the code finds them.
+-- At the beginning of a method's body, each formal parameter and each attribute of the class is in scope and has its value at the address that the code uses.
 use Rattle.std.proofs.Common.{◌≡◌, ℕ, suc, ◌+◌, ◌-◌, ◌*◌, ◌<◌, ◌≤◌, List, [], ◌∷◌, ◌++◌, map as each, length, get_or, Option, Some, ap, sym, ◌∙◌, refl, subst, arith}
 use Rattle.mips_isa.specs.declared.address_map.TheConstants.{HEAP_START, STACK_END}
 use Rattle.mips_isa.specs.Bytes.{Bytes}

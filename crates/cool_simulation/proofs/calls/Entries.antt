@@ -1,4 +1,5 @@
--- The entry of a call and its return: the frame with the saved registers, the arguments at home, and what stands behind the return.
+-- The entry of a method saves the registers in a new stack frame, with the arguments as variables above it. The return removes the frame and leaves the rest of
+-- memory unchanged.
 use Rattle.std.proofs.Common.{◌≡◌, ℕ, ◌+◌, ◌-◌, ◌*◌, ◌/◌, ◌%◌, ◌<◌, ◌≤◌, inl, inr, List, ◌++◌, length, Bool as Truth, false, refl, ap, ◌∙◌, arith}
 use Rattle.mips_isa.specs.Bytes.{Bytes, word, set_word}
 use Rattle.mips_isa.specs.Calls.{State as Machine}

@@ -1,4 +1,5 @@
--- Facts about each feature of a program: its class is not a basic one, its constants are among those of the program, and it keeps the limits.
+-- The class of each feature of a program is not a basic class, the feature's constants are among those of the program, and the feature is within the compiler's
+-- limits.
 use Rattle.std.proofs.Common.{◌≡◌, ◌⊎◌, inl, inr, ℕ, zero, suc, ◌+◌, ◌<◌, ◌≤◌, List, [], ◌∷◌, ◌++◌, length, get_or, flat_map, Some, Bool as Truth, true, false, Contains, refl, sym, ap, ◌∙◌, subst, arith}
 use Rattle.std.specs.Prelude.{slice_get, nat_eq, bytes_eq, if◌then◌else◌}
 use Rattle.std.specs.List.{list_any}

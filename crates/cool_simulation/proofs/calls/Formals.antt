@@ -1,4 +1,4 @@
--- The names in scope at the body of a method and at an initial value are at home in the words that the code finds for them.
+-- In the body of a method and in an initial value, each name in scope has its value at the address that the code uses for the name.
 use Rattle.std.proofs.Common.{◌≡◌, ◌≢◌, ℕ, suc, ◌+◌, ◌-◌, ◌*◌, ◌<◌, ◌≤◌, inl, List, [], ◌∷◌, ◌++◌, map as each, length, get_or, Option, Some, Bool as Truth, true, false, cond, refl, sym, ap, ◌∙◌, subst, arith, append-nil}
 use Rattle.std.specs.Prelude.{pos, bytes_eq}
 use Rattle.std.specs.List.{AllByRecursion}

@@ -1,4 +1,4 @@
--- The code of the initial values of a class's own attributes, one after another.
+-- The code for the initial values of a class's own attributes simulates their evaluation, one attribute after another.
 use Rattle.std.proofs.Common.{◌≡◌, ℕ, suc, ◌+◌, ◌*◌, ◌<◌, ◌≤◌, List, [], ◌∷◌, ◌++◌, flat_map, length, get_or, Option, Some, None, sym, ◌∙◌, refl, subst, arith, append_assoc, inl, inr, ◌⊎◌, zero, map as each, ap}
 use Rattle.std.specs.Prelude.{slice_get, Contains, IfSome}
 use Rattle.mips_isa.specs.Bytes.{Bytes}

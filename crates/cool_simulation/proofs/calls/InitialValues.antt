@@ -1,4 +1,4 @@
--- The code of an initial value computes it and stores it into its attribute.
+-- The code of an attribute's initial value simulates its evaluation and stores the value into the attribute.
 use Rattle.std.proofs.Common.{◌≡◌, inr, ℕ, ◌+◌, ◌-◌, ◌*◌, ◌<◌, ◌≤◌, List, [], ◌∷◌, ◌++◌, map as each, length, Option, Some, None, Contains, ap, sym, ◌∙◌, refl, subst, arith}
 use Rattle.std.specs.Prelude.{pos, slice_get, slice_set, IfSome}
 use Rattle.std.specs.List.{position_or_len}

@@ -1,4 +1,4 @@
--- The code of an initializer does what the initial values of its class mean: those of the class above first, and then its own.
+-- The code of a class's initializer simulates the evaluation of its initial values: first those of the attributes of the parent class, and then its own.
 use Rattle.std.proofs.Common.{◌≡◌, ◌⊎◌, inl, inr, ℕ, zero, suc, ◌+◌, ◌-◌, ◌*◌, ◌<◌, ◌≤◌, List, [], ◌∷◌, ◌++◌, flat_map, get_or, length, Option, Some, None, Bool as Truth, true, ap, sym, ◌∙◌, refl, subst, arith, append_assoc, append-nil, map as each}
 use Rattle.std.specs.Prelude.{pos, drop, slice_get, nat_lt, if◌then◌else◌, Contains}
 use Rattle.std.proofs.lemmas.List.{get_or-drop}

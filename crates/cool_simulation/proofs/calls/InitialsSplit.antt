@@ -1,4 +1,4 @@
--- The initial values of a class's attributes come in two parts: those of the attributes above, and then its own.
+-- The evaluation of all initial values of a class is that of the inherited attributes, followed by that of the class's own attributes, and their costs add up.
 use Rattle.std.proofs.Common.{◌≡◌, ℕ, ◌+◌, ◌*◌, max, List, [], ◌∷◌, ◌++◌, length, Option, Some, None, ap, sym, ◌∙◌, refl, subst, arith}
 use Rattle.std.specs.Prelude.{drop}
 use Rattle.mips_isa.specs.Calls.{State as Machine}

@@ -1,4 +1,4 @@
--- States within the frame of an initializer, between the parts of its code.
+-- `Inside` describes a machine state within the stack frame of an initializer, between the code of one attribute and the next.
 use Rattle.std.proofs.Common.{◌≡◌, ◌⊎◌, inl, inr, ℕ, ◌+◌, ◌<◌, ◌≤◌, arith}
 use Rattle.mips_isa.specs.declared.address_map.TheConstants.{STACK_END}
 use Rattle.mips_isa.specs.Bytes.{Bytes}

@@ -1,4 +1,4 @@
--- At the return of a call, the words of its arguments stop being homes, and the frame is free again.
+-- At the return of a call, memory still represents the state of the source when the argument words no longer hold variables and the frame is free again.
 use Rattle.std.proofs.Common.{◌≡◌, ℕ, ◌+◌, ◌-◌, ◌*◌, ◌/◌, ◌%◌, ◌<◌, ◌≤◌, ◌⊎◌, inl, inr, List, false, refl, sym, ap, ◌∙◌, subst, arith, true≢false}
 use Rattle.std.specs.Prelude.{if◌then◌else◌}
 use Rattle.mips_isa.specs.declared.address_map.TheConstants.{HEAP_START}

@@ -1,4 +1,4 @@
--- The code of a method does what a call of the method means, if the code of its body does what the body means.
+-- The code of a method simulates a call of the method, if the code of its body simulates the evaluation of the body.
 use Rattle.std.proofs.Common.{◌≡◌, ℕ, ◌+◌, ◌-◌, ◌*◌, ◌<◌, ◌≤◌, List, ◌++◌, map as each, length, Option, Some, ap, sym, ◌∙◌, refl, subst, arith, inl}
 use Rattle.std.specs.Prelude.{pos, slice_get, Contains}
 use Rattle.mips_isa.specs.Bytes.{Bytes}

@@ -1,4 +1,4 @@
--- The code of expressions with an operator on numbers does what they mean.
+-- The code of `+`, `-`, `*` and `/` simulates their evaluation.
 use Rattle.std.proofs.Common.{◌≡◌, ℕ, ◌+◌, ◌-◌, ◌*◌, ◌/◌, ◌%◌, ◌≤◌, List, [], ◌++◌, get_or, refl, ap, ◌∙◌, subst, arith, inl, inr}
 use Rattle.std.specs.Prelude.{Contains}
 use Rattle.mips_isa.specs.Bytes.{Bytes, word}

@@ -1,4 +1,4 @@
--- The code of an assignment does what it means.
+-- The code of an assignment simulates its evaluation: it stores the value at the address of the variable.
 use Rattle.std.proofs.Common.{◌≡◌, ℕ, ◌+◌, ◌*◌, List, [], ◌++◌, refl, sym, ap, ◌∙◌, subst, arith, inr}
 use Rattle.std.specs.Prelude.{false, slice_set, Option, Some, bytes_eq, codes, if◌then◌else◌}
 use Rattle.mips_isa.specs.Bytes.{set_word}

@@ -1,4 +1,4 @@
--- The routines of the basic methods do what the methods mean.
+-- The run-time routines of the basic methods of Object, IO and String simulate calls of these methods.
 use Rattle.std.proofs.Common.{◌≡◌, ℕ, ◌+◌, ◌*◌, ◌≤◌, List, ◌++◌, length, get_or, sym, ap, ◌∙◌, subst, arith}
 use Rattle.std.specs.Prelude.{codes, slice_get, Some}
 use Rattle.mips_isa.specs.Bytes.{Bytes}

@@ -1,4 +1,4 @@
--- The routines of the basic methods that print, out_string and out_int, do what the methods mean.
+-- The run-time routines of `out_string` and `out_int` simulate calls of these methods.
 use Rattle.std.proofs.Common.{◌≡◌, ℕ, ◌+◌, ◌-◌, ◌*◌, List, [], ◌∷◌, ◌++◌, length, refl, ap, subst, arith}
 use Rattle.std.specs.Prelude.{codes, ℤ}
 use Rattle.std.specs.Fmt.{signed_decimal}

@@ -1,4 +1,4 @@
--- The routine of the basic method copy does what the method means for an Int, a Bool or a String, which have no identity.
+-- The run-time routine of `copy` simulates the method for an Int, a Bool or a String. These values have no identity in the semantics.
 use Rattle.std.proofs.Common.{◌≡◌, ℕ, ◌+◌, ◌*◌, ◌≤◌, List, length, Bool as Truth, arith}
 use Rattle.std.specs.Prelude.{codes, ℤ}
 use Rattle.mips_isa.specs.declared.address_map.TheConstants.{HEAP_START}

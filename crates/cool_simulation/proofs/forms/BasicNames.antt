@@ -1,4 +1,4 @@
--- The routines of the basic methods abort, type_name and length do what the methods mean.
+-- The run-time routines of `abort`, `type_name` and `length` simulate calls of these methods.
 use Rattle.std.proofs.Common.{◌≡◌, ℕ, ◌+◌, ◌*◌, ◌≤◌, List, [], ◌∷◌, length, Option, sym, subst, arith, append_assoc}
 use Rattle.std.specs.Prelude.{codes}
 use Rattle.mips_isa.specs.declared.address_map.TheConstants.{HEAP_START}

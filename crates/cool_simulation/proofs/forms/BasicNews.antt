@@ -1,4 +1,4 @@
--- The code of `new` for Int, Bool and String: the prototype's copy is the value, and the initializer returns at once.
+-- The code of `new` for Int, Bool and String copies the prototype, which is the value, and calls an initializer that returns at once.
 use Rattle.std.proofs.Common.{◌≡◌, ℕ, zero, suc, ◌+◌, ◌-◌, ◌*◌, ◌<◌, ◌≤◌, List, [], ◌∷◌, length, Bool as Truth, true, false, sym, ◌∙◌, refl, subst, arith}
 use Rattle.std.specs.Prelude.{nat_lt, if◌then◌else◌}
 use Rattle.std.proofs.lemmas.Bool.{lt-ltb}

@@ -1,4 +1,4 @@
--- The routine of the basic method copy does what the method means for an object with an identity.
+-- The run-time routine of `copy` simulates the method for an object with an identity: it makes a new object with the same attribute values.
 use Rattle.std.proofs.Common.{◌≡◌, ℕ, zero, suc, ◌+◌, ◌*◌, ◌<◌, ◌≤◌, List, [], ◌∷◌, length, get_or, Some, refl, sym, ap, ◌∙◌, subst, arith, length-append}
 use Rattle.std.specs.Prelude.{codes, slice_get}
 use Rattle.mips_isa.specs.declared.address_map.TheConstants.{HEAP_START}

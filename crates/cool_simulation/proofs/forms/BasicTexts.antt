@@ -1,4 +1,4 @@
--- The routines of the basic methods concat and substr do what the methods mean.
+-- The run-time routines of `concat` and `substr` simulate calls of these methods.
 use Rattle.std.proofs.Common.{◌≡◌, ℕ, ◌+◌, ◌-◌, ◌*◌, ◌/◌, ◌<◌, ◌≤◌, List, [], ◌∷◌, ◌++◌, length, get_or, take, drop, Some, None, Bool as Truth, true, false, refl, sym, ◌∙◌, subst, arith, length-append, length-drop, length-take-le}
 use Rattle.std.specs.Prelude.{codes, ℤ, pos, negsuc, nat_le, if◌then◌else◌}
 use Rattle.mips_isa.specs.declared.address_map.TheConstants.{HEAP_START}

@@ -1,4 +1,4 @@
--- The code of a block does what it means, if the block has an item. (No parsed program has a block without items, whose code would leave no value.)
+-- The code of a block simulates its evaluation, if the block has an expression. (No parsed program has an empty block, whose code would leave no value.)
 use Rattle.std.proofs.Common.{◌≡◌, ℕ, ◌+◌, ◌-◌, ◌*◌, ◌≤◌, List, [], ◌++◌, length, refl, subst, arith, inl, inr}
 use Rattle.mips_isa.specs.Bytes.{Bytes}
 use Rattle.mips_isa.specs.Calls.{State as Machine}

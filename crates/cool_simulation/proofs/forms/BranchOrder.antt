@@ -1,5 +1,5 @@
--- The branch that a case takes: of the branches in the order in which the code tries them, deeper classes first, it is the first one whose
--- class is on the chain of the value's.
+-- The code of a case tries branches with deeper classes first. The first branch whose class is the value's class or an ancestor of it is the one that the
+-- semantics takes.
 use Rattle.std.proofs.Common.{◌≡◌, ◌≢◌, ℕ, suc, ◌+◌, ◌<◌, ◌≤◌, List, [], ◌∷◌, length, Option, Some, None, Bool, true, false, ap, sym, ◌∙◌, refl, subst, arith}
 use Rattle.std.specs.Prelude.{if◌then◌else◌, nat_eq, nat_lt, bytes_eq}
 use Rattle.std.specs.List.{AllByRecursion}

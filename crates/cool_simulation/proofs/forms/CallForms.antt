@@ -1,4 +1,4 @@
--- Dispatch and static dispatch up to their call: the arguments, the receiver, and the end of the run if the receiver is void.
+-- The code of a dispatch or static dispatch evaluates the arguments and the receiver. If the receiver is void, the run ends with the specified error.
 use Rattle.std.proofs.Common.{◌≡◌, ℕ, ◌+◌, ◌-◌, ◌*◌, ◌<◌, ◌≤◌, List, [], ◌∷◌, ◌++◌, length, get_or, map as each, Some, refl, sym, ap, ◌∙◌, subst, arith, inl, inr}
 use Rattle.std.specs.Prelude.{Contains, codes}
 use Rattle.mips_isa.specs.declared.address_map.TheConstants.{HEAP_START}

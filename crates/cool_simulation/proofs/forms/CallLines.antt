@@ -1,4 +1,4 @@
--- The lines of a dispatch after the code of its receiver: to the method, or to the end of the run if the receiver is void.
+-- After the receiver's code, the instructions of a dispatch reach the method found in the dispatch table, or the end of the run if the receiver is void.
 use Rattle.std.proofs.Common.{◌≡◌, ℕ, ◌+◌, ◌*◌, ◌%◌, ◌<◌, ◌≤◌, List, [], ◌∷◌, ◌++◌, refl, ◌∙◌, arith}
 use Rattle.std.specs.Prelude.{pos}
 use Rattle.mips_isa.specs.Bytes.{Bytes, word}

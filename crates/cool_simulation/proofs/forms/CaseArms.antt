@@ -1,4 +1,4 @@
--- The branches of a case in the text: in the order in which they are tried, each test leads to its branch or to the next test.
+-- In the code of a case, the branches stand in the order in which they are tried: each class test leads to its branch or to the next test.
 use Rattle.std.proofs.Common.{◌≡◌, ℕ, suc, ◌+◌, ◌-◌, ◌*◌, ◌<◌, List, [], ◌∷◌, ◌++◌, length, map as each, Option, Some, None, Bool as Truth, true, false, ap, ◌∙◌, refl, subst, arith}
 use Rattle.std.specs.Prelude.{if◌then◌else◌, nat_lt, codes, Contains}
 use Rattle.std.specs.List.{AllByRecursion}

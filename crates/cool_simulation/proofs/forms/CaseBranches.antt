@@ -1,4 +1,4 @@
--- The branch of a case that is taken: its body runs with the value as its variable, and then the value is popped.
+-- The code of the branch that a case takes pushes the value as the branch's variable, simulates the body, and pops the value.
 use Rattle.std.proofs.Common.{◌≡◌, ℕ, ◌+◌, ◌-◌, ◌*◌, ◌≤◌, List, [], ◌∷◌, ◌++◌, length, Option, Some, None, Bool as Truth, true, false, subst, arith, sym}
 use Rattle.std.specs.Prelude.{if◌then◌else◌, bytes_eq}
 use Rattle.mips_isa.specs.Bytes.{Bytes, set_word}

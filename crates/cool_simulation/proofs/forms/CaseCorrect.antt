@@ -1,4 +1,4 @@
--- The code of a case does what the case means.
+-- The code of a case expression simulates its evaluation.
 use Rattle.std.proofs.Common.{◌≡◌, ℕ, ◌+◌, ◌*◌, ◌<◌, ◌≤◌, List, [], ◌++◌, length, get_or, Option, Some, None, ap, sym, refl, subst, arith, inl, inr, ◌∷◌}
 use Rattle.std.specs.Prelude.{Contains}
 use Rattle.std.specs.List.{AllByRecursion}

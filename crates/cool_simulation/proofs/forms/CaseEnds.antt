@@ -1,4 +1,4 @@
--- The ends of a case by an error: its value is void, or no branch is for the value's class.
+-- The code of a case ends the run with the specified error if the value is void, or if no branch matches the class of the value.
 use Rattle.std.proofs.Common.{◌≡◌, ℕ, ◌<◌, ◌≤◌, List, [], ◌∷◌, ◌++◌, length, get_or, Some, ap, sym, ◌∙◌, refl, subst, arith, append_assoc}
 use Rattle.std.specs.Prelude.{codes, Contains}
 use Rattle.std.specs.Fmt.{signed_decimal}

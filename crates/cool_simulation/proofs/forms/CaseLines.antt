@@ -1,4 +1,4 @@
--- The lines of a case after the code of its value: the test whether the value is void, the tests of its tag, and the ends.
+-- After the code of a case's value, the instructions test whether the value is void, load its class tag, and test this against the tags of each branch.
 use Rattle.std.proofs.Common.{◌≡◌, ℕ, zero, suc, ◌+◌, ◌-◌, ◌<◌, ◌≤◌, ◌⊎◌, inl, inr, [], ◌∷◌, refl, ◌∙◌, arith, true, false}
 use Rattle.std.specs.Prelude.{ℤ, pos, not, ◌==◌, nat_lt}
 use Rattle.mips_isa.specs.Words.{bits_of}

@@ -1,4 +1,5 @@
--- Facts about the branches of a case: their types, the constants that their code uses, and the correctness of the code.
+-- Facts about the branches of a case, needed for its simulation: their types, the constants that their code uses, and that the code of each body simulates the
+-- body.
 use Rattle.std.proofs.Common.{◌≡◌, ℕ, ◌+◌, ◌<◌, ◌≤◌, List, [], ◌∷◌, length, ap, sym, ◌∙◌, subst, arith}
 use Rattle.std.specs.List.{AllByRecursion}
 use Rattle.cool_syntax.specs.Tree.{Cases, NoCase, CaseOf, tree_size, cases_size}

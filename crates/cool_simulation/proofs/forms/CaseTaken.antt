@@ -1,4 +1,5 @@
--- A case behind a value that is not void: the tag, the push, the tests, and the branch that is taken, or the end without one.
+-- If the value of a case is not void, its code loads the class tag, pushes the value, and reaches the branch that the semantics takes, or an error exit if none
+-- matches.
 use Rattle.std.proofs.Common.{◌≡◌, ℕ, ◌+◌, ◌-◌, ◌*◌, ◌<◌, ◌≤◌, List, [], ◌∷◌, ◌++◌, length, get_or, Option, Some, None, sym, refl, subst, arith}
 use Rattle.std.specs.Prelude.{Contains}
 use Rattle.std.specs.List.{AllByRecursion}

@@ -1,4 +1,4 @@
--- The code of the two orders of numbers does what they mean.
+-- The code of `<` and `<=` simulates their evaluation.
 use Rattle.std.proofs.Common.{◌≡◌, ℕ, ◌+◌, ◌-◌, ◌≤◌, ℤ, pos, negsuc, List, ◌++◌, refl, sym, ap, ◌∙◌, subst, arith, not, inl, inr}
 use Rattle.std.specs.Prelude.{Bool as Truth, true, false, nat_lt, int_lt, int_le}
 use Rattle.mips_isa.specs.Bytes.{Bytes, word}

@@ -1,4 +1,4 @@
--- The code of constants does what they mean.
+-- The code of an integer, string or Bool constant loads the address of an object with this value.
 use Rattle.std.proofs.Common.{ℕ, ◌+◌, List, [], ◌∷◌, refl, arith}
 use Rattle.std.specs.Prelude.{Contains, Bool as Truth}
 use Rattle.mips_isa.specs.Calls.{State as Machine}

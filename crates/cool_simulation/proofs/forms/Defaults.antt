@@ -1,4 +1,4 @@
--- The code that takes the default of a type leaves the value with which a variable of the type begins.
+-- The code for the default value of a type loads the value with which a variable of the type begins: void, or the default object of Int, Bool or String.
 use Rattle.std.proofs.Common.{◌≡◌, ◌≢◌, ℕ, ◌+◌, ◌<◌, pos, List, [], length, refl, sym, ap, ◌∙◌, subst, arith, ◌≤◌}
 use Rattle.std.specs.Prelude.{Bool as Truth, true, false, bytes_eq, codes, nat_eq, if◌then◌else◌}
 use Rattle.std.proofs.lemmas.Slice.Eq.{bytes_eq-Decides}

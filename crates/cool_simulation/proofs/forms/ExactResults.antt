@@ -1,4 +1,4 @@
--- The end of an operator on numbers: a new Int if the result fits, and otherwise the end of the run by an error.
+-- The last instructions of an arithmetic operator make a new Int if the result fits into 32 bits, and otherwise end the run with the specified error.
 use Rattle.std.proofs.Common.{◌≡◌, ℕ, ◌+◌, ◌*◌, ◌%◌, ◌<◌, ◌≤◌, ℤ, List, [], ◌++◌, get_or, refl, sym, ◌∙◌, subst, arith}
 use Rattle.std.specs.Prelude.{Bool as Truth, true, false, Contains, codes, if◌then◌else◌}
 use Rattle.std.specs.Fmt.{signed_decimal}

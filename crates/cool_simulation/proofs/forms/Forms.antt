@@ -1,4 +1,4 @@
--- The code of every expression without an empty block does what it means, if the code of calls with fewer steps does.
+-- The code of every expression without an empty block simulates its evaluation, if the code of all calls with fewer steps does.
 use Rattle.std.proofs.Common.{ℕ}
 use Rattle.cool_syntax.specs.declared.operator.CompareOp.TheVariants.{Less, LessEqual, Equal}
 use Rattle.cool_syntax.specs.Tree.{Tree, Trees, Cases, Last, More, Without, With, NoCase, CaseOf}

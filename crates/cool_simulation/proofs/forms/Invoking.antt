@@ -1,4 +1,4 @@
--- A call by a dispatch: the step is spent, and then the method runs, one of the program's or a basic one.
+-- The call in a dispatch spends one step of the semantics, and then runs the method found, which is one of the compiled program's or a basic one.
 use Rattle.std.proofs.Common.{◌≡◌, ℕ, zero, suc, ◌+◌, ◌-◌, ◌*◌, ◌<◌, ◌≤◌, List, [], ◌∷◌, length, get_or, map as each, Option, Some, None, refl, sym, ◌∙◌, subst, arith}
 use Rattle.mips_isa.specs.Bytes.{Bytes}
 use Rattle.mips_isa.specs.Calls.{State as Machine}

@@ -1,4 +1,4 @@
--- The code of `let` does what it means.
+-- The code of `let` simulates its evaluation.
 use Rattle.std.proofs.Common.{◌≡◌, ℕ, ◌+◌, ◌-◌, ◌*◌, ◌%◌, ◌≤◌, List, [], ◌∷◌, ◌++◌, length, refl, sym, subst, arith, inl, inr}
 use Rattle.mips_isa.specs.Bytes.{Bytes, set_word}
 use Rattle.mips_isa.specs.Calls.{State as Machine}

@@ -1,4 +1,4 @@
--- The code of `while` does what it means.
+-- The code of `while` simulates its evaluation.
 use Rattle.std.proofs.Common.{◌≡◌, ℕ, zero, suc, ◌+◌, ◌-◌, ◌*◌, ◌≤◌, List, ◌++◌, refl, ap, ◌∙◌, subst, arith, inl, inr}
 use Rattle.std.specs.Prelude.{Bool as Truth, true, false, codes, if◌then◌else◌, Contains}
 use Rattle.mips_isa.specs.Bytes.{Bytes}

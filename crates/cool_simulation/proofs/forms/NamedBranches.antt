@@ -1,5 +1,4 @@
--- The branch of a case by the name of its class: the first that names the nearest class is the first that fits in the order of the code. The converse holds
--- too.
+-- The first branch of a case that names the nearest ancestor of the value's class is the first one that matches in the order of the code, and conversely.
 use Rattle.std.proofs.Common.{◌≡◌, ◌≢◌, inl, inr, ℕ, ◌+◌, ◌<◌, List, [], ◌∷◌, length, Option, Some, None, Bool as Truth, true, false, ap, sym, ◌∙◌, refl, subst}
 use Rattle.std.specs.Prelude.{bytes_eq, if◌then◌else◌, nat_eq}
 use Rattle.std.specs.List.{AllByRecursion}

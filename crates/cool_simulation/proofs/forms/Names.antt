@@ -1,4 +1,4 @@
--- The code of names does what they mean: self, and variables in words of the stack and of objects.
+-- The code of a name loads its value: `self` from a register, and a variable from its word on the stack or in an object.
 use Rattle.std.proofs.Common.{◌≡◌, ℕ, ◌+◌, ◌-◌, ◌*◌, ◌%◌, ◌<◌, ◌≤◌, ◌⊎◌, inl, inr, ℤ, pos, negsuc, List, sym, ap, ◌∙◌, subst, arith, refl}
 use Rattle.std.specs.Prelude.{Bool as Truth, true, false, slice_get, Option, Some, if◌then◌else◌, bytes_eq, codes}
 use Rattle.mips_isa.specs.declared.address_map.TheConstants.{HEAP_START, STACK_END}

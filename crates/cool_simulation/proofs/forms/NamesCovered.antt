@@ -1,4 +1,4 @@
--- A typing scope agrees with the scope of the corresponding variables (`Covers`).
+-- If each name in a typing scope has a variable of its type in the code generator's scope, the two scopes agree (`Covers`).
 use Rattle.std.proofs.Common.{◌≡◌, ℕ, List, Some, ap, ◌∙◌}
 use Rattle.std.specs.Option.{option_map}
 use Rattle.cool_classes.specs.declared.class_id.Ty.{Ty}

@@ -1,4 +1,4 @@
--- The code of the negative of a number does what it means.
+-- The code of `~` (the negative of a number) simulates its evaluation.
 use Rattle.std.proofs.Common.{◌≡◌, ℕ, ◌+◌, ◌-◌, ◌*◌, ◌<◌, ℤ, neg_ℤ, List, [], ◌++◌, get_or, refl, subst, arith, inr}
 use Rattle.std.specs.Prelude.{true, false, Contains, codes}
 use Rattle.mips_isa.specs.Machine.{wrap}

@@ -1,4 +1,4 @@
--- The code of `new` does what `new` means.
+-- The code of `new` simulates its evaluation for each class, including the basic classes.
 use Rattle.std.proofs.Common.{◌≡◌, ◌≢◌, ℕ, ◌+◌, ◌-◌, ◌*◌, ◌≤◌, List, Option, Some, Bool as Truth, ap, sym, ◌∙◌, refl, subst, arith, inl, inr}
 use Rattle.std.specs.Prelude.{if◌then◌else◌}
 use Rattle.cool_syntax.specs.declared.place.Place.{Place}

@@ -1,4 +1,4 @@
--- The lines of a new object: the prototype of its class, or of the class of self, is copied, and its initializer is called.
+-- The instructions of `new` copy the prototype of the named class, or of the class of `self`, and then call the initializer of this class.
 use Rattle.std.proofs.Common.{◌≡◌, ℕ, ◌+◌, ◌*◌, ◌%◌, ◌<◌, ◌≤◌, List, [], ◌∷◌, refl, ◌∙◌, subst, arith, ◌++◌}
 use Rattle.std.specs.Prelude.{pos}
 use Rattle.mips_isa.specs.Bytes.{Bytes, word}

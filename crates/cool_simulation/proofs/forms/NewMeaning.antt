@@ -1,4 +1,5 @@
--- The outcome of `new`: the defaults at new locations, an identity, and the outcome of the call of the initial values.
+-- In the semantics, `new` gives default values to the attributes at new locations, draws an identity, and then has the outcome of evaluating the initial
+-- values.
 use Rattle.std.proofs.Common.{◌≡◌, ℕ, suc, ◌+◌, ◌<◌, List, [], ◌∷◌, ◌++◌, length, Option, Some, Bool as Truth, true, false, ap, sym, ◌∙◌, refl, subst, arith, append_assoc, append-nil, length-append}
 use Rattle.std.specs.Prelude.{slice_get, ◌==◌, if◌then◌else◌, pos}
 use Rattle.std.specs.List.{AllByRecursion}

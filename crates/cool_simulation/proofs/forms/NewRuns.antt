@@ -1,4 +1,4 @@
--- The code of `new` for a class of the program, for Object and IO: the prototype's copy is the new object, and its initializer runs.
+-- The code of `new` for Object, IO and the classes of the program copies the prototype, which becomes the new object, and runs the initializer of its class.
 use Rattle.std.proofs.Common.{◌≡◌, ℕ, ◌+◌, ◌*◌, ◌%◌, ◌<◌, ◌≤◌, List, [], ◌++◌, map as each, length, get_or, Some, ap, sym, ◌∙◌, refl, subst, arith, length-append}
 use Rattle.std.specs.Prelude.{slice_get}
 use Rattle.std.proofs.lemmas.List.{length-map}

@@ -1,4 +1,4 @@
--- The code of `new` does what `new` means, for each class and for SELF_TYPE.
+-- The code of `new` simulates its evaluation, whether the type is a class or SELF_TYPE.
 use Rattle.std.proofs.Common.{ℕ, zero, suc, ◌+◌, ◌-◌, ◌*◌, ◌<◌, ◌≤◌, List, length, Some, sym, ◌∙◌, subst, arith, ◌++◌, ap, refl}
 use Rattle.mips_isa.specs.Bytes.{Bytes}
 use Rattle.mips_isa.specs.Calls.{State as Machine}

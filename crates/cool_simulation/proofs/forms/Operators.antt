@@ -1,4 +1,4 @@
--- The code of the four operators on numbers, and of the negative of a number, does what they mean.
+-- The code of `+`, `-`, `*`, `/` and `~` on numbers simulates their evaluation.
 use Rattle.std.proofs.Common.{◌≡◌, ℕ, ◌+◌, ◌-◌, ◌*◌, ◌%◌, ◌<◌, ◌≤◌, ℤ, pos, ◌+ℤ◌, ◌-ℤ◌, ◌*ℤ◌, List, [], ◌++◌, get_or, refl, sym, ap, subst, arith}
 use Rattle.std.specs.Prelude.{Bool as Truth, true, false, Contains, codes, nat_lt, int_div, if◌then◌else◌}
 use Rattle.mips_isa.specs.Bytes.{Bytes}

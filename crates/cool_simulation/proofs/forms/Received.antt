@@ -1,4 +1,5 @@
--- A receiver and its arguments before a call, behind the code of both; what a call comes to is what the whole dispatch comes to.
+-- `Received` describes the machine after the code of a receiver and its arguments, before the call. The outcome of the call is then the outcome of the whole
+-- dispatch.
 use Rattle.std.proofs.Common.{◌≡◌, ℕ, ◌+◌, ◌-◌, ◌*◌, ◌/◌, ◌%◌, ◌<◌, ◌≤◌, List, [], length, get_or, Some, false, sym, ◌∙◌, subst, arith}
 use Rattle.std.specs.Prelude.{slice_get}
 use Rattle.mips_isa.specs.declared.address_map.TheConstants.{STACK_END}

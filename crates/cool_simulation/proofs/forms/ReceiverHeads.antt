@@ -1,4 +1,4 @@
--- The head of a receiver: its tag and its dispatch table are those of its class.
+-- The first words of a receiver's object hold the tag of its class and the address of the dispatch table of its class.
 use Rattle.std.proofs.Common.{◌≡◌, ℕ, ◌+◌, ◌≤◌, List, ◌++◌, Some, sym, ap, ◌∙◌, subst, arith}
 use Rattle.std.specs.Prelude.{codes}
 use Rattle.mips_isa.specs.Bytes.{Bytes, word}

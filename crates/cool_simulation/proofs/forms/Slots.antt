@@ -1,4 +1,4 @@
--- The slots of methods in the dispatch tables: a method has the same slot in its class and in each class below it.
+-- A method has the same index (slot) in the dispatch table of its class and in those of all descendants.
 use Rattle.std.proofs.Common.{◌≡◌, ℕ, ◌<◌, List, length, Option, Some, is_some, refl, ap, ◌∙◌}
 use Rattle.cool_classes.specs.declared.class_id.ClassId.{ClassId}
 use Rattle.cool_classes.specs.declared.method.MethodRef.{MethodRef}

@@ -1,4 +1,4 @@
--- A class is on the chain of another exactly if the tag of the other is in the range of tags of the class.
+-- A class is an ancestor of another class, or the same, exactly if the tag of the other class is in the first class's range of tags.
 use Rattle.std.proofs.Common.{◌≡◌, ℕ, zero, suc, ◌+◌, ◌<◌, ◌≤◌, List, [], ◌∷◌, ◌++◌, length, Some, Bool, true, false, ap, sym, ◌∙◌, refl, subst, arith, length-append, Contains}
 use Rattle.std.specs.Prelude.{nat_eq, if◌then◌else◌}
 use Rattle.std.specs.List.{AllByRecursion}

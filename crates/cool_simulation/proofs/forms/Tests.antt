@@ -1,4 +1,4 @@
--- The code of `not` and of `isvoid` does what they mean.
+-- The code of `not` and of `isvoid` simulates their evaluation.
 use Rattle.std.proofs.Common.{◌≡◌, ℕ, ◌+◌, ◌*◌, ◌≤◌, List, ◌++◌, refl, ap, subst, arith, not, inr}
 use Rattle.std.specs.Prelude.{Bool as Truth, true, false, nat_lt}
 use Rattle.mips_isa.specs.Bytes.{Bytes}

@@ -1,4 +1,4 @@
--- The verdict of the comparison of two words is that of the values that they picture.
+-- The run-time comparison of two words gives the same result as `=` of the two values that they represent.
 use Rattle.std.proofs.Common.{◌≡◌, ◌≢◌, ℕ, zero, suc, ◌+◌, ◌-◌, ◌<◌, ◌≤◌, ◌⊎◌, inl, inr, ℤ, pos, negsuc, List, length, refl, sym, ap, ◌∙◌, arith, not}
 use Rattle.std.specs.Prelude.{Bool as Truth, true, false, ◌==◌, nat_eq, bytes_eq, if◌then◌else◌}
 use Rattle.std.proofs.lemmas.Slice.Eq.{bytes_eq-Decides}

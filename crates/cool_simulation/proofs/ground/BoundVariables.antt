@@ -1,5 +1,5 @@
--- A pushed value is bound to a name: the body begins with a new location whose home is the pushed word, and after the body this word is popped. A value is
--- stored at a home.
+-- A pushed value can become the value of a new variable: its address is the pushed word until the end of the body, when the word is popped. Lemmas on stores to
+-- variables follow.
 use Rattle.std.proofs.Common.{◌≡◌, ℕ, ◌+◌, ◌-◌, ◌*◌, ◌/◌, ◌%◌, ◌<◌, ◌≤◌, ◌⊎◌, inl, inr, List, [], ◌∷◌, ◌++◌, length, Bool as Truth, true, false, refl, sym, ap, ◌∙◌, subst, arith}
 use Rattle.std.specs.Prelude.{slice_get, slice_set, Some, bytes_eq, if◌then◌else◌}
 use Rattle.mips_isa.specs.Bytes.{Bytes, word, set_word}

@@ -1,4 +1,4 @@
--- The routines of run-time errors with a place write the text that the semantics gives for the error.
+-- The run-time routines that report an error with its file and line write the text that the semantics gives for the error.
 use Rattle.std.proofs.Common.{◌≡◌, ℕ, ◌<◌, List, [], ◌∷◌, ◌++◌, get_or, false, refl, sym, ap, ◌∙◌, arith, append_assoc}
 use Rattle.std.specs.Prelude.{codes, nat_le}
 use Rattle.std.specs.Fmt.{decimal, signed_decimal}

@@ -1,4 +1,4 @@
--- The outcomes of arguments and dispatches have later states than those in which they began, if this is so for calls.
+-- Evaluating arguments or a dispatch never removes locations, output or identities from the state of the source (`After`), if calls do not.
 use Rattle.std.proofs.Common.{ℕ, List, [], ◌∷◌, Option, Some, None, refl}
 use Rattle.cool_syntax.specs.declared.place.Place.{Place}
 use Rattle.cool_syntax.specs.Tree.{Trees, Last, More}

@@ -1,4 +1,4 @@
--- The code of a part is a part of the code of the whole expression, and the constants that it uses are constants of the program.
+-- The code of a subexpression lies within the code of the whole expression, and its constants are among the constants of the program.
 use Rattle.std.proofs.Common.{ℕ, suc, ◌+◌, ◌≤◌, List, ◌∷◌, ◌++◌, length, refl, arith}
 use Rattle.std.specs.Prelude.{Contains}
 use Rattle.std.proofs.lemmas.List.Elements.{Contains-append_left, Contains-append_right}

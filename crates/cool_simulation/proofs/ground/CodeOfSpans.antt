@@ -1,4 +1,5 @@
--- The code of each span asks for no more constants than that of the whole, its places are within the files, and it is no deeper than the limit.
+-- The expression at each address range of the debug information uses only constants of the whole, lies within the source files, and is no deeper than the
+-- limit.
 use Rattle.std.proofs.Common.{ℕ, ◌+◌, ◌≤◌, List, [], ◌∷◌, ◌++◌, length, Bool as Truth, true, false, arith}
 use Rattle.std.specs.Prelude.{if◌then◌else◌, nat_lt, codes, Contains}
 use Rattle.std.specs.List.{AllByRecursion}

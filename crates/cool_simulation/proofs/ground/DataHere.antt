@@ -1,4 +1,5 @@
--- The loaded data is in every memory that pictures a state: constants, default values, prototypes, names, tables and texts.
+-- Each memory that represents a state of the source still holds the loaded data of the program: constants, default values, prototypes, class names, tables and
+-- texts.
 use Rattle.std.proofs.Common.{◌≡◌, ◌≢◌, ℕ, zero, suc, ◌+◌, ◌*◌, ◌/◌, ◌<◌, ◌≤◌, List, [], ◌∷◌, length, map as each, get_or, Bool as Truth, true, false, refl, sym, ap, ◌∙◌, subst, arith}
 use Rattle.std.proofs.lemmas.List.{length-map}
 use Rattle.std.specs.Prelude.{pos, slice_get, Some, Contains, codes, bytes_eq, nat_eq, if◌then◌else◌, ◌++◌}

@@ -1,4 +1,4 @@
--- The outcome of an evaluation has a later state than its first one, if this is so for calls.
+-- Evaluating an expression never removes locations, output or identities from the state of the source (`After`), if calls do not.
 use Rattle.std.proofs.Common.{ℕ, zero, suc, ℤ, ◌+ℤ◌, ◌-ℤ◌, ◌*ℤ◌, List, refl}
 use Rattle.std.specs.Prelude.{Option, Some, None, if◌then◌else◌, Bool as Truth, true, false, int_div, int_lt, int_le}
 use Rattle.cool_syntax.specs.declared.place.Place.{Place}

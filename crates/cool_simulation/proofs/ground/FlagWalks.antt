@@ -1,4 +1,5 @@
--- Runs over the lines that make a Bool of a flag, end by an error where a test fails, and hand operands to the comparison.
+-- Runs over short instruction sequences: they make a Bool object of a flag (0 or 1), end the run with an error if a test fails, or pass operands to the
+-- comparison routine.
 use Rattle.std.proofs.Common.{◌≡◌, ℕ, ◌+◌, ◌<◌, ◌≤◌, Bool, true, false, refl, arith}
 use Rattle.mips_isa.specs.declared.address_map.TheConstants.{STACK_END}
 use Rattle.mips_isa.specs.Bytes.{Bytes, word}

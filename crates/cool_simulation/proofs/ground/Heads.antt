@@ -1,4 +1,5 @@
--- The first instructions of an expression whose code begins with no part: where the machine stands at their first word, it pictures the visit.
+-- If the code of an expression does not begin with a subexpression, then at its first instruction the machine represents the state in which evaluation of this
+-- expression begins.
 use Rattle.std.proofs.Common.{◌≡◌, ℕ, zero, suc, ◌+◌, ◌*◌, ◌%◌, ◌<◌, ◌≤◌, ℤ, List, [], length, true, false, refl, sym, ◌∙◌, subst, arith}
 use Rattle.mips_isa.specs.declared.instr.Instr.{Instr}
 use Rattle.mips_isa.specs.Bytes.{Bytes, word}

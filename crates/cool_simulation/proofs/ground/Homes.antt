@@ -1,4 +1,5 @@
--- Homes of locations: a store into one, a new one in a word of the stack, and one that is left.
+-- The simulation relation is preserved if a value is stored at the address of a variable, if a variable gets a stack word as its address, or if it loses its
+-- address.
 use Rattle.std.proofs.Common.{◌≡◌, ◌≢◌, ℕ, ◌+◌, ◌/◌, ◌%◌, ◌<◌, ◌≤◌, ◌⊎◌, inl, inr, List, [], ◌∷◌, ◌++◌, length, get_or, true, false, refl, sym, ap, ◌∙◌, subst, arith, true≢false}
 use Rattle.std.specs.Prelude.{slice_get, slice_set, Some, nat_eq, if◌then◌else◌}
 use Rattle.mips_isa.specs.declared.address_map.TheConstants.{HEAP_START, STACK_END}

@@ -1,4 +1,5 @@
--- The words of a value in memory: its tag, its number, its bytes; and values of different kinds.
+-- The representation of a value in memory determines its kind (void, Int, Bool, String or object) by the class tag, and values of different kinds are not
+-- equal.
 use Rattle.std.proofs.Common.{◌≡◌, ◌≢◌, ℕ, ◌+◌, ◌<◌, ◌≤◌, ◌⊎◌, List, [], length, refl, sym, ap, ◌∙◌, subst, arith}
 use Rattle.std.specs.Prelude.{false}
 use Rattle.mips_isa.specs.declared.address_map.TheConstants.{HEAP_START}

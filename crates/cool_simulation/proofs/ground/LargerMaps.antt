@@ -1,4 +1,4 @@
--- A map and a state with one more object, and their values for each number.
+-- Extending the map from objects and variables to addresses by one more object leaves all earlier entries unchanged.
 use Rattle.std.proofs.Common.{◌≡◌, ℕ, zero, suc, ◌+◌, ◌-◌, ◌*◌, ◌<◌, ◌≤◌, List, [], ◌∷◌, ◌++◌, length, get_or, Bool as Truth, true, false, refl, sym, ap, ◌∙◌, subst, arith}
 use Rattle.std.specs.Prelude.{slice_get, if◌then◌else◌, nat_eq}
 use Rattle.mips_isa.specs.Bytes.{Bytes}

@@ -1,4 +1,4 @@
--- The values at an object's locations.
+-- In the semantics, reading the list of an object's attribute locations gives the list of their values, unless a location has none.
 use Rattle.std.proofs.Common.{◌≡◌, ℕ, zero, suc, List, [], ◌∷◌, length, get_or, Option, Some, None, refl, ap, ◌∙◌}
 use Rattle.std.specs.Prelude.{slice_get}
 use Rattle.cool_meaning.specs.Values.{Value, State}

@@ -1,5 +1,5 @@
--- A new object behind the heap's next address: what memory pictured stays, and with the object it pictures the state with one identity
--- more, whose locations have the words of the object as homes.
+-- After a new object is written at the end of the heap, memory represents the state with this object, whose attributes have the object's words as addresses,
+-- and all earlier data is unchanged.
 use Rattle.std.proofs.Common.{◌≡◌, ℕ, ◌+◌, ◌-◌, ◌*◌, ◌/◌, ◌%◌, ◌<◌, ◌≤◌, ◌⊎◌, inl, inr, List, ◌++◌, length, get_or, sym, ap, ◌∙◌, subst, arith, length-append}
 use Rattle.std.specs.Prelude.{slice_get, Some}
 use Rattle.mips_isa.specs.declared.address_map.TheConstants.{HEAP_START, STACK_END}

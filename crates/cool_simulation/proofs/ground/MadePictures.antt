@@ -1,4 +1,4 @@
--- The values that routines make on the heap are pictured by their addresses.
+-- The objects that run-time routines make on the heap represent the Int, Bool and String values that the semantics specifies.
 use Rattle.std.proofs.Common.{◌≡◌, ℕ, ◌+◌, ◌*◌, ◌/◌, ◌%◌, ◌<◌, ◌≤◌, inl, List, [], ◌∷◌, ◌++◌, length, get_or, Bool as Truth, true, refl, sym, ap, ◌∙◌, subst, arith}
 use Rattle.std.specs.Prelude.{ℤ, pos, negsuc, take, drop}
 use Rattle.mips_isa.specs.declared.address_map.TheConstants.{HEAP_START}

@@ -1,4 +1,4 @@
--- The constants and other objects in the data of a program are in each memory that has the same bytes there.
+-- The constants and other objects in the data of a program are present in each memory whose data bytes are those that were loaded.
 use Rattle.std.proofs.Common.{◌≡◌, ℕ, zero, suc, ◌+◌, ◌*◌, ◌<◌, ◌≤◌, List, length, sym, ap, ◌∙◌, subst, arith}
 use Rattle.mips_isa.specs.declared.address_map.TheConstants.{HEAP_START}
 use Rattle.mips_isa.specs.Bytes.{Bytes, word}

@@ -1,4 +1,4 @@
--- The beginning of a part of an expression: at the end of the part before it, perhaps with the value of that part pushed.
+-- After the code of a subexpression, the machine satisfies the preconditions of the next subexpression's code, with the first value perhaps pushed.
 use Rattle.std.proofs.Common.{◌≡◌, ℕ, ◌+◌, ◌-◌, ◌≤◌, List, length, refl, sym, subst, arith}
 use Rattle.mips_isa.specs.Bytes.{Bytes, set_word}
 use Rattle.mips_isa.specs.Calls.{State as Machine}

@@ -1,4 +1,5 @@
--- If nothing is watched, the text has no mark, and the features of a loaded program are quiet.
+-- If no address is watched, the conditions on watched addresses hold for all code: for each method and initializer of a loaded program, and for each of its
+-- expressions.
 use Rattle.std.proofs.Common.{◌≡◌, ℕ, ◌+◌, ◌<◌, ◌≤◌, List, [], ◌∷◌, length, Option, None, Some, Bool as Truth, false, refl, ap, subst, sym}
 use Rattle.std.specs.Prelude.{IfSome, slice_get}
 use Rattle.cool_syntax.specs.declared.file_tree.Feature.{Feature}

@@ -1,4 +1,5 @@
--- Two operands: the value of the first one is pushed while the second one runs.
+-- The code of two operands evaluates the first one, pushes its value, and evaluates the second one; then the first value is on the stack and the second in
+-- register $a0.
 use Rattle.std.proofs.Common.{◌≡◌, ℕ, ◌+◌, ◌-◌, ◌*◌, ◌/◌, ◌%◌, ◌≤◌, List, false, sym, ◌∙◌, subst, arith}
 use Rattle.mips_isa.specs.Bytes.{Bytes, word, set_word}
 use Rattle.mips_isa.specs.Calls.{State as Machine}

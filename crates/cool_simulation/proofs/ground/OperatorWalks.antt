@@ -1,4 +1,5 @@
--- Runs over the lines of operators.
+-- Runs over the instructions of arithmetic and comparison operators: they load the operands, compute the result and a flag for errors, and make the result an
+-- object.
 use Rattle.std.proofs.Common.{◌≡◌, ℕ, ◌+◌, ◌-◌, ◌*◌, ◌/◌, ◌%◌, ◌<◌, ◌≤◌, true, false, refl, ◌∙◌, arith}
 use Rattle.std.specs.Prelude.{nat_lt, ◌==◌, not}
 use Rattle.mips_isa.specs.declared.address_map.TheConstants.{STACK_END}

@@ -1,4 +1,4 @@
--- The simulation relation does not depend on the text: it also holds in a world with another text, and so do visits.
+-- The simulation relation does not depend on the machine's program text: it also holds for a machine with another text and the same data and limits.
 use Rattle.std.proofs.Common.{ℕ, List, Option}
 use Rattle.mips_isa.specs.Bytes.{Bytes}
 use Rattle.mips_isa.specs.Calls.{State as Machine}

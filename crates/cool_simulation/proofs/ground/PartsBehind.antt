@@ -1,4 +1,5 @@
--- Composition of effects: the changes of a piece of code to memory and map (`Gone`), computed from those of its parts.
+-- The changes that consecutive pieces of code make to memory, addresses and state (`Gone`) compose: the result is one such change, and the numbers of allocated
+-- words add up.
 use Rattle.std.proofs.Common.{◌≡◌, ℕ, ◌+◌, ◌-◌, ◌*◌, ◌/◌, ◌%◌, ◌<◌, ◌≤◌, inl, inr, ℤ, List, length, true, false, refl, ap, ◌∙◌, arith}
 use Rattle.mips_isa.specs.declared.address_map.TheConstants.{HEAP_START}
 use Rattle.mips_isa.specs.Bytes.{Bytes, word, set_word}

@@ -1,4 +1,4 @@
--- Runs of a part and of what follows it, within their meters, and the room that a part has.
+-- Runs compose: the run of a part, followed by the run of the rest, is a run of the whole within the sum of their instruction, heap and stack bounds.
 use Rattle.std.proofs.Common.{◌≡◌, ℕ, ◌+◌, ◌-◌, ◌*◌, ◌≤◌, ℤ, List, ◌++◌, refl, sym, ap, ◌∙◌, subst, arith, append_assoc}
 use Rattle.std.specs.Prelude.{Bool as Truth, true, false}
 use Rattle.mips_isa.specs.Calls.{State as Machine}

@@ -1,4 +1,4 @@
--- `Passes` for sequences of runs, and for runs over lines that start no span.
+-- Runs that visit only specified states at watched addresses (`Passes`) compose, and a run over instructions without watched addresses is such a run.
 use Rattle.std.proofs.Common.{◌≡◌, ℕ, zero, suc, ◌+◌, ◌-◌, ◌<◌, ◌≤◌, ◌⊎◌, inl, inr, List, Option, None, Some, Bool as Truth, true, false, refl, sym, ap, ◌∙◌, subst, arith, ◌%◌}
 use Rattle.mips_isa.specs.Calls.{State as Machine, Outcome, Running, Exited, Trapped}
 use Rattle.mips_isa.specs.Decoding.{decoded}

@@ -1,4 +1,5 @@
--- The simulation relation is preserved if only homes change below the heap's next address, and only words that are no homes are pushed or popped.
+-- The simulation relation is preserved if, below the end of the heap, memory changes only at addresses of variables, and if only stack words that hold no
+-- variable are pushed or popped.
 use Rattle.std.proofs.Common.{◌≡◌, ℕ, ◌+◌, ◌*◌, ◌/◌, ◌%◌, ◌<◌, ◌≤◌, ◌⊎◌, inl, inr, List, length, Bool as Truth, true, false, refl, sym, ◌∙◌, subst, arith, true≢false}
 use Rattle.mips_isa.specs.declared.address_map.TheConstants.{HEAP_START, STACK_END}
 use Rattle.mips_isa.specs.Bytes.{Bytes, word}

@@ -1,4 +1,4 @@
--- The word of a product of numbers with a sign, and how its overflow is seen.
+-- The machine's product of two signed words represents the product of the numbers, and the test in the code detects overflow exactly.
 use Rattle.std.proofs.Common.{◌≡◌, ℕ, zero, suc, ◌+◌, ◌-◌, ◌*◌, ◌/◌, ◌%◌, ◌<◌, ◌≤◌, ◌⊎◌, inl, inr, ℤ, pos, negsuc, ◌*ℤ◌, neg_ℤ, true, false, refl, ap, ◌∙◌, arith}
 use Rattle.std.specs.Prelude.{nat_lt, if◌then◌else◌}
 use Rattle.mips_isa.specs.Machine.{wrap, flag, lifted, long, is_negative}

@@ -1,4 +1,4 @@
--- A push takes four instructions, or leads to the exit by the stack's limit.
+-- The push of a value takes four instructions, or leads to the exit for a full stack.
 use Rattle.std.proofs.Common.{◌≡◌, ℕ, ◌+◌, ◌-◌, ◌<◌, ◌≤◌, ◌⊎◌, inl, inr, List, [], ◌∷◌, sym, subst, arith}
 use Rattle.std.specs.Prelude.{pos, negsuc}
 use Rattle.mips_isa.specs.Bytes.{Bytes, set_word}

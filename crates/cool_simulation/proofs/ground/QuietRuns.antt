@@ -1,4 +1,5 @@
--- Runs over a text in which some words are missing: they pass none of these, and are those over the whole text.
+-- If a run succeeds although the words at some addresses are missing from the program text, the same run succeeds over the whole text, and never reaches these
+-- addresses.
 use Rattle.std.proofs.Common.{◌≡◌, ℕ, zero, suc, ◌%◌, ◌<◌, List, Option, None, Bool as Truth, true, false, refl, sym, ap, ◌∙◌, subst, arith, ◌≤◌}
 use Rattle.std.specs.Prelude.{if◌then◌else◌, not, ◌==◌}
 use Rattle.mips_isa.specs.declared.address_map.TheConstants.{TEXT_START}

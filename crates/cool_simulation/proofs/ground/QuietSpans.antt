@@ -1,4 +1,4 @@
--- The pieces of code between the parts of expressions have no mark, if only the first words of spans are marked: no span begins there.
+-- If only the beginnings of expressions are watched addresses, no instruction between the codes of two subexpressions is at a watched address.
 use Rattle.std.proofs.Common.{◌≡◌, ℕ, zero, suc, ◌+◌, ◌-◌, ◌%◌, ◌<◌, ◌≤◌, ◌⊎◌, inl, inr, List, [], ◌∷◌, ◌++◌, map as each, Bool as Truth, true, false, refl, sym, ap, ◌∙◌, subst, arith}
 use Rattle.std.specs.Prelude.{Contains, codes}
 use Rattle.std.specs.List.{AllByRecursion}

@@ -1,5 +1,5 @@
--- A text in which the words at marks are missing, beside the whole text: lines without a mark stand in both, what runs over the one runs over
--- the other, and registers, memory and console are the same.
+-- A program text without the words at watched addresses agrees with the whole text on all other instructions: the same runs, registers, memory and console are
+-- possible.
 use Rattle.std.proofs.Common.{◌≡◌, ℕ, ◌+◌, ◌*◌, ◌%◌, ◌<◌, ◌≤◌, inl, inr, List, [], ◌∷◌, length, None, Bool as Truth, true, false, refl, sym, ap, ◌∙◌, subst, arith}
 use Rattle.mips_isa.specs.declared.instr.Instr.{Instr}
 use Rattle.mips_isa.specs.Assembly.{instructions}

@@ -1,4 +1,5 @@
--- The words of quotients of numbers with a sign, and how their overflow is seen.
+-- The machine's quotient of two signed words represents the quotient of the numbers, and the test in the code detects overflow (the smallest number divided by
+-- -1).
 use Rattle.std.proofs.Common.{◌≡◌, ℕ, zero, suc, ◌+◌, ◌-◌, ◌*◌, ◌/◌, ◌%◌, ◌<◌, ◌≤◌, ◌⊎◌, inl, inr, ℤ, pos, negsuc, neg_ℤ, Bool, true, false, not, refl, ap, ◌∙◌, arith}
 use Rattle.std.specs.Prelude.{nat_lt, if◌then◌else◌, int_div}
 use Rattle.std.proofs.Math.Nat.{div-le_self}

@@ -1,4 +1,4 @@
--- Runs put together where a part may take fewer instructions than its work allows, or a few more.
+-- Runs compose if a part takes fewer instructions than its cost in the semantics allows, or exceeds this cost by a bounded number.
 use Rattle.std.proofs.Common.{◌≡◌, ℕ, ◌+◌, ◌-◌, ◌*◌, ◌≤◌, refl, arith}
 use Rattle.mips_isa.specs.Calls.{State as Machine}
 use Rattle.cool_runtime.specs.Reaches.{Reaches, stands, OnTheWay}

@@ -1,4 +1,4 @@
--- A part that runs behind another one: together they leave what the whole is to leave.
+-- If a second subexpression runs after the first one, the changes of both to memory and state are together the change that the whole expression may make.
 use Rattle.std.proofs.Common.{◌≡◌, ℕ, ◌+◌, ◌-◌, ◌*◌, ◌%◌, ◌≤◌, List, arith}
 use Rattle.mips_isa.specs.Bytes.{Bytes}
 use Rattle.mips_isa.specs.Calls.{State as Machine}

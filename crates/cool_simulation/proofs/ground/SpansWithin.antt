@@ -1,4 +1,4 @@
--- The spans of an expression begin within its code, and those of its parts within theirs.
+-- The address range of each subexpression begins within the code of the expression that contains it.
 use Rattle.std.proofs.Common.{◌≡◌, ℕ, ◌+◌, ◌-◌, ◌<◌, ◌≤◌, List, [], ◌∷◌, ◌++◌, map as each, Bool as Truth, true, false, refl, ap, ◌∙◌, arith}
 use Rattle.std.specs.Prelude.{codes, if◌then◌else◌, nat_lt}
 use Rattle.std.specs.List.{AllByRecursion}

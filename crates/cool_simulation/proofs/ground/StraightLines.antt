@@ -1,4 +1,4 @@
--- Instructions that neither jump nor branch: behind each the machine stands at the next word.
+-- After each instruction that neither jumps nor branches, the machine is at the next word.
 use Rattle.std.proofs.Common.{◌≡◌, ℕ, zero, suc, ◌+◌, ◌*◌, ◌%◌, ◌≤◌, List, [], ◌∷◌, length, Option, None, Some, Bool as Truth, true, false, refl, sym, ap, ◌∙◌, subst, arith}
 use Rattle.std.specs.Prelude.{if◌then◌else◌, not, ◌==◌}
 use Rattle.mips_isa.specs.declared.address_map.TheConstants.{TEXT_START}

@@ -1,4 +1,4 @@
--- The words of numbers with a sign, and how an overflow of their sum or difference is seen from two orders.
+-- The machine's sum and difference of two signed words represent those of the numbers, and two comparisons in the code detect overflow exactly.
 use Rattle.std.proofs.Common.{◌≡◌, ℕ, zero, suc, ◌+◌, ◌-◌, ◌<◌, ◌≤◌, ◌⊎◌, inl, inr, ℤ, pos, negsuc, ◌+ℤ◌, ◌-ℤ◌, neg_ℤ, Bool, true, false, refl, arith}
 use Rattle.std.specs.Prelude.{nat_lt}
 use Rattle.mips_isa.specs.Machine.{wrap, flag, lifted}

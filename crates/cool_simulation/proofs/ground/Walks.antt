@@ -1,4 +1,4 @@
--- Runs over the lines of constants, names, tests and jumps.
+-- Runs over short instruction sequences: they load a constant or a variable, test a value, or jump.
 use Rattle.std.proofs.Common.{◌≡◌, ℕ, ◌+◌, ◌<◌, ◌≤◌, ℤ, pos, true, false, [], ◌∷◌, ◌∙◌, arith}
 use Rattle.std.specs.Prelude.{◌==◌, not}
 use Rattle.mips_isa.specs.declared.address_map.TheConstants.{STACK_END}

@@ -1,4 +1,4 @@
--- Numbers and their words: what the machine reads and prints is what the source means.
+-- Numbers of 32 bits are represented by machine words, and the machine reads and prints each number as the semantics says.
 use Rattle.std.proofs.Common.{◌≡◌, ℕ, ◌+◌, ◌-◌, ◌*◌, ◌%◌, ◌<◌, ℤ, Bool, true, false, List, [], ◌∷◌, ◌++◌, refl, sym, ◌∙◌, ap, arith}
 use Rattle.std.specs.Prelude.{pos, negsuc, nat_lt, nat_le, ◌==◌, if◌then◌else◌}
 use Rattle.mips_isa.specs.Calls as machine

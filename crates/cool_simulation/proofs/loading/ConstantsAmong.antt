@@ -1,4 +1,4 @@
--- The lines of a constant are among those of the constants; and bytes that a test finds to be a text.
+-- The data lines of each constant of a program are among the data lines of all constants; and a test detects strings without a zero byte.
 use Rattle.std.proofs.Common.{◌≡◌, ℕ, zero, suc, ◌+◌, List, [], ◌∷◌, Bool, true, false, not, cond, Contains, refl, sym, ap, ◌∙◌, subst, arith}
 use Rattle.std.specs.Prelude.{nat_eq, nat_lt, bytes_eq, ◌&&◌}
 use Rattle.mips_isa.specs.Lines.{Line}

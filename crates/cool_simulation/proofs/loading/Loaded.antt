@@ -1,4 +1,4 @@
--- A program within the limits is loaded in the machine of its image.
+-- If a program is within the limits, then a machine loaded with its image contains the program's text and data as `IsLoaded` specifies.
 use Rattle.std.proofs.Common.{ℕ, List, refl}
 use Rattle.std.specs.List.{AllByRecursion}
 use Rattle.mips_isa.specs.ImageBounds.{ImageParts}

@@ -1,4 +1,4 @@
--- The constants of a program, the default values and the texts of its routines stand in the data that is loaded.
+-- The loaded data of a program holds its constants, the default values, and the texts that its run-time routines write.
 use Rattle.std.proofs.Common.{◌≡◌, ℕ, zero, suc, ◌+◌, ◌*◌, ◌<◌, List, [], ◌++◌, flat_map, true, false, Contains, refl, sym, ap, ◌∙◌, subst, arith}
 use Rattle.std.specs.Prelude.{codes, Bool as Truth}
 use Rattle.std.specs.List.{AllByRecursion}

@@ -1,4 +1,4 @@
--- The machine of sound lines: their image has segments within the limits, and it is an image of these lines.
+-- If assembly lines satisfy the conditions for assembling, their image has segments within the limits, and a machine loaded with it holds these lines.
 use Rattle.std.proofs.Common.{◌≡◌, ℕ, ◌+◌, ◌*◌, ◌/◌, ◌≤◌, List, [], ◌∷◌, ◌++◌, length, refl, sym, ap, ◌∙◌, subst, arith, None}
 use Rattle.std.specs.Prelude.{Contains, is_some}
 use Rattle.mips_isa.specs.declared.place.Segment.TheVariants.{Text, Data}

@@ -1,4 +1,4 @@
--- The items of data in the memory of a machine that was loaded with sound lines.
+-- In a machine loaded with the image of valid assembly lines, each `.word` operand of the data is in memory at its address.
 use Rattle.std.proofs.Common.{◌≡◌, ℕ, zero, suc, ◌+◌, ◌-◌, ◌*◌, ◌%◌, ◌<◌, ◌≤◌, List, [], ◌∷◌, ◌++◌, length, map, get_or, refl, sym, ap, ◌∙◌, subst, arith, false, Some, None, append_assoc}
 use Rattle.std.specs.Prelude.{◌||◌, Contains, pos, negsuc}
 use Rattle.std.specs.List.{AllByRecursion}

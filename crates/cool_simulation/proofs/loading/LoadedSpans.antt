@@ -1,4 +1,4 @@
--- In the machine of a loaded program the spans of each method and of each initializer stand behind its label.
+-- In the machine of a loaded program, the code of each expression is at its address range, counted from the label of its method or initializer.
 use Rattle.std.proofs.Common.{◌≡◌, ℕ, ◌+◌, ◌<◌, ◌≤◌, List, ◌++◌, length, refl}
 use Rattle.std.specs.Prelude.{slice_get, Some, Contains}
 use Rattle.std.proofs.lemmas.List.Elements.{All-contains, All-from_recursion}

@@ -1,4 +1,4 @@
--- The objects and the texts of data in the memory of a machine that was loaded with sound lines.
+-- In a machine loaded with the image of valid assembly lines, the String objects and zero-terminated texts of the data are in memory under their labels.
 use Rattle.std.proofs.Common.{◌≡◌, ℕ, zero, suc, ◌+◌, ◌-◌, ◌*◌, ◌<◌, ◌≤◌, List, [], ◌∷◌, ◌++◌, length, map, replicate, get_or, refl, sym, ap, ◌∙◌, subst, arith, append_assoc, length-append}
 use Rattle.std.specs.Prelude.{pos, negsuc}
 use Rattle.std.proofs.Math.Seq.{get_or-append_seam}

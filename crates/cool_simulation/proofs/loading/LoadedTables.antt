@@ -1,4 +1,4 @@
--- The tables of a program stand in the data that is loaded: prototypes and dispatch tables by class, names and initializers by tag.
+-- The loaded data of a program holds its tables: prototypes and dispatch tables for each class, and class names and initializers by class tag.
 use Rattle.std.proofs.Common.{◌≡◌, ℕ, zero, suc, ◌+◌, ◌*◌, ◌%◌, ◌<◌, List, [], ◌∷◌, ◌++◌, length, map, get_or, flat_map, Bool, true, false, Some, refl, sym, ap, ◌∙◌, subst, arith}
 use Rattle.std.specs.Prelude.{bytes_eq, ◌&&◌}
 use Rattle.std.specs.List.{list_all}

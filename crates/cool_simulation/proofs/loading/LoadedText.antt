@@ -1,4 +1,4 @@
--- The code of a program stands in the text of its machine: each routine, each method and each initializer under its label.
+-- In the machine of a loaded program, the code of each run-time routine, method and initializer is in the text under its label.
 use Rattle.std.proofs.Common.{◌≡◌, ℕ, zero, suc, ◌+◌, ◌*◌, ◌<◌, List, [], ◌∷◌, ◌++◌, length, drop, flat_map, Bool, true, false, Some, Contains, refl, sym, ap, ◌∙◌, subst, arith}
 use Rattle.std.specs.Prelude.{slice_get, nat_lt, if◌then◌else◌}
 use Rattle.cool_syntax.specs.declared.file_tree.Feature.{Feature}

@@ -1,4 +1,4 @@
--- Lines that are a part of others: those joined to others, and those made for an element of a list.
+-- `Among` says that some assembly lines are a consecutive part of others. A part of joined lines, or the lines made for one element of a list, satisfy it.
 use Rattle.std.proofs.Common.{◌≡◌, zero, suc, List, [], ◌∷◌, ◌++◌, flat_map, Contains, sym, ap, ◌∙◌, subst, arith, append_assoc, append-nil}
 use Rattle.mips_isa.specs.Lines.{Line}
 

@@ -1,4 +1,4 @@
--- The machine of a program that was loaded stands at its start, and pictures the source's empty state.
+-- A machine loaded with a program is at its start address, and its memory represents the empty state of the source (no objects, no variables).
 use Rattle.std.proofs.Common.{ℕ, List, [], false, refl, arith}
 use Rattle.mips_isa.specs.declared.address_map.TheConstants.{HEAP_START, STACK_END}
 use Rattle.mips_isa.specs.Run as machine

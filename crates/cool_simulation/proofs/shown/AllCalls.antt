@@ -1,4 +1,5 @@
--- `Shown` for calls, by induction on the steps: a call of a program runs a body or initial values, whose own calls have fewer steps.
+-- In each call of a method or initializer, the machine reaches the code of each expression that evaluation begins (`Shown`). The proof is by induction on the
+-- number of steps.
 use Rattle.std.proofs.Common.{ℕ, zero, suc, ◌<◌, subst, arith, ◌≡◌, None}
 use Rattle.cool_syntax.specs.declared.file_tree.Feature.TheVariants.{Method, Attribute}
 use Rattle.cool_syntax.specs.Tree.{Tree}

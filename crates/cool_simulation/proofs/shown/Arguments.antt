@@ -1,4 +1,4 @@
--- `Shown` for arguments: the machine reaches each argument after the push of the one before it.
+-- `Shown` for arguments: the machine reaches the code of each argument after the value of the preceding one is pushed.
 use Rattle.std.proofs.Common.{ℕ, ◌+◌, ◌-◌, ◌≤◌, List, [], ◌∷◌, ◌++◌, refl, arith, ◌≡◌, None}
 use Rattle.std.specs.Prelude.{Contains}
 use Rattle.std.proofs.lemmas.List.Elements.{Contains-append_left, Contains-append_right}

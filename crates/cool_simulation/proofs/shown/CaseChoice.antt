@@ -1,4 +1,4 @@
--- `Shown` for the branch of a case that evaluation takes.
+-- `Shown` for the branch that a case takes: the machine reaches the code of the branch's body.
 use Rattle.std.proofs.Common.{◌≡◌, inl, inr, ℕ, ◌+◌, List, ◌∷◌, Option, Some, None, Bool as Truth, ap, ◌∙◌, refl}
 use Rattle.std.specs.Prelude.{if◌then◌else◌}
 use Rattle.cool_syntax.specs.Tree.{Cases, NoCase, CaseOf, tree_size}

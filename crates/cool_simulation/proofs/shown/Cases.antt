@@ -1,4 +1,4 @@
--- `Shown` for a case: the machine reaches its value, and then the body of the branch that is taken.
+-- `Shown` for a case: the machine reaches the code of its value, and then that of the branch's body that is taken.
 use Rattle.std.proofs.Common.{◌≡◌, ℕ, ◌+◌, ◌-◌, ◌*◌, ◌<◌, List, [], ◌∷◌, ◌++◌, length, get_or, Option, Some, ap, sym, ◌∙◌, refl, subst, arith, None}
 use Rattle.std.specs.Prelude.{Contains}
 use Rattle.std.specs.List.{AllByRecursion}

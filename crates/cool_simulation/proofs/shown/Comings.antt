@@ -1,4 +1,4 @@
--- Ways to a state that is to come, put together; and the room of what is on the way.
+-- Lemmas that compose runs of the machine until it reaches a later state, and that bound the heap and stack on the way.
 use Rattle.std.proofs.Common.{◌≡◌, ℕ, ◌+◌, ◌-◌, ◌*◌, ◌≤◌, ◌⊎◌, inl, inr, refl, sym, ◌∙◌, subst, arith, None}
 use Rattle.mips_isa.specs.Calls.{State as Machine, Outcome as MachineOutcome, Running, Exited, Trapped}
 use Rattle.mips_isa.specs.Run.{run}

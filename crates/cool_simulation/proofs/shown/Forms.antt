@@ -1,4 +1,4 @@
--- `Shown` for each form of expression, assuming it for calls with fewer steps.
+-- `Shown` holds for each kind of expression, if it holds for calls with fewer steps: the machine reaches each subexpression that evaluation begins.
 use Rattle.std.proofs.Common.{ℕ, ◌≡◌, None}
 use Rattle.cool_syntax.specs.Tree.{Tree, Trees, Cases, Last, More, Without, With, NoCase, CaseOf}
 use Rattle.cool_syntax.specs.Tree as trees

@@ -1,4 +1,4 @@
--- `Shown` for expressions with one part, or with none.
+-- `Shown` for expressions with one subexpression, or none: the machine reaches the code of the expression and of its subexpression.
 use Rattle.std.proofs.Common.{ℕ, ◌≤◌, List, refl, arith, ◌≡◌, None}
 use Rattle.std.specs.Prelude.{Bool as Truth, not, neg_ℤ, Contains}
 use Rattle.cool_syntax.specs.declared.place.Place.{Place}

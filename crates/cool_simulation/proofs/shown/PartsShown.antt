@@ -1,4 +1,4 @@
--- The expressions that an expression begins: itself, where the machine stands, and those that its parts begin, from where they begin.
+-- If the machine reaches the beginnings of an expression and of its subexpressions, it reaches all expressions that the evaluation of the expression begins.
 use Rattle.std.proofs.Common.{◌≡◌, ℕ, ◌+◌, ◌-◌, ◌*◌, ◌≤◌, List, refl, sym, subst, None}
 use Rattle.std.specs.Prelude.{Contains}
 use Rattle.mips_isa.specs.Bytes.{Bytes}

@@ -1,4 +1,5 @@
--- The spans that are counted from the labels of methods and initializers are those of the table of code, which counts from the start of the text.
+-- The address ranges of expressions counted from the labels of methods and initializers are those of the debug information, which counts from the start of the
+-- text.
 use Rattle.std.proofs.Common.{◌≡◌, ℕ, zero, suc, ◌+◌, ◌<◌, inl, inr, List, [], ◌∷◌, flat_map, length, Some, refl, sym, subst, arith}
 use Rattle.std.specs.Prelude.{Bool as Truth, true, false, Contains, if◌then◌else◌, nat_lt, slice_get}
 use Rattle.std.proofs.lemmas.List.Elements.{Contains-append_left, Contains-append_right}

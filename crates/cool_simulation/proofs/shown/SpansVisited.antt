@@ -1,6 +1,5 @@
--- The converse of `Shown`: wherever the machine of an image comes to the first word of a row of the table of code, it pictures an expression that the run
--- of the source begins. In the proof, heap and stack of the world are as large as the run needs. If the limits are smaller, the run of the machine ends by
--- a limit.
+-- The converse of `Shown`: whenever a program's machine reaches the first word of an expression's code, its state represents one in which the source run begins
+-- this expression. In the proof, heap and stack are as large as the run needs. If the limits are smaller, the machine's run ends by a limit.
 use Rattle.std.proofs.Common.{[], refl, sym, subst, arith, append-nil, None, ◌≡◌, ℕ, ◌+◌, ◌-◌, ◌*◌, ◌<◌, ◌≤◌, ◌⊎◌, inl, inr, Some, ap, ◌∙◌, List, true}
 use Rattle.mips_isa.specs.Bytes.{Segments, bytes_of_image}
 use Rattle.mips_isa.specs.ImageBounds.{ImageParts}

@@ -1,4 +1,4 @@
--- The theorem on compiled programs: the image of files that are accepted means their program.
+-- The main theorem on compiled programs: the image generated for accepted files is a correct compilation of their program.
 use Rattle.std.proofs.Common.{sym, subst}
 use Rattle.cool_rules.specs.Fits.{Fits}
 use Rattle.cool_emit.specs.Programs.{IsBuildable}

@@ -1,4 +1,5 @@
--- The strings of accepted files are texts, if the files are bytes and their names are texts.
+-- The string constants of accepted files contain no zero byte, and neither do their file names, if the files consist of bytes and their names have no zero
+-- byte.
 use Rattle.std.proofs.Common.{ℕ, ◌+◌, List, [], ◌∷◌}
 use Rattle.std.specs.List.{AllByRecursion}
 use Rattle.cool_syntax.specs.declared.file_tree.FileTree.{FileTree}

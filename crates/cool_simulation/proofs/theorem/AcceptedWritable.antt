@@ -1,4 +1,4 @@
--- Accepted files are a program in which no block and no case is empty.
+-- No block and no case of an accepted program is empty.
 use Rattle.std.proofs.Common.{◌≡◌, ℕ, ◌+◌, List, [], ◌∷◌, Some}
 use Rattle.std.specs.Prelude.{slice_get}
 use Rattle.std.specs.List.{AllByRecursion}

@@ -1,4 +1,4 @@
--- If the strings of class definitions are bytes, so are those of the features of their class table.
+-- If the string constants of class definitions consist of bytes (numbers below 256), so do those of the features in the class table made from them.
 use Rattle.std.proofs.Common.{◌≡◌, ℕ, zero, suc, List, [], ◌∷◌, map, get_or, Some, sym, subst}
 use Rattle.std.specs.Prelude.{slice_get}
 use Rattle.std.specs.List.{AllByRecursion}

@@ -1,4 +1,4 @@
--- If the strings in the tokens of a concrete tree are bytes, so are those of its plain form.
+-- If the string constants among the tokens of a file consist of bytes (numbers below 256), so do those of the class definitions parsed from them.
 use Rattle.std.proofs.Common.{List, [], ◌∷◌, ◌++◌, true, false, sym, subst}
 use Rattle.std.specs.List.{AllByRecursion}
 use Rattle.cool_syntax.specs.declared.place.Place.{Place}

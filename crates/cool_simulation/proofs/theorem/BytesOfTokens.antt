@@ -1,4 +1,4 @@
--- The string constants among the tokens of bytes are bytes.
+-- The lexer gives string constants that consist of bytes (numbers below 256), if the file does.
 use Rattle.std.proofs.Common.{ℕ, zero, suc, ◌+◌, ◌<◌, List, [], ◌∷◌, length, take, drop, Option, Some, None, Bool, true, false, sym, subst, arith}
 use Rattle.std.specs.Prelude.{if◌then◌else◌, ◌==◌, ◌&&◌, not, map, option_map}
 use Rattle.std.specs.List.{AllByRecursion, list_all}

@@ -1,4 +1,4 @@
--- If a machine comes to the same ends as the runs of the source, its end accords with them.
+-- If a machine reaches the same ends and output as the runs of the source, the outcome of its run agrees with the source (`Accord`).
 use Rattle.std.proofs.Common.{◌≡◌, ℕ, ◌+◌, ◌-◌, ◌*◌, ◌<◌, ◌≤◌, ◌⊎◌, inl, inr, List, [], ◌++◌, sym, ap, ◌∙◌, subst, arith, append_assoc, append-nil}
 use Rattle.mips_isa.specs.Bytes.{Segments}
 use Rattle.mips_isa.specs.Calls.{State, Outcome, Running, Exited, Trapped}

@@ -1,4 +1,4 @@
--- No `.word` of the data of a program is empty: each class has the methods of Object, and there are classes.
+-- No `.word` directive in the data of a program is without operands: there is at least one class, and each class has the methods of Object.
 use Rattle.std.proofs.Common.{◌≡◌, ℕ, ◌+◌, ◌<◌, List, [], ◌∷◌, ◌++◌, length, map, flat_map, Option, Some, None, is_some, true, refl, sym, ap, ◌∙◌, subst, arith, true≢false}
 use Rattle.std.specs.Prelude.{codes}
 use Rattle.std.specs.List.{AllByRecursion}

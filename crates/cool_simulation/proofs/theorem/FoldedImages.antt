@@ -1,4 +1,4 @@
--- The image of a folded program means it, and means the program itself, of which no run has a smaller meter.
+-- The image of a constant-folded program is a correct compilation of the original program, because folding never makes the cost of a run larger.
 use Rattle.std.proofs.Common.{◌+◌, ℕ, List, length, sym, ◌∙◌, subst, arith}
 use Rattle.std.specs.List.{AllByRecursion}
 use Rattle.cool_classes.specs.Chains.{Class}

@@ -1,4 +1,4 @@
--- A folded expression has no empty block and no empty case, and only bytes in its strings, if the expression has.
+-- Constant folding keeps these properties of an expression: no empty block, no empty case, and only bytes in its strings.
 use Rattle.std.proofs.Common.{◌≡◌, ℕ, ℤ, neg_ℤ, List, ◌++◌, Option, Some, None, Bool as Truth, true, false, refl, sym, ◌∙◌, subst}
 use Rattle.std.specs.Prelude.{slice_get, option_map, int_lt, int_le, if◌then◌else◌, IfSome}
 use Rattle.cool_syntax.specs.declared.place.Place.{Place}

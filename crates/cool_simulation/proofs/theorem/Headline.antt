@@ -1,4 +1,5 @@
--- The outcome of a machine accords with the program, if the program always runs as it means.
+-- If a program's code always simulates its runs, its image is a correct compilation: the outcome of the machine agrees with the source for all inputs and
+-- limits.
 use Rattle.std.proofs.Common.{ℕ, List, refl, sym, subst, arith}
 use Rattle.std.specs.List.{AllByRecursion}
 use Rattle.mips_isa.specs.ImageBounds.{ImageParts}

@@ -1,4 +1,4 @@
--- The whole run of a loaded program does what it means, if the code of calls does.
+-- The run of a loaded program simulates the source run of the whole program, if the code of calls simulates calls.
 use Rattle.std.proofs.Common.{◌≡◌, ℕ, zero, suc, ◌+◌, ◌-◌, ◌*◌, ◌<◌, ◌≤◌, max, List, [], ◌++◌, length, map as each, Option, Some, ap, sym, ◌∙◌, refl, subst, arith, append_assoc, append-nil, inl, inr, None}
 use Rattle.std.specs.Prelude.{codes}
 use Rattle.cool_syntax.specs.Bare.{nowhere}

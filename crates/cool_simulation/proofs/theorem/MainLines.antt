@@ -1,4 +1,4 @@
--- The lines of the start: the prototype of Main is copied, its initializer and its method main are called, and the end text is written.
+-- The first instructions of a program copy the prototype of Main, call its initializer and its method `main`, and then write the text for a normal end.
 use Rattle.std.proofs.Common.{◌≡◌, ℕ, ◌+◌, ◌*◌, ◌<◌, ◌≤◌, List, [], ◌∷◌, ◌++◌, inl, Some, refl, ap, ◌∙◌, subst, arith}
 use Rattle.mips_isa.specs.Bytes.{Bytes, word}
 use Rattle.mips_isa.specs.Calls.{State, string_at}

@@ -1,4 +1,4 @@
--- The class Main of a program and its method main: their labels, and what the source finds under their names.
+-- The labels of class Main and of its method `main` in the code are those of the class and method that the semantics finds under these names.
 use Rattle.std.proofs.Common.{◌≡◌, ℕ, ◌≤◌, List, [], ◌∷◌, ◌++◌, Option, Some, None, Bool, true, false, cond, refl, sym, ap, ◌∙◌, subst, arith}
 use Rattle.std.specs.Prelude.{codes, nat_lt, option_map, slice_get}
 use Rattle.cool_classes.specs.declared.class_id.ClassId.{ClassId}

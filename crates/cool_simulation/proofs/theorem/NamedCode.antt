@@ -1,5 +1,5 @@
--- The labels of the text of a program are names: those of the routines, of the initializers and methods of its classes, and those within
--- the code of expressions.
+-- Each label in the text of a program is a valid name of assembly: those of run-time routines, initializers and methods, and those within the code of
+-- expressions.
 use Rattle.std.proofs.Common.{◌≡◌, ℕ, zero, suc, ◌+◌, ◌*◌, ◌<◌, ◌≤◌, List, [], ◌∷◌, ◌++◌, length, flat_map, Option, Some, None, Bool, true, false, refl, sym, ap, ◌∙◌, subst, arith, true≢false}
 use Rattle.std.specs.Prelude.{pos, codes, bytes_eq, nat_lt, slice_get, if◌then◌else◌}
 use Rattle.std.specs.List.{AllByRecursion, list_all}

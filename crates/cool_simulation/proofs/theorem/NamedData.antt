@@ -1,4 +1,4 @@
--- The labels of the data of a program are names, and so all its labels are.
+-- Each label in the data of a program is a valid name of assembly, and so are all labels of the program.
 use Rattle.std.proofs.Common.{ℕ, ◌+◌, ◌<◌, List, [], ◌∷◌, ◌++◌, length, map, flat_map, refl}
 use Rattle.std.specs.Prelude.{codes}
 use Rattle.mips_isa.specs.Lines.{Line, WordItem, Address, ToData}

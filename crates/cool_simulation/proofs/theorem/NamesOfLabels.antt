@@ -1,4 +1,4 @@
--- The texts that labels are made of are names of assembly: names of classes, numbers, and what stands between them.
+-- Labels made of class names, numbers and the text between them are valid names of assembly.
 use Rattle.std.proofs.Common.{◌≡◌, ℕ, zero, suc, ◌+◌, ◌/◌, ◌%◌, ◌<◌, List, [], ◌∷◌, ◌++◌, Bool, true, false, ◌||◌, ◌==◌, refl, sym, ap, ◌∙◌, subst, arith, true≢false, decimal}
 use Rattle.std.specs.Prelude.{if◌then◌else◌, nat_lt, codes}
 use Rattle.std.specs.Char.{is_ascii_digit}

@@ -1,4 +1,4 @@
--- The lines of an accepted program can be printed, and what is printed of them is read as these lines.
+-- The assembly lines generated for an accepted program can be printed, and parsing the printed text gives the same lines.
 use Rattle.std.proofs.Common.{◌≡◌, ℕ, zero, suc, List, [], ◌∷◌, length, subst, sym, arith, Contains}
 use Rattle.std.specs.List.{AllByRecursion}
 use Rattle.mips_isa.specs.Lines as statements

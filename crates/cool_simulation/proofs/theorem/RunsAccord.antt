@@ -1,4 +1,4 @@
--- A machine that comes to each run of the source, whatever its world is to reach, accords with these runs.
+-- If a program's machine simulates each run of the source for all sizes of heap and stack, its outcome agrees with these runs (`Accord`) for each limit.
 use Rattle.std.proofs.Common.{◌≡◌, ◌≢◌, ℕ, ◌+◌, ◌-◌, ◌*◌, ◌<◌, ◌≤◌, ◌⊎◌, inl, inr, List, [], refl, sym, subst, arith, append-nil}
 use Rattle.mips_isa.specs.declared.address_map.TheConstants.{HEAP_START, STACK_END}
 use Rattle.mips_isa.specs.Bytes.{Segments}

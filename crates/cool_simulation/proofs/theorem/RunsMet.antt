@@ -1,4 +1,4 @@
--- A machine meets each run of the source that goes on, within heap and stack that hold its words and its nesting.
+-- If heap and stack suffice for the allocated words and the nesting of a source run that goes on, the machine reaches the output of this run.
 use Rattle.std.proofs.Common.{◌≡◌, ℕ, ◌*◌, ◌<◌, ◌≤◌, ◌⊎◌, inl, inr, List, [], refl, sym, subst, arith, append-nil}
 use Rattle.mips_isa.specs.Bytes.{Segments, bytes_of_image}
 use Rattle.mips_isa.specs.Calls.{State, Outcome, Running, Exited, Trapped}

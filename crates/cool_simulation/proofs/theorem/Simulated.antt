@@ -1,4 +1,4 @@
--- The image of a typed program within the limits means the program, if no block and no case of it is empty and its strings are texts.
+-- If a typed program is within the limits, has no empty block or case, and no string with a zero byte, its image is a correct compilation.
 use Rattle.std.proofs.Common.{List, ℕ, None, refl}
 use Rattle.std.specs.List.{AllByRecursion}
 use Rattle.mips_isa.specs.Assembly.{image_of}

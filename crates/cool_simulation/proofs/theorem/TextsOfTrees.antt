@@ -1,4 +1,4 @@
--- The strings of a program are texts: those of the source, of which no byte is 0, and the names of its files.
+-- No string constant of a program contains a zero byte: neither those of the source nor the names of its files.
 use Rattle.std.proofs.Common.{◌≡◌, ℕ, zero, suc, ◌+◌, ◌<◌, ◌≤◌, List, [], ◌∷◌, ◌++◌, length, get_or, flat_map, Option, Some, None, refl, arith}
 use Rattle.std.specs.Prelude.{slice_get, IfSome}
 use Rattle.std.specs.List.{AllByRecursion}

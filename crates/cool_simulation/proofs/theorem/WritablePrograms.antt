@@ -1,5 +1,5 @@
--- If class definitions have no empty block and no empty case, neither have the features of their class table. (The trees of the grammar have none:
--- cool_syntax has `parsed_writable`.)
+-- If class definitions have no empty block and no empty case, neither have the features of the class table made from them. (The grammar has no empty ones: see
+-- `parsed_writable` of cool_syntax.)
 use Rattle.std.proofs.Common.{◌≡◌, ℕ, zero, suc, List, [], ◌∷◌, map, get_or, Some, sym, subst}
 use Rattle.std.specs.Prelude.{slice_get}
 use Rattle.std.specs.List.{AllByRecursion}
