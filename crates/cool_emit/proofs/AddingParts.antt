@@ -1,4 +1,5 @@
--- Composition of additions (`Adds`): what several parts of a program add, one after another, to its lines and constants.
+-- If two parts of a program each add (`Adds`) specified assembly lines and constants, then both, one after the other, add the joined lines and the constants of
+-- both.
 use Rattle.std.proofs.Common.{◌≡◌, ℕ, zero, suc, ◌+◌, ◌≤◌, ◌<◌, List, [], ◌∷◌, ◌++◌, length, flat_map, take, get_or}
 use Rattle.std.proofs.Common.{Bool, true, false, ap, refl, sym, subst, ◌∙◌, arith, append_assoc, append-nil}
 use native.Mathlib.Numerals.{add-one}

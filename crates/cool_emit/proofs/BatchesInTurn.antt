@@ -1,4 +1,5 @@
--- The batches of a program, one after another: their lines, and the constants for which they ask.
+-- The batches of a program (groups of assembly lines made one at a time) joined in order are the program's lines, and the constants used so far are those of
+-- the batches so far.
 use Rattle.std.proofs.Common.{◌≡◌, ◌∙◌, ℕ, zero, suc, ◌+◌, ◌<◌, ◌≤◌, List, [], ◌∷◌, ◌++◌, length, map, take, drop, get_or, slice_get, Some, ap, refl, sym, subst, arith, append_assoc, append-nil, length-append}
 use native.Mathlib.Numerals.{add-one}
 use Rattle.std.specs.Option.{option_map}

@@ -1,4 +1,5 @@
--- The weight of a class table is the sum of the weights of its classes and features, taken class by class.
+-- The weight of a class table (a bound from its names, parameters, nodes and string bytes) is the sum of the weights of its classes, and at least that of its
+-- features.
 use Rattle.std.proofs.Common.{◌≡◌, ℕ, ◌+◌, ◌≤◌, List, [], ◌∷◌, ◌++◌, length, take, drop}
 use Rattle.std.proofs.Common.{refl, ap, ◌∙◌, subst, arith, length-append, append_assoc}
 use Rattle.std.proofs.Math.Seq.{get_or-append_seam}

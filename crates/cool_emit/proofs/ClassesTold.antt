@@ -1,4 +1,4 @@
--- The rows of the table of code for an initializer, for a class and for the classes so far, put together from those of their features.
+-- The debug information of an initializer, of a class, or of the classes so far is that of their features, joined in order.
 use Rattle.std.proofs.Common.{◌≡◌, ◌∙◌, ℕ, ◌+◌, List, [], ◌∷◌, ◌++◌, flat_map, Bool, true, false, sym, ap, ap₂, append_assoc, append-nil, arith}
 use Rattle.std.specs.Prelude.{nat_lt, if◌then◌else◌}
 use Rattle.std.proofs.lemmas.Grind.{flat_map-append}

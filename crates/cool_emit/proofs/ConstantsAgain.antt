@@ -1,4 +1,4 @@
--- A list of constants that already has some constants does not change if these are added again.
+-- Adding constants again to a list that already has them does not change the list.
 use Rattle.std.proofs.Common.{◌≡◌, ◌∙◌, ℕ, List, [], ◌∷◌, ◌++◌, Bool, true, false, ap, refl, sym, subst, append_assoc, append-nil}
 use Rattle.std.specs.Prelude.{nat_eq, bytes_eq, ◌||◌, if◌then◌else◌}
 use Rattle.std.specs.List.{AllByRecursion, list_any}

@@ -1,4 +1,5 @@
--- The number of constants of a program's features: no more integers than the program's weight, and at most twice as many strings.
+-- The features of a program use at most as many integer constants as the weight of its class table (an upper bound of its size), and at most twice as many
+-- string constants.
 use Rattle.std.proofs.Common.{◌≡◌, ℕ, ◌+◌, ◌*◌, ◌≤◌, List, [], ◌∷◌, ◌++◌, length, flat_map}
 use Rattle.std.proofs.Common.{Option, Some, None, Bool, true, false, ap, arith, length-append}
 use Rattle.std.specs.Prelude.{nat_eq, bytes_eq, if◌then◌else◌}

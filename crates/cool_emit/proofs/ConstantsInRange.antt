@@ -1,4 +1,4 @@
--- The constants of a program are in range: its integers are those of the source, and its strings those of the source and names of files.
+-- The integer constants of a program's code are 32-bit numbers of the source, and its string constants are strings of the source or names of files.
 use Rattle.std.proofs.Common.{ℕ, zero, suc, ◌+◌, ◌≤◌, ◌<◌, List, [], ◌∷◌, ◌++◌, length, get_or}
 use Rattle.std.proofs.Common.{flat_map, Option, Some, None, Bool, true, false, arith}
 use Rattle.std.specs.Prelude.{nat_eq, bytes_eq, if◌then◌else◌, IfSome}

@@ -1,4 +1,4 @@
--- The labels in the data of a program after its layout: those of the constants, by number and by value, and that of the heap.
+-- The data of a program has a label for each integer and string constant, for both Bools, and for the beginning of the heap.
 use Rattle.std.proofs.Common.{◌≡◌, ℕ, zero, suc, ◌+◌, ◌<◌, List, [], ◌∷◌, ◌++◌, length, Contains, true, subst, arith}
 use Rattle.std.specs.Prelude.{pos, nat_eq, bytes_eq}
 use Rattle.mips_isa.specs.Lines.{Name, Line, Number}

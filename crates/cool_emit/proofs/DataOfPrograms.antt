@@ -1,5 +1,5 @@
--- The data of a program: each line is a label's line, words of numbers in their ranges and of names that are labels of the
--- program, a text up to a zero, or a fill-up to a word.
+-- Each line in the data of a program is a label, a `.word` whose numbers are in range and whose names are labels of the program, a zero-terminated text, or an
+-- alignment to four bytes.
 use Rattle.std.proofs.Common.{◌≡◌, ℕ, zero, suc, ◌+◌, ◌-◌, ◌≤◌, ◌<◌, List, [], ◌∷◌, ◌++◌, length, get_or, drop}
 use Rattle.std.proofs.Common.{flat_map, map, Bool, true, false, refl, ap, ◌∙◌, subst, arith, Contains, inl, inr}
 use Rattle.std.specs.Prelude.{pos, codes, bytes_eq, nat_eq, ◌||◌, if◌then◌else◌}

@@ -1,5 +1,5 @@
--- The rows of the table of code for a feature, computed from lines made with its own table of constants.
--- These lines have the kinds, and so the sizes, of the lines that the feature has in the program.
+-- The debug information of a feature can be computed from its lines generated with a table of constants of its own, because these lines have the same sizes as
+-- the feature's lines in the program.
 use Rattle.std.proofs.Common.{◌≡◌, ◌∙◌, ℕ, ◌+◌, ◌*◌, ◌≤◌, List, [], ◌∷◌, ◌++◌, length, flat_map, map, take, get_or, refl, sym, ap, ap₂, subst, append_assoc, append-nil, arith}
 use Rattle.std.specs.List.{AllByRecursion}
 use Rattle.std.specs.Prelude.{codes, pos}

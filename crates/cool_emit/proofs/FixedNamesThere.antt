@@ -1,4 +1,4 @@
--- A program has the labels with fixed names: those of the basic classes, those of Main, and those of the texts that routines write.
+-- A program has each label with a fixed name: those of the basic classes, those of Main, and those of the texts that run-time routines write.
 use Rattle.std.proofs.Common.{◌≡◌, ℕ, zero, suc, ◌+◌, ◌<◌, List, [], ◌∷◌, ◌++◌, length, Contains, Option}
 use Rattle.std.proofs.Common.{Some, None, Bool, true, false, cond, refl, sym, ap, ◌∙◌, subst, arith}
 use Rattle.std.specs.Prelude.{codes, slice_get, nat_lt, bytes_eq, option_map}

@@ -1,4 +1,4 @@
--- The lines of an expression's code have the same kinds, and so the same sizes, whatever table of constants is used.
+-- The lines of an expression's code have the same kinds, and so the same sizes, for every table of constants.
 use Rattle.std.proofs.Common.{◌≡◌, ◌∙◌, ℕ, ◌+◌, List, [], ◌∷◌, ◌++◌, map, Bool as Truth, true, false, refl, sym, ap₂}
 use Rattle.std.specs.Prelude.{Option, Some, None, if◌then◌else◌, nat_lt, codes}
 use Rattle.std.proofs.lemmas.List.{map-append}

@@ -1,4 +1,4 @@
--- No label occurs twice in a program: each name is counted at most once, since the bytes of a label determine what it is a label of.
+-- No label occurs twice in a program: each name is counted at most once, since the bytes of a label determine what it labels.
 use Rattle.std.proofs.Common.{ℕ, ◌≤◌, List, ◌∷◌, arith}
 use Rattle.mips_isa.specs.Lines.{Name, ToData}
 use Rattle.mips_isa.specs.Assembly.{directive_line}

@@ -1,4 +1,4 @@
--- No label occurs twice in the code of the classes.
+-- No label occurs twice in the code of the classes of a program.
 use Rattle.std.proofs.Common.{◌≡◌, ℕ, zero, suc, ◌+◌, ◌^◌, ◌<◌, ◌≤◌, List, [], ◌∷◌, ◌++◌, length, flat_map}
 use Rattle.std.proofs.Common.{Option, Some, None, Bool, true, false, ◌&&◌, refl, sym, ap, ◌∙◌, subst, arith}
 use Rattle.std.specs.Prelude.{pos, nat_eq, nat_lt, bytes_eq, codes, IfSome, if◌then◌else◌}

@@ -1,4 +1,4 @@
--- The number of times that a name is a label of an expression's code: at most the number of times that it is a label of one kind at one node.
+-- In the code of an expression, a name is a label at most as often as it is one of the kinds of labels (end, else, loop, ..) at one of the expression's nodes.
 use Rattle.std.proofs.Common.{◌≡◌, ℕ, ◌+◌, ◌-◌, ◌≤◌, List, [], ◌∷◌, ◌++◌, Option, Some}
 use Rattle.std.proofs.Common.{None, Bool, true, false, refl, ap, ◌∙◌, arith, get_or}
 use Rattle.std.specs.Prelude.{ℤ, pos, ◌*◌, length, unwrap_or, bytes_eq, codes, nat_eq, nat_lt, if◌then◌else◌}

@@ -1,4 +1,4 @@
--- No label occurs twice in the data: those of the classes' tables and prototypes, of defaults and texts, and of constants.
+-- No label occurs twice in the data of a program: class tables and prototypes, default values, texts and constants have different labels.
 use Rattle.std.proofs.Common.{◌≡◌, ℕ, ◌+◌, ◌^◌, ◌<◌, ◌≤◌, List, [], ◌∷◌, ◌++◌, length, map}
 use Rattle.std.proofs.Common.{flat_map, Bool, true, false, ◌&&◌, refl, ap, ◌∙◌, arith}
 use Rattle.std.specs.Prelude.{nat_eq, nat_lt, bytes_eq, codes}

@@ -1,4 +1,4 @@
--- The labels of a feature determine its class and its number there, and none of them occurs twice.
+-- The labels of a feature determine its class and its number in the class, and none of them occurs twice.
 use Rattle.std.proofs.Common.{◌≡◌, ℕ, ◌+◌, ◌^◌, ◌<◌, ◌≤◌, List, [], ◌++◌, length, get_or, Option}
 use Rattle.std.proofs.Common.{Some, None, Bool, true, false, ◌&&◌, refl, ap, ◌∙◌, arith}
 use Rattle.std.specs.Prelude.{ℤ, pos, nat_eq, bytes_eq, codes, unwrap_or, slice_get, IfSome, if◌then◌else◌, ◌*◌}

@@ -1,4 +1,4 @@
--- The labels of lines are those of their parts: of lines joined, of a first line, and of the lines made for each element of a list.
+-- The labels of joined lines are those of both parts joined. Similar lemmas hold for a first line, and for the lines made for each element of a list.
 use Rattle.std.proofs.Common.{◌≡◌, ℕ, zero, suc, ◌+◌, ◌<◌, ◌≤◌, List, [], ◌∷◌, ◌++◌, length, get_or, flat_map}
 use Rattle.std.proofs.Common.{Contains, Bool, true, false, not, cond, sym, ap, ◌∙◌, subst, arith, inl, inr}
 use Rattle.std.specs.Prelude.{nat_lt}

@@ -1,4 +1,4 @@
--- The labels of the run-time routines, in their order; each is there.
+-- The labels of the run-time routines, in their order, are `routine_names`, and each of them labels a line of the routines.
 use Rattle.std.proofs.Common.{◌≡◌, List, [], ◌∷◌, Contains, refl, sym, subst}
 use Rattle.mips_isa.specs.Lines.{Name}
 use Rattle.mips_isa.specs.Assembly.{start_name}

@@ -1,4 +1,4 @@
--- Lemmas on the labels of lines that all differ: the labels of the lines so far are different from those that follow.
+-- If all labels of some lines differ, the labels of the lines so far are different from the labels of the lines that follow.
 use Rattle.std.proofs.Common.{◌≡◌, ◌≢◌, List, [], ◌∷◌, ◌++◌, refl, sym, ◌∙◌, Bool, true, false}
 use Rattle.std.specs.Prelude.{bytes_eq, Contains}
 use Rattle.std.specs.List.{AllByRecursion}

@@ -1,5 +1,4 @@
--- The labels that a program has: of its text those of the routines, of the initializers and of the methods; of its data those of what the
--- layout and the constants are made of.
+-- Each label that the code may use is in the program: the text has those of routines, initializers and methods, the data those of the layout and the constants.
 use Rattle.std.proofs.Common.{◌≡◌, ℕ, zero, suc, ◌+◌, ◌<◌, List, [], ◌∷◌, ◌++◌, length, flat_map, Contains, Bool, true, false, subst, arith}
 use Rattle.std.specs.Prelude.{pos, negsuc, map, ◌*◌, slice_get, nat_lt, if◌then◌else◌}
 use Rattle.cool_syntax.specs.declared.file_tree.Feature.{Feature}

@@ -1,4 +1,4 @@
--- The numbers that code takes from a class table are below 2 ^ 15: offsets of slots, tags, and the number of tags of a class and those below it.
+-- The numbers that code takes from a class table are below 2 ^ 15: offsets of slots, class tags, and the number of tags of a class and its descendants.
 use Rattle.std.proofs.Common.{◌≡◌, ℕ, ◌+◌, ◌-◌, ◌*◌, ◌<◌, ◌≤◌, List, [], ◌∷◌, ◌++◌, length, map, flat_map}
 use Rattle.std.proofs.Common.{Option, Some, None, Bool, false, refl, ap, ◌∙◌, arith, length-append, ⊎_elim}
 use Rattle.std.specs.Prelude.{bytes_eq, nat_lt, position, unwrap_or, if◌then◌else◌}

@@ -1,4 +1,4 @@
--- The positions of a class's methods among its features: a method is at the position where the search for its name ends.
+-- Searching a class's features for the name of one of its methods finds the position of this method.
 use Rattle.std.proofs.Common.{◌≡◌, ◌≢◌, ℕ, suc, ◌+◌, List, [], ◌∷◌, ◌++◌, length, Some, Bool, true}
 use Rattle.std.proofs.Common.{false, refl, sym, ap, ◌∙◌, subst, arith, append_assoc, length-append}
 use Rattle.std.specs.Prelude.{bytes_eq, slice_get, if◌then◌else◌}

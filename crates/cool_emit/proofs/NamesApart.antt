@@ -1,4 +1,4 @@
--- The bytes of a label determine its sort, its class and its numbers, so different labels have different names.
+-- The bytes of a label determine its sort, its class and its numbers, so labels of different things have different names.
 use Rattle.std.proofs.Common.{◌≡◌, ℕ, zero, suc, ◌-◌, ◌^◌, ◌<◌, List, [], ◌∷◌, ◌++◌, length}
 use Rattle.std.proofs.Common.{take, get_or, Bool, true, false, ◌&&◌, ◌||◌, refl, sym, ap}
 use Rattle.std.proofs.Common.{◌∙◌, arith, true≢false, decimal, All, length-append}

@@ -1,4 +1,4 @@
--- The type that a name means is one of the class table, and the method that a name means is one of a class of the table.
+-- A type name resolves to a type of the class table, and a method name to a method of a class of the table.
 use Rattle.std.proofs.Common.{◌≡◌, ℕ, ◌+◌, ◌<◌, ◌≤◌, List, [], ◌∷◌, map, length, Option, Some, None, Bool, true, false, arith}
 use Rattle.std.specs.Prelude.{bytes_eq, codes, if◌then◌else◌, option_map, unwrap_or, IfSome}
 use Rattle.std.proofs.lemmas.List.{length-map}

@@ -1,4 +1,5 @@
--- The names of classes are words, tell each class from the others, and are no basic names after the basic classes.
+-- The names of classes consist of letters, digits and underscores, are all different, and are not names of basic classes except those of the basic classes
+-- themselves.
 use Rattle.std.proofs.Common.{◌≡◌, ℕ, zero, suc, ◌<◌, ◌≤◌, List, [], ◌∷◌, length, map, get_or, get_or-take, Option}
 use Rattle.std.proofs.Common.{Some, None, Bool, true, false, ◌==◌, refl, sym, ap, ◌∙◌, arith, true≢false}
 use Rattle.std.specs.Prelude.{bytes_eq, if◌then◌else◌}

@@ -1,4 +1,4 @@
--- A part of a program adds no more constants than its weight.
+-- A part of a program adds no more constants than its weight, which bounds them by the size of the source.
 use Rattle.std.proofs.Common.{◌≡◌, ◌∙◌, ℕ, zero, suc, ◌+◌, ◌*◌, ◌≤◌, List, [], ◌∷◌, ◌++◌, length, take, get_or, ap, arith}
 use Rattle.mips_isa.specs.Lines.{Line}
 use Rattle.cool_syntax.specs.declared.file_tree.Feature.{Feature}

@@ -1,4 +1,4 @@
--- The result of assembling a program if memory runs out or the first pass finds a fault.
+-- The specified result of assembling a program, if memory runs out or the assembler's first pass finds an error, is that error.
 use Rattle.std.proofs.Common.{◌≡◌, sym, subst}
 use Rattle.std.specs.Prelude.{List, Result, Err}
 use Rattle.mips_isa.specs.declared.asm_fault.AsmError.{AsmError}

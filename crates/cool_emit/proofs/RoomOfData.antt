@@ -1,4 +1,4 @@
--- The data of a program fits: tables and prototypes by the limits of classes, constants by what the source holds.
+-- The data of a program fits into its segment: the class limits bound tables and prototypes, and the size of the source bounds constants.
 use Rattle.std.proofs.Common.{◌≡◌, ℕ, pos, ◌+◌, ◌*◌, ◌≤◌, ◌<◌, List, [], ◌∷◌, ◌++◌, length}
 use Rattle.std.proofs.Common.{map, flat_map, Bool as Truth, true, false, ◌||◌, refl, arith}
 use Rattle.std.proofs.lemmas.List.{length-map}

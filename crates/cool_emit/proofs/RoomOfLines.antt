@@ -1,4 +1,5 @@
--- The positions of text and of data that have room: each statement stands in its segment, and no segment is too large.
+-- The assembler never runs over the end of a segment: while a program's lines are assembled, each statement lies in its segment, if the lines are not larger
+-- than the segments.
 use Rattle.std.proofs.Common.{◌≡◌, ℕ, zero, suc, ◌+◌, ◌≤◌, List, [], ◌∷◌, refl, sym, ap, subst, arith, false, not, ◌&&◌}
 use Rattle.std.specs.Prelude.{nat_lt}
 use Rattle.std.proofs.lemmas.Bool.{or_from, le-ltb}

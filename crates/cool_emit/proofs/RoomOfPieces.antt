@@ -1,4 +1,4 @@
--- The space that pieces of code take: a word for each instruction, two for an address or a number, and one for a label.
+-- The space of pieces of code is bounded: one word for each instruction, two for loading an address or a number, and one for a label.
 use Rattle.std.proofs.Common.{◌≡◌, ℕ, ℤ, ◌+◌, ◌≤◌, List, [], ◌∷◌, ◌++◌, Option}
 use Rattle.std.proofs.Common.{Some, None, Bool as Truth, true, false, refl, arith}
 use Rattle.std.specs.Prelude.{if◌then◌else◌, nat_eq, nat_lt, codes}

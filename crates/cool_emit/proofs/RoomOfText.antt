@@ -1,4 +1,4 @@
--- The text of a program fits: the code of an expression takes at most 55 words for each of its nodes and branches, less 19.
+-- The text of a program fits into its segment: the code of an expression takes at most 55 words for each of its nodes and branches, less 19.
 use Rattle.std.proofs.Common.{◌≡◌, ℕ, zero, suc, pos, ◌+◌, ◌*◌, ◌≤◌, List, [], ◌∷◌, ◌++◌, length}
 use Rattle.std.proofs.Common.{flat_map, Option, Some, None, Bool as Truth, true, false, refl, arith}
 use Rattle.std.specs.Prelude.{if◌then◌else◌, nat_lt, codes}

@@ -1,4 +1,4 @@
--- All classes of a whole table stand below Object.
+-- In a complete class table, all classes inherit from Object, directly or through other classes.
 use Rattle.std.proofs.Common.{List}
 use Rattle.cool_classes.specs.Chains.{Class}
 use Rattle.cool_classes.specs.Tables.{IsWholeTable}

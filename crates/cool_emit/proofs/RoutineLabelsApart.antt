@@ -1,4 +1,4 @@
--- The labels of the run-time routines are different, and of another sort than those after them.
+-- The labels of the run-time routines are all different, and differ from all later labels of the program.
 use Rattle.std.proofs.Common.{◌≡◌, ◌≤◌, List, true, refl}
 use Rattle.std.specs.List.{list_all}
 use Rattle.mips_isa.specs.Lines.{Name}

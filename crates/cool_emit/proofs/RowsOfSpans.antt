@@ -1,4 +1,4 @@
--- The rows of code of a table are the spans of its program.
+-- The code rows of a program's debug information are, one for one, the address ranges of the program's expressions.
 use Rattle.std.proofs.Common.{◌≡◌, ◌∙◌, ℕ, ◌+◌, List, [], ◌∷◌, ◌++◌, length, flat_map, map, take, refl, sym, ap, ap₂, append-nil, Bool as Truth, true, false, arith}
 use Rattle.std.specs.Prelude.{Option, Some, None, nat_lt, if◌then◌else◌}
 use Rattle.std.specs.List.{AllByRecursion}

@@ -1,4 +1,4 @@
--- If a program is in the text of a machine, each row of its table of code gives the right addresses.
+-- If a program is in the text of a machine, each row of its debug information gives the correct addresses of code.
 use Rattle.std.proofs.Common.{◌≡◌, ◌∙◌, ℕ, suc, ◌+◌, ◌≤◌, ◌<◌, List, [], ◌∷◌, ◌++◌, length, flat_map, map, take, slice_get, refl, sym, ap, subst, append-nil, append_assoc, arith}
 use Rattle.std.specs.Prelude.{Option, Some, None, Contains}
 use Rattle.std.specs.List.{AllByRecursion}

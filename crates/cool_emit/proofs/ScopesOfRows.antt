@@ -1,4 +1,4 @@
--- The names in scope at each row of code of a feature are computed from the row before it.
+-- The names in scope at each code row of a feature's debug information can be computed from the preceding row.
 use Rattle.std.proofs.Common.{◌≡◌, ◌∙◌, ℕ, zero, suc, ◌+◌, ◌-◌, List, [], ◌∷◌, ◌++◌, length, flat_map, map, drop, refl, sym, ap, ap₂, subst, append_assoc, append-nil, arith}
 use Rattle.std.specs.Prelude.{codes, Option, Some, None, slice_get}
 use Rattle.std.specs.List.{AllByRecursion}

@@ -1,4 +1,5 @@
--- The sections of a program in order: their features and lines are those of the program, and the constants before each of them are few.
+-- The sections of a program (the routines, and the code of each initializer and method) have, in order, exactly its features and lines, and few constants
+-- precede each section.
 use Rattle.std.proofs.Common.{◌≡◌, ◌∙◌, ℕ, zero, suc, ◌+◌, ◌<◌, ◌≤◌, List, [], ◌∷◌, ◌++◌, length, flat_map, map, take, drop, get_or, slice_get, Some, ap, refl, sym, subst, arith, append_assoc, append-nil, length-append, inl, inr}
 use Rattle.std.specs.List.{AllByRecursion}
 use Rattle.std.proofs.lemmas.Grind.{flat_map-append}

@@ -1,4 +1,4 @@
--- The limits of a table, as the layout sees them: no class has more than 2,000 slots, or more than 2,000 attributes.
+-- In a class table within the limits, no class has more than 2,000 dispatch table entries, or more than 2,000 attributes.
 use Rattle.std.proofs.Common.{◌≤◌, ◌<◌, List, length}
 use Rattle.cool_classes.specs.declared.class_id.ClassId.{ClassId}
 use Rattle.cool_classes.specs.Chains.{Class}

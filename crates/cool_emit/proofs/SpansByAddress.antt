@@ -1,4 +1,4 @@
--- The spans of code by address are those by line, with the address of a line in place of its number.
+-- The address ranges of expressions computed from line numbers are the same as those computed from addresses.
 use Rattle.std.proofs.Common.{◌≡◌, ◌∙◌, ℕ, ◌+◌, List, [], ◌∷◌, ◌++◌, length, map as each, take, refl, sym, ap, ap₂, subst, Bool as Truth, true, false, arith}
 use Rattle.std.specs.Prelude.{if◌then◌else◌, codes, nat_lt, Option, Some, None}
 use Rattle.cool_syntax.specs.declared.file_tree.Feature.{Feature}

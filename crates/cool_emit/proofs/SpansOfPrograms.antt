@@ -1,4 +1,4 @@
--- In the text of a program each span is the code of its tree, in its class and its feature.
+-- In the text of a program, the address range of each expression contains exactly the expression's code, in the class and the feature that the range names.
 use Rattle.std.proofs.Common.{◌≡◌, ℕ, suc, ◌+◌, List, [], ◌∷◌, ◌++◌, length, flat_map, map, slice_get, Some, Bool as Truth, true, false, refl, sym, subst, append-nil, arith}
 use Rattle.std.specs.Prelude.{nat_lt, if◌then◌else◌, Contains}
 use Rattle.std.specs.List.{AllByRecursion}

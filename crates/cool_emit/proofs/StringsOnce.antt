@@ -1,5 +1,5 @@
--- The bytes of the strings of a program: each string is kept once, so the names of files count once each, and the others are string
--- constants of the source.
+-- The total length of the string constants of a program is at most that of the strings in its source plus that of the names of its files, since each string is
+-- stored only once.
 use Rattle.std.proofs.Common.{◌≡◌, ℕ, zero, suc, ◌+◌, ◌*◌, ◌≤◌, List, [], ◌∷◌, ◌++◌, length}
 use Rattle.std.proofs.Common.{get_or, flat_map, Option, Some, None, Bool, true, false, ◌||◌}
 use Rattle.std.proofs.Common.{◌⊎◌, inl, inr, refl, sym, ap, ◌∙◌, subst, arith, true≢false}

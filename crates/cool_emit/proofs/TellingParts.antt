@@ -1,4 +1,4 @@
--- Lemmas on the table of code: sizes and addresses of lines, and the rows of two parts of the code one after the other.
+-- Lemmas on the debug information: sizes and addresses of lines, and the rows of two consecutive parts of the code.
 use Rattle.std.proofs.Common.{◌≡◌, ◌∙◌, ℕ, zero, suc, ◌+◌, ◌*◌, ◌≤◌, ◌<◌, List, [], ◌∷◌, ◌++◌, length, flat_map, take, get_or, Bool, true, false, refl, sym, ap, ap₂, subst, append_assoc, append-nil, arith}
 use native.Mathlib.Numerals.{add-one}
 use Rattle.std.proofs.lemmas.Grind.{flat_map-append}

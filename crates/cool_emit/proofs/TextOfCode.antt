@@ -1,4 +1,5 @@
--- The code of an expression is lines of text, where its constants are known, its variables can be reached, and its labels are targets.
+-- The code of an expression consists of valid lines of text, if its constants are known, its variables are within the range of offsets, and its labels are
+-- targets.
 use Rattle.std.proofs.Common.{ℕ, ◌+◌, ◌<◌, ◌≤◌, List, [], ◌∷◌, ◌++◌, length, Bool, true, false, arith}
 use Rattle.std.specs.Prelude.{codes, nat_lt, if◌then◌else◌}
 use Rattle.std.specs.List.{AllByRecursion}

@@ -1,4 +1,4 @@
--- The code of features, of initializers and of classes is lines of text.
+-- The code of features, of initializers and of classes consists of valid lines of text, with registers, numbers and labels in range.
 use Rattle.std.proofs.Common.{◌≡◌, ℕ, ◌+◌, ◌<◌, ◌≤◌, pos, List, [], ◌∷◌, ◌++◌, length}
 use Rattle.std.proofs.Common.{flat_map, Option, Some, None, Bool, true, false, refl, arith}
 use Rattle.std.specs.Prelude.{nat_lt, if◌then◌else◌, IfSome}

@@ -1,5 +1,5 @@
--- The names that the code of expressions may use, and the pieces of code that contain no other expression's code: names, constants, new objects, operations
--- and calls.
+-- The pieces of code without subexpressions (names, constants, new objects, operations and calls) are valid lines of text, if each name that they use is a
+-- label.
 use Rattle.std.proofs.Common.{ℕ, zero, suc, ◌+◌, ◌-◌, ◌*◌, ◌<◌, List, [], ◌∷◌, ◌++◌, length, Some, None, Bool, true, false, arith}
 use Rattle.std.specs.Prelude.{bytes_eq, nat_eq, if◌then◌else◌, unwrap_or, Option, IfSome}
 use Rattle.std.specs.List.{AllByRecursion}

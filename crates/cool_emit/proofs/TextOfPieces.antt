@@ -1,5 +1,4 @@
--- The pieces of code are lines of text: each register is one of 32, each immediate has 16 bits, and each jump and each address names what
--- may be named.
+-- The pieces of code are valid lines of text: each register is one of 32, each immediate has 16 bits, and each jump and each address names a permitted label.
 use Rattle.std.proofs.Common.{ℕ, ◌<◌, List, arith}
 use Rattle.std.specs.Prelude.{ℤ}
 use Rattle.std.specs.List.{AllByRecursion}

@@ -1,4 +1,4 @@
--- The text of a program is lines of text: each jump goes to a label of the text, and each address is that of a label of the program.
+-- The text of a program consists of valid lines: each jump goes to a label of the text, and each address is that of a label of the program.
 use Rattle.std.proofs.Common.{◌≡◌, ℕ, List, [], ◌∷◌, ◌++◌}
 use Rattle.std.proofs.Common.{length, flat_map, Bool, true, false, refl, arith, Contains}
 use Rattle.std.specs.Prelude.{nat_eq, bytes_eq, if◌then◌else◌}

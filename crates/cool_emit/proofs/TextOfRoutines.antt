@@ -1,4 +1,4 @@
--- The routines of the run-time system are lines of text.
+-- The run-time routines are valid lines of text, if the labels to which they jump and the data that they use exist.
 use Rattle.std.proofs.Common.{arith}
 use Rattle.mips_isa.specs.Lines.{Name}
 use Rattle.cool_runtime.specs.Labels.{abort_text, bool_prototype, colon_text, concat_end, concat_first}

@@ -1,4 +1,4 @@
--- Lemmas on totals of numbers over a list.
+-- Lemmas on sums over a list: sums of joined lists, of mapped lists, and of functions that are nowhere greater.
 use Rattle.std.proofs.Common.{◌≡◌, ℕ, ◌+◌, ◌*◌, ◌≤◌, List, [], ◌∷◌, ◌++◌, length, flat_map, refl, arith}
 
 abbrev pub total : {X : Type 0} → (X → ℕ) → List X → ℕ

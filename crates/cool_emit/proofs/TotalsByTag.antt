@@ -1,4 +1,5 @@
--- Totals over the classes by tag: each class stands once in the preorder, so they are no more than those by number.
+-- A sum over the classes in the order of their tags is at most the sum over them by class number, since each class occurs once in the preorder of the
+-- inheritance tree.
 use Rattle.std.proofs.Common.{◌≡◌, ℕ, zero, suc, ◌+◌, ◌≤◌, ◌<◌, List, [], ◌∷◌, length, Bool, true, false, refl, ap, arith}
 use Rattle.std.specs.Prelude.{nat_eq}
 use Rattle.std.specs.List.{AllByRecursion}

@@ -1,4 +1,4 @@
--- `batches_of` divides the lines of a program into batches: one for each section of its text, and behind these one for its data.
+-- `batches_of` divides the assembly lines of a program into batches: one for each section of its text, and a last one for its data.
 use Rattle.std.specs.Prelude.{◌≡◌, ℕ, ◌+◌, ◌≤◌, List, [], ◌∷◌, ◌++◌, length, map, flat_map, take}
 use Rattle.mips_isa.specs.Assembly.{directive_line}
 use Rattle.mips_isa.specs.Lines.{Line, ToData, lines_of}

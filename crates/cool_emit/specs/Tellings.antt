@@ -1,4 +1,4 @@
--- Output of the debug table, part by part: the rows written so far, and the next address.
+-- `Tells` specifies one step of writing the debug information of a program: the rows appended for a piece of code, and the address after this code.
 use Rattle.std.specs.Prelude.{◌≡◌, ℕ, ◌+◌, List, [], ◌∷◌, ◌++◌, flat_map}
 use Rattle.mips_isa.specs.Lines.{Line}
 use Rattle.cool_classes.specs.declared.class_id.ClassId.{ClassId}

@@ -1,4 +1,4 @@
-//! The image of a whole program, which the two passes of the assembler make from batches of its lines.
+//! Builds the image of a whole program: generates its assembly lines in batches, and runs the two passes of the assembler over them.
 
 ghost use Rattle.std.specs.Prelude.{◌≡◌, ◌<◌, ◌≤◌, ◌^◌, ◌+◌, ◌∷◌, [], Some, length, map, slice_get, string_bytes, IfOk, OnOk, None};
 ghost use Rattle.mips_isa.specs.Assembly.{fault_of, image_of, directive_line, Assembles};

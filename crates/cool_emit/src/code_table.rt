@@ -1,4 +1,4 @@
-//! The table of code of a program: the addresses of its features and expressions, and the names in scope there.
+//! Writes the debug information of a program: the addresses of its features and expressions, and the names in scope there.
 
 ghost use Rattle.std.specs.Prelude.{◌≡◌, ◌+◌, ◌++◌, ◌<◌, ◌≤◌, ◌^◌, ◌∷◌, [], codes, flat_map, get_or, length, map, slice_get, string_bytes, take, IfOk, List, OnOk, Some};
 ghost use Rattle.std.specs.List.{AllByRecursion};

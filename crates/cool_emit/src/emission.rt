@@ -1,4 +1,4 @@
-//! The input of code generation (program, layout, file names), and code generation for each feature.
+//! The input of code generation (program, layout of its classes, file names), and code generation for each feature.
 
 ghost use Rattle.std.specs.Prelude.{◌≡◌, ◌++◌, ◌<◌, ◌^◌, [], ◌∷◌, length, slice_get, flat_map, OnOk, Some};
 ghost use Rattle.mips_isa.specs.Lines.{lines_of};

@@ -1,4 +1,4 @@
-//! The code of the initializers of classes: the call of the parent's initializer, and the initial values.
+//! Generates the code of class initializers: the call of the parent's initializer, and the initial values of the attributes.
 
 ghost use Rattle.std.specs.Prelude.{◌≡◌, ◌++◌, ◌<◌, ◌^◌, length, OnOk};
 ghost use Rattle.mips_isa.specs.Lines.{lines_of};

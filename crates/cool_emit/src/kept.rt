@@ -1,4 +1,4 @@
-//! The lines of the first batches of a program, which are kept so that the second pass need not make them again.
+//! Stores the assembly lines of the first batches of a program, so that the second pass of the assembler need not generate them again.
 
 ghost use Rattle.std.specs.Prelude.{◌≡◌, ◌≤◌, ◌<◌, ◌^◌, ◌-◌, List, Some, length, slice_get, OnOk};
 ghost use Rattle.mips_isa.specs.Lines as assembly;

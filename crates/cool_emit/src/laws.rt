@@ -1,4 +1,4 @@
-//! Theorems about the table of code.
+//! Laws about the debug information: its rows give the correct addresses of code, and are the address ranges of the program's expressions.
 
 ghost use Rattle.cool_emit.specs.RowsOfSpans.{RowsAreSpans, RowsOfFeatures, ScopesOfRows};
 ghost use Rattle.cool_emit.specs.StandingRows.{RowsStand};

@@ -1,4 +1,4 @@
-//! The assembly of a whole program, and its image.
+//! Generates the assembly of a whole program, and the image that the assembler makes of it.
 //!
 //! Input: a typed program, and the names of its files. Output: the lines, or the image that the assembler makes of them
 //! (`specs/Programs.antt`), or the table of its code (`specs/CodeTables.antt`, `specs/TableLines.antt`).

@@ -1,4 +1,4 @@
-//! The assembly of a whole program: its text, and then its data.
+//! Generates the assembly of a whole program: its text, and then its data.
 
 ghost use Rattle.std.specs.Prelude.{◌≡◌, ◌++◌, ◌∷◌, [], length, map, string_bytes, IfOk, OnOk};
 ghost use Rattle.mips_isa.specs.Assembly.{directive_line};

@@ -1,4 +1,4 @@
-//! The text of a row of the table of code: a class, a name, a feature or an expression.
+//! Writes a row of the debug information: a class, a name, a feature or an expression.
 
 ghost use Rattle.std.specs.Prelude.{◌≡◌, ◌++◌, ◌<◌, codes, length, IfOk};
 ghost use Rattle.std.specs.Option.{option_map};

@@ -1,4 +1,4 @@
-//! The sections of the text of a program, which are made one by one.
+//! Lists the sections of a program's text, which are generated one by one: the run-time routines, and each initializer and method.
 
 ghost use Rattle.std.specs.Prelude.{◌≡◌, ◌++◌, ◌∷◌, ◌<◌, ◌^◌, [], length, if◌then◌else◌, IfOk, OnOk};
 ghost use Rattle.mips_isa.specs.Lines.{lines_of};

@@ -1,4 +1,4 @@
--- Evaluating arguments or a dispatch never removes locations, output or identities from the state of the source (`After`), if calls do not.
+-- Evaluating arguments or a dispatch only appends to the output and only consumes input (`After`), if calls do the same.
 use Rattle.std.proofs.Common.{ℕ, List, [], ◌∷◌, Option, Some, None, refl}
 use Rattle.cool_syntax.specs.declared.place.Place.{Place}
 use Rattle.cool_syntax.specs.Tree.{Trees, Last, More}

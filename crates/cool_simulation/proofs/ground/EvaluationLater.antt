@@ -1,4 +1,4 @@
--- Evaluating an expression never removes locations, output or identities from the state of the source (`After`), if calls do not.
+-- Evaluating an expression only appends to the output and only consumes input (`After`), if calls do the same.
 use Rattle.std.proofs.Common.{ℕ, zero, suc, ℤ, ◌+ℤ◌, ◌-ℤ◌, ◌*ℤ◌, List, refl}
 use Rattle.std.specs.Prelude.{Option, Some, None, if◌then◌else◌, Bool as Truth, true, false, int_div, int_lt, int_le}
 use Rattle.cool_syntax.specs.declared.place.Place.{Place}

@@ -1,5 +1,5 @@
--- `build` cannot reach the arm of a fault: the lines of a program within the limits satisfy `AreSound` of `SoundLines.antt`.
--- Such lines assemble without a fault.
+-- `build` cannot reach the branch for an error of the assembler, because the lines of a program within the limits satisfy `AreSound`, and such lines assemble
+-- without error.
 use Rattle.std.proofs.Common.{◌≡◌, ◌∙◌, Some, None, Err, map, sym, subst}
 use Rattle.std.specs.Prelude.{string_bytes}
 use Rattle.mips_isa.specs.declared.asm_fault.AsmError.{AsmError}

@@ -1,4 +1,4 @@
--- `addresses` has so far the addresses of the lines that its loop has passed, and the address after them.
+-- In the loop of `addresses`, the result so far has the addresses of the lines passed, and the address after them.
 use Rattle.std.proofs.Common.{◌≡◌, ◌+◌, take}
 use Rattle.mips_isa.specs.Lines.{lines_of}
 use Rattle.cool_runtime.specs.Standing.{sizes}

@@ -1,4 +1,4 @@
--- `class_text` returns the row of a class and the rows of all its attributes: it passes the number of the attributes to `names_text`.
+-- `class_text` returns the rows of debug information for a class and all its attributes: it passes the number of the attributes to `names_text`.
 use Rattle.std.proofs.Common.{◌≡◌, ◌∙◌, ◌++◌, List, ℕ, length, flat_map, take, ap, ap₂, arith}
 use Rattle.std.specs.Prelude.{codes}
 use Rattle.cool_classes.specs.Chains.{Class, name_of}

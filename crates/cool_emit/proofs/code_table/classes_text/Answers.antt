@@ -1,4 +1,4 @@
--- `classes_text` returns the rows of the classes and their attributes; each step of its loop appends those of one class.
+-- `classes_text` returns the rows of debug information for the classes and their attributes; each step of its loop appends those of one class.
 use Rattle.std.proofs.Common.{◌≡◌, ◌∙◌, ◌+◌, ◌++◌, ◌∷◌, ℕ, List, [], length, flat_map, ap, ap₂, sym, arith, append-nil}
 use Rattle.std.proofs.lemmas.Grind.{flat_map-append}
 use Rattle.cool_classes.specs.Chains.{class_number}

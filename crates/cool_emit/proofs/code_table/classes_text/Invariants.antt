@@ -1,4 +1,4 @@
--- `classes_text` has so far the rows of the classes that its loop has passed.
+-- In the loop of `classes_text`, the result so far has the rows of debug information of the classes passed.
 use Rattle.std.proofs.Common.{◌≡◌, flat_map}
 use Rattle.cool_layout.specs.Preorder.{numbers_from}
 use Rattle.cool_emit.specs.CodeTables.{class_rows}

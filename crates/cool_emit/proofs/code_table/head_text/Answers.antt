@@ -1,5 +1,5 @@
--- `head_text` returns the row of a method and those of its formals, or the row of an initial value.
--- The formals are the latest names in scope, so `names_text` takes as many names as there are formals.
+-- `head_text` returns the row of debug information for a method and those of its formal parameters, or the row for an initial value. The formal parameters are
+-- the latest names in scope, so `names_text` takes as many names.
 use Rattle.std.proofs.Common.{◌≡◌, ◌∙◌, ◌≤◌, ◌++◌, ℕ, List, [], length, flat_map, take, ap, ap₂, subst, sym, refl, append-nil, arith}
 use Rattle.std.specs.Prelude.{codes, Option, Some, None, IfOk, is_some, map, true, false}
 use Rattle.std.proofs.lemmas.List.{length-append}

@@ -1,4 +1,5 @@
--- `names_text` returns the rows of the latest `count` names; each step of its loop appends the row of one name and removes the name.
+-- `names_text` returns the rows of debug information for the latest `count` names in scope; each step of its loop appends the row of one name and removes the
+-- name.
 use Rattle.std.proofs.Common.{◌≡◌, ◌∙◌, ◌+◌, ◌-◌, ◌≤◌, ◌<◌, ◌++◌, ◌∷◌, ℕ, suc, List, [], flat_map, length, take, ap, ap₂, sym, refl, append_assoc, arith}
 use Rattle.std.specs.Prelude.{codes}
 use Rattle.cool_codegen.specs.Variables.{Named}

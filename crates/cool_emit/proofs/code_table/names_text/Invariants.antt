@@ -1,4 +1,4 @@
--- The text that `names_text` has so far, with the rows of the names that are left, is the text of all `count` names.
+-- In the loop of `names_text`, the rows written so far, joined with those of the names that are left, are the rows of all `count` names.
 use Rattle.std.proofs.Common.{◌≡◌, ◌-◌, ◌≤◌, ◌++◌, flat_map, length, take}
 use Rattle.std.specs.Prelude.{codes}
 use Rattle.cool_emit.specs.TableLines.{named_text}

@@ -1,5 +1,5 @@
--- `table_of` returns `table_text` of `TableLines.antt`: the rows of the classes, and then those of their code.
--- Each step of its loop appends the rows of the code of one class.
+-- `table_of` returns `table_text`, the debug information of a program: the rows of the classes, and then those of their code. Each step of its loop appends the
+-- rows of the code of one class.
 use Rattle.std.proofs.Common.{◌≡◌, ◌∙◌, ℕ, ◌+◌, ◌++◌, ◌<◌, length, flat_map, ap, arith}
 use Rattle.mips_isa.specs.Lines.{lines_of}
 use Rattle.mips_isa.specs.declared.address_map.TheConstants.{TEXT_START}

@@ -1,4 +1,4 @@
--- `table_of` has so far the rows of all classes and those of the code of the classes that its loop has passed.
+-- In the loop of `table_of`, the result so far has the rows of all classes, and those of the code of the classes passed.
 use Rattle.std.proofs.Common.{◌≡◌, ◌+◌, ◌++◌, flat_map, length}
 use Rattle.mips_isa.specs.declared.address_map.TheConstants.{TEXT_START}
 use Rattle.cool_runtime.specs.RoutineLines.{all_routine_lines}

@@ -1,4 +1,4 @@
--- `add_heap` appends `heap_lines` of `Programs.antt`: the label `heap_start`, and a word.
+-- `add_heap` appends the lines that mark the beginning of the heap (`heap_lines`): the label `heap_start`, and a word.
 use Rattle.std.proofs.Common.{[], ◌∷◌, map, ap, ◌∙◌}
 use Rattle.mips_isa.specs.Lines.{WordItem, item_of}
 use Rattle.cool_runtime.specs.LinesOfData.{words}

@@ -1,5 +1,5 @@
--- `add_text` appends the text of a program; each step of its loop appends one section.
--- The constants stay fewer than 2 ^ 30, as `add_section` requires, because the sections before name few.
+-- `add_text` appends the text of a program; each step of its loop appends one section. The constants stay fewer than 2 ^ 30, as `add_section` requires, because
+-- the preceding sections use few.
 use Rattle.std.proofs.Common.{◌≡◌, ◌∙◌, ◌+◌, ◌<◌, ◌++◌, ◌∷◌, List, [], length, flat_map, take, get_or, ap, sym, subst, arith, append-nil}
 use Rattle.std.proofs.lemmas.Grind.{flat_map-append}
 use Rattle.mips_isa.specs.Lines.{lines_of}

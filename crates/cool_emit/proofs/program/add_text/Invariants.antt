@@ -1,4 +1,4 @@
--- `add_text` has so far appended the code of the sections that its loop has passed.
+-- In the loop of `add_text`, the code of the sections passed so far is appended.
 use Rattle.std.proofs.Common.{flat_map, take}
 use Rattle.mips_isa.specs.Lines.{lines_of}
 use Rattle.cool_emit.specs.Additions.{Adds, files_of}

@@ -1,5 +1,5 @@
--- `lines` returns `program_lines` of `Programs.antt`: the text and the data, with the constants that all features name.
--- The lines satisfy `AreSound` of `SoundLines.antt`, because the program is within the limits.
+-- `lines` returns the assembly lines of a whole program (`program_lines`): text and data, with the constants that all features use. The lines satisfy
+-- `AreSound`, the condition for assembling, because the program is within the limits.
 use Rattle.std.proofs.Common.{◌≡◌, ◌∙◌, ◌++◌, ◌∷◌, List, map, ap}
 use Rattle.std.specs.Prelude.{string_bytes}
 use Rattle.mips_isa.specs.Assembly.{directive_line}

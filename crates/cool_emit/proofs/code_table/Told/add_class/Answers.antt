@@ -1,5 +1,5 @@
--- `Told::add_class` appends the rows of a class: first those of its initializer, then those of its methods.
--- Their addresses stay below 2 ^ 32, as both calls require, because the code of the whole class ends below it.
+-- `Told::add_class` appends the debug information of a class: first the rows of its initializer, then those of its methods. Their addresses stay below 2 ^ 32,
+-- because the code of the class ends below it.
 use Rattle.std.proofs.Common.{◌≡◌, ◌+◌, ◌^◌, ◌<◌, ◌++◌, flat_map, arith}
 use Rattle.std.proofs.lemmas.Result.{on_ok_weaker}
 use Rattle.cool_runtime.specs.Standing.{sizes}

@@ -1,4 +1,4 @@
--- `Told::add_feature` appends to the table of code the rows of a feature and of its expressions. It computes their addresses from the sizes of the lines that
+-- `Told::add_feature` appends the debug information of a feature and its expressions. It computes their addresses from the sizes of the lines that
 -- `feature_code` returns for an empty table of constants. These sizes are the same for every table of constants, so they are the addresses in the program.
 use Rattle.std.proofs.Common.{◌≡◌, ◌∙◌, ℕ, ◌+◌, ◌^◌, ◌≤◌, ◌<◌, ◌++◌, List, length, flat_map, map, get_or, refl, ap, ap₂, sym, subst, arith}
 use Rattle.std.specs.List.{AllByRecursion}

@@ -1,5 +1,5 @@
--- `Told::add_features` appends the rows of the features of a class that belong to a part.
--- Each step of its loop looks at one feature and appends its rows if it belongs to the part.
+-- `Told::add_features` appends the debug information of those features of a class that belong to a part (the attributes, or the methods). Each step of its loop
+-- handles one feature.
 use Rattle.std.proofs.Common.{◌≡◌, ◌∙◌, ◌+◌, ◌^◌, ◌<◌, ◌≤◌, ◌++◌, ◌∷◌, List, [], length, flat_map, slice_get, Some, take, get_or, ap, sym, subst, arith}
 use Rattle.cool_syntax.specs.declared.file_tree.Feature.{Feature}
 use Rattle.cool_classes.specs.Chains.{Class, features_of}

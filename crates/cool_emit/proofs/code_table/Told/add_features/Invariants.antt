@@ -1,4 +1,4 @@
--- `Told::add_features` has so far appended the rows of the features that its loop has passed and that belong to the part.
+-- In the loop of `Told::add_features`, the debug information of the features passed so far, if they belong to the part (attributes or methods), is appended.
 use Rattle.std.proofs.Common.{take}
 use Rattle.cool_classes.specs.Chains.{features_of}
 use Rattle.cool_emit.specs.Tellings.{TellsFeatures}

@@ -1,5 +1,5 @@
--- `Told::add_initializer` appends the rows of the attributes of a class, at the addresses after the first lines of its initializer.
--- The initializer of a basic class has no rows.
+-- `Told::add_initializer` appends the debug information of a class's attributes, at the addresses after the first lines of its initializer. The initializer of
+-- a basic class has none.
 use Rattle.std.proofs.Common.{◌≡◌, ◌∙◌, ℕ, ◌+◌, ◌^◌, ◌≤◌, ◌<◌, ◌++◌, List, flat_map, Bool, true, false, refl, ap, arith}
 use Rattle.std.specs.Prelude.{nat_lt}
 use Rattle.std.proofs.lemmas.Bool.{ltb-true}

@@ -1,4 +1,4 @@
--- The text that `Told::add_spans` has so far, with the rows of the spans that are left, is the text with the rows of all spans.
+-- In the loop of `Told::add_spans`, the debug information written so far, joined with the rows of the expressions that are left, is that of all expressions.
 use Rattle.std.proofs.Common.{◌≡◌, ◌<◌, ◌++◌, drop, flat_map, get_or, length, map}
 use Rattle.std.specs.List.{AllByRecursion}
 use Rattle.cool_codegen.specs.Shown.{shown_of}

@@ -1,4 +1,5 @@
--- The address so far, with the sizes of the lines that are left, is the address after all lines; `Told::pass` does not change the text.
+-- In the loop of `Told::pass`, the address so far plus the sizes of the lines that are left is the address after all lines. The text of the debug information
+-- does not change.
 use Rattle.std.proofs.Common.{◌≡◌, ◌+◌, drop}
 use Rattle.mips_isa.specs.Lines.{lines_of}
 use Rattle.cool_runtime.specs.Standing.{sizes}

@@ -1,4 +1,4 @@
--- `Emission::add_class_sections` has so far the section of the initializer and those of the methods that its loop has passed.
+-- In the loop of `Emission::add_class_sections`, the result so far has the section of the class's initializer and those of the methods passed.
 use Rattle.std.proofs.Common.{◌≡◌, ◌++◌, ◌∷◌, map, take}
 use Rattle.cool_classes.specs.Chains.{features_of}
 use Rattle.cool_emit.specs.declared.section.Section.TheVariants.{Initializer, Method}

@@ -1,5 +1,5 @@
--- `Emission::add_features` appends the code of the features of a class that belong to a part; each step of its loop looks at one feature.
--- The constants stay fewer than 2 ^ 31, as `add_feature` requires, because the features name few.
+-- `Emission::add_features` appends the code of those features of a class that belong to a part (attributes or methods). The constants stay fewer than 2 ^ 31,
+-- as `add_feature` requires, because the features use few.
 use Rattle.std.proofs.Common.{◌≡◌, ◌∙◌, ◌<◌, ◌++◌, ◌∷◌, List, [], length, take, get_or, ap, sym, subst, arith}
 use Rattle.mips_isa.specs.Lines.{Line, lines_of}
 use Rattle.cool_syntax.specs.declared.file_tree.Feature.{Feature}

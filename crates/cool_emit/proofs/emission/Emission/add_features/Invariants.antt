@@ -1,4 +1,4 @@
--- `Emission::add_features` has so far appended the code of the features that its loop has passed and that belong to the part.
+-- In the loop of `Emission::add_features`, the code of the features passed so far, if they belong to the part (attributes or methods), is appended.
 use Rattle.std.proofs.Common.{flat_map, take}
 use Rattle.mips_isa.specs.Lines.{lines_of}
 use Rattle.cool_classes.specs.Chains.{features_of}

@@ -1,4 +1,5 @@
--- `Emission::add_section` appends `section_code` of `Sections.antt`: the section of a method has the code of the feature at its number.
+-- `Emission::add_section` appends the lines of a section of the text (`section_code`): the routines, an initializer, or a method, which has the code of the
+-- feature at its number.
 use Rattle.std.proofs.Common.{◌≡◌, ◌∙◌, ℕ, List, [], ◌∷◌, flat_map, slice_get, Some, ap, sym, subst, append-nil}
 use Rattle.std.specs.Prelude.{Result, OnOk}
 use Rattle.mips_isa.specs.Lines.{Line, lines_of}

@@ -1,5 +1,5 @@
--- `Emission::assemble` runs the two passes of the assembler over the lines of the program.
--- The second pass begins with all these lines left (`HasLeft`), because the first pass has taken all of them.
+-- `Emission::assemble` runs both passes of the assembler over the lines of the program. The second pass begins with all lines left (`HasLeft`), because the
+-- first pass has taken all of them.
 use Rattle.std.proofs.Common.{◌∙◌, Err, ap}
 use Rattle.std.proofs.lemmas.Result.{err_from_is_err_and}
 use Rattle.cool_emit.specs.Additions.{files_of}

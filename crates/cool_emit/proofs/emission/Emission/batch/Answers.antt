@@ -1,5 +1,5 @@
--- `Emission::batch` returns the batch at a number of `batches_of` of `Batches.antt`: the lines of a section, or those of the data.
--- The data comes after all sections, so all constants are then known.
+-- `Emission::batch` returns the lines of the batch with a given number: those of a section of the text, or those of the data, which is the last batch and needs
+-- all constants.
 use Rattle.std.proofs.Common.{◌≡◌, ◌∙◌, ◌+◌, ◌<◌, ◌≤◌, ◌∷◌, ℕ, List, Result, Ok, Err, OnOk, IfOk, Some, length, slice_get, get_or, ap, sym, subst, arith}
 use Rattle.std.proofs.lemmas.List.{get_or_default}
 use Rattle.std.proofs.lemmas.Result.{IfOk-weaker}

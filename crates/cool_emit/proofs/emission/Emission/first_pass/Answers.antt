@@ -1,5 +1,5 @@
--- Each step of the loop of `Emission::first_pass` makes one batch and gives it to the assembler and to `Kept::keep`.
--- After the last step the assembler has taken all lines of the program.
+-- Each step of the loop of `Emission::first_pass` generates one batch of lines, passes it to the assembler, and offers it to `Kept::keep`. After the last step
+-- the assembler has taken all lines of the program.
 use Rattle.std.proofs.Common.{◌∙◌, ◌≤◌, ◌++◌, length, take, ap, sym, subst, arith}
 use Rattle.mips_isa.specs.Lines.{lines_of, AreInRange}
 use Rattle.mips_asm.specs.FirstPasses.{HasTaken}

@@ -1,4 +1,5 @@
--- The first pass has so far taken the batches that the loop of `Emission::first_pass` has passed, and the first of them are kept.
+-- In the loop of `Emission::first_pass`, the assembler's first pass has taken the batches of lines passed so far, and the first of them are kept for the second
+-- pass.
 use Rattle.std.proofs.Common.{◌≤◌, length, take}
 use Rattle.mips_asm.specs.FirstPasses.{HasTaken}
 use Rattle.cool_emit.specs.Additions.{files_of}

@@ -1,4 +1,4 @@
--- `Emission::second_pass` gives the assembler the kept lines and then, step by step, each batch that was not kept.
+-- `Emission::second_pass` gives the assembler the lines kept from the first pass, and then generates each batch of lines that was not kept.
 use Rattle.std.proofs.Common.{◌∙◌, ◌+◌, ◌≤◌, ◌++◌, ℕ, List, [], length, drop, ap, sym, subst, arith, Err}
 use Rattle.std.proofs.lemmas.Result.{err_from_is_err_and}
 use Rattle.mips_isa.specs.Lines.{lines_of, AreInRange}

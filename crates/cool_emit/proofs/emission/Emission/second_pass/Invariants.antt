@@ -1,4 +1,4 @@
--- The batches that the loop of `Emission::second_pass` has not passed are left for the second pass (`HasLeft`).
+-- In the loop of `Emission::second_pass`, the batches of lines not yet passed are still left for the assembler's second pass (`HasLeft`).
 use Rattle.std.proofs.Common.{drop}
 use Rattle.mips_asm.specs.SecondPasses.{HasLeft}
 use Rattle.cool_emit.specs.Additions.{files_of}

@@ -1,4 +1,4 @@
--- `Emission::sections` returns `sections_in` of `Sections.antt`: the routines, and then the sections of each class in order.
+-- `Emission::sections` returns the sections of a program's text (`sections_in`): the run-time routines, and then the sections of each class in order.
 use Rattle.std.proofs.Common.{◌≡◌, ◌∙◌, ◌+◌, ◌++◌, ◌∷◌, ℕ, List, [], length, flat_map, ap, sym, arith, append-nil}
 use Rattle.std.proofs.lemmas.Grind.{flat_map-append}
 use Rattle.cool_classes.specs.Chains.{class_number}

@@ -1,4 +1,4 @@
--- `Emission::sections` has so far the section of the routines and those of the classes that its loop has passed.
+-- In the loop of `Emission::sections`, the result so far has the section of the run-time routines, and those of the classes passed.
 use Rattle.std.proofs.Common.{◌≡◌, ◌∷◌, flat_map}
 use Rattle.cool_layout.specs.Preorder.{numbers_from}
 use Rattle.cool_emit.specs.declared.section.Section.TheVariants.{Routines}

@@ -1,4 +1,4 @@
--- `Kept::keep` appends the lines of the batch that follows the kept ones, so the kept lines are those of the first batches (`AreFirst`).
+-- `Kept::keep` stores the lines of a batch only if those of all earlier batches are stored, so the stored lines are those of the first batches (`AreFirst`).
 use Rattle.std.proofs.Common.{◌≡◌, ◌∙◌, ◌++◌, ℕ, List, take, ap, sym, arith}
 use Rattle.std.proofs.lemmas.Option.{slice_get_within}
 use Rattle.mips_isa.specs.Lines.{Line, lines_of}
