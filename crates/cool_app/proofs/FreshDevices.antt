@@ -1,4 +1,4 @@
--- Promises over devices that did nothing before hold from the start.
+-- The postconditions of `cool` also hold, from the start of the process, for files, input and outputs that were not used before the call.
 use Rattle.std.proofs.Common.{◌≡◌, ℕ, List, [], subst, sym}
 use Rattle.std.specs.Prelude.{Option, Some, None}
 use Rattle.cool_ports.specs.Answers.{Past, Leaves, nothing_yet}

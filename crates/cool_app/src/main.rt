@@ -1,4 +1,4 @@
-//! The program: `cool` over the arguments of the command line, the system's files and the standard streams.
+//! The `main` function: calls `cool` with the arguments of the command line, the system's files and the standard streams, and exits with its status.
 //!
 //! `perform` is all that it does where the words are text; its clauses are the promise over the process itself.
 #![tactic(auto)]

@@ -1,4 +1,4 @@
-//! The action of a process: one call over the system's files and streams, which are new.
+//! Runs one call of `cool` with files, input and outputs that were not used before, and returns its status and their final states.
 
 ghost use Rattle.std.specs.Prelude.{◌≡◌, ℕ, List, Some, []};
 ghost use Rattle.cool_ports.specs.Answers.{Leaves, nothing_yet};

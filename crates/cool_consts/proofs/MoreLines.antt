@@ -1,4 +1,4 @@
--- The lines of a list of constants with one more at its end are those of the list, and then those of that constant.
+-- The data lines of a list of constants with one more at its end are those of the list, followed by those of this constant.
 use Rattle.std.proofs.Common.{◌≡◌, ℕ, suc, ◌+◌, List, [], ◌∷◌, ◌++◌, length, sym, ap, ◌∙◌, arith, append_assoc}
 use Rattle.std.proofs.lemmas.List.{append-nil}
 use Rattle.mips_isa.specs.Lines.{Line}

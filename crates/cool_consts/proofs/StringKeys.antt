@@ -1,4 +1,4 @@
--- A string has the same number among the keys of a set as its bytes have among the bytes of these keys.
+-- A string has the same index among the keys of a set as its bytes have among the bytes of these keys.
 use Rattle.std.proofs.Common.{◌≡◌, ℕ, ◌+◌, List, [], ◌∷◌, ◌++◌, map, Bool, true, false, cond, not, ◌||◌, refl, ap, ◌∙◌}
 use Rattle.std.specs.Prelude.{bytes_eq, if◌then◌else◌}
 use Rattle.std.specs.List.{position_or_len, list_any}

@@ -1,4 +1,4 @@
--- `Constants` are the integers and the strings of a program, each numbered in the order of their first use.
+-- `Constants` are the integer and string constants of a program, each numbered in the order of their first use.
 use Rattle.std.specs.Prelude.{◌≡◌, ℕ, List, [], ◌∷◌, ◌++◌, nat_eq, bytes_eq, codes, if◌then◌else◌, refl}
 use Rattle.std.specs.List.{position_or_len, list_any}
 

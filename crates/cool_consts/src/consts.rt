@@ -1,4 +1,4 @@
-//! Constants, numbered in the order of their first use.
+//! Collects the integer and string constants of a program, and numbers each in the order of its first use.
 
 ghost use Rattle.std.specs.Prelude.{◌≡◌, ◌<◌, ◌^◌, ◌-◌, ◌++◌, [], length, OnOk, OnErr, IfOk};
 ghost use Rattle.std.specs.List.{AllByRecursion};

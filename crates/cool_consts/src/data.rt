@@ -1,4 +1,4 @@
-//! The objects of constants in the data.
+//! Generates the data lines of constants: their Int and String objects, with labels.
 
 ghost use Rattle.std.specs.Prelude.{◌≡◌, ℕ, ◌++◌, List, map, codes, decimal, OnOk, IfOk};
 ghost use Rattle.std.specs.Global.{Vec as Bytes};

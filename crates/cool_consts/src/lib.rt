@@ -1,4 +1,4 @@
-//! The constants of a program: numbers in the order of first use, and their lines in the data.
+//! Collects the integer and string constants of a program, numbered in the order of first use, and generates the data lines of their objects.
 //!
 //! Input: the integers and strings of expressions, as they are used. Output: a number for each, and the lines of their
 //! objects (`specs/Constants.antt`, `specs/LinesOfConstants.antt`).

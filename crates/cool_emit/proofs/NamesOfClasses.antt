@@ -1,5 +1,5 @@
--- The names of classes consist of letters, digits and underscores, are all different, and are not names of basic classes except those of the basic classes
--- themselves.
+-- The names of classes begin with a capital letter and consist of letters, digits and underscores, are all different, and are not names of basic classes except
+-- those of the basic classes themselves.
 use Rattle.std.proofs.Common.{◌≡◌, ℕ, zero, suc, ◌<◌, ◌≤◌, List, [], ◌∷◌, length, map, get_or, get_or-take, Option}
 use Rattle.std.proofs.Common.{Some, None, Bool, true, false, ◌==◌, refl, sym, ap, ◌∙◌, arith, true≢false}
 use Rattle.std.specs.Prelude.{bytes_eq, if◌then◌else◌}

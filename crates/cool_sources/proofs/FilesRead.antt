@@ -1,4 +1,5 @@
--- The files of names are read one after another, until one is refused.
+-- Lemmas for the loop that reads source files one after another: the effect of one more file on contents and total size, and of a refused file, which ends the
+-- loop.
 use Rattle.std.proofs.Common.{◌≡◌, ◌≢◌, ℕ, suc, ◌+◌, ◌-◌, ◌<◌, List, [], ◌∷◌, ◌++◌, length, map, get_or, take, drop, refl, sym, ◌∙◌, ap, subst, append_assoc, take-append-drop, arith}
 use Rattle.std.specs.Prelude.{Option, string_bytes, String}
 use Rattle.cool_ports.specs.Counts.{Rose}

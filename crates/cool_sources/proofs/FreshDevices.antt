@@ -1,4 +1,4 @@
--- The end of a call whose devices did nothing before.
+-- The specification of a call holds, in the simpler form for unused files and outputs, if nothing was requested or written before the call.
 use Rattle.std.proofs.Common.{◌≡◌, ℕ, List, [], subst}
 use Rattle.std.specs.Prelude.{Option, Some, None}
 use Rattle.cool_ports.specs.ShelfFiles.{FileMap}

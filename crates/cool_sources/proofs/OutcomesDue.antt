@@ -1,4 +1,5 @@
--- The outcome that is due for the files of these names.
+-- Lemmas on the specified outcome of a call (status, output text and message on standard error) for its file names: bad arguments, too many files, a refused
+-- file, or an answer.
 use Rattle.std.proofs.Common.{◌≡◌, ◌≢◌, ◌<◌, ◌≤◌, inl, inr, ℕ, List, [], ◌∷◌, length, map, Bool, true, false, refl, sym, ◌∙◌, ap, subst, arith}
 use Rattle.std.specs.Prelude.{◌==◌, string_bytes, String}
 use Rattle.std.specs.Global.{Global}

@@ -1,4 +1,4 @@
--- An outcome that was written, whole or in part.
+-- If a call writes the text and the message of its outcome, or a write of these fails, its status and outputs are as specified.
 use Rattle.std.proofs.Common.{◌≡◌, ◌≢◌, ◌<◌, ◌⊎◌, inl, inr, ℕ, List, [], ◌∷◌, ◌++◌, length, refl, sym, ◌∙◌, ap, subst, append-nil, arith}
 use Rattle.std.specs.Prelude.{◌==◌, Bool, true, false}
 use Rattle.cool_ports.specs.Counts.{Rose}

@@ -1,4 +1,4 @@
--- The meaning of the arguments: which of two forms is requested, and the names of files.
+-- The meaning of the command-line arguments: which of two forms of output is requested, and the names of the files.
 use Rattle.std.specs.Prelude.{◌≡◌, refl, ℕ, List, [], ◌∷◌, map, string_bytes, codes, Bool, true, false, Option, Some, None, nat_eq, if◌then◌else◌}
 use Rattle.std.specs.List.{list_any}
 use Rattle.std.specs.Str.{bytes_eq}

@@ -1,4 +1,4 @@
--- The use of a call's devices, a shelf and a sink: the state of each before the call and after it.
+-- The use of files and outputs by a call: the state of a file system (shelf) and of an output stream (sink) before the call and after it.
 use Rattle.std.specs.Prelude.{◌≡◌, ℕ, List, ◌++◌, Option}
 use Rattle.cool_ports.specs.ShelfFiles.{FileMap, AreHeld}
 

@@ -1,4 +1,4 @@
--- The end of a call: the outcome that is due is written, or a write of it fails.
+-- `HasEnded` says how a call ends: the specified outcome (output text, message and status) is written, or a write of it fails and the status says so.
 use Rattle.std.specs.Prelude.{◌≡◌, ℕ, List, [], ◌∷◌, ◌++◌, Option, Some, None}
 use Rattle.cool_ports.specs.Counts.{Rose}
 use Rattle.cool_ports.specs.SinkBytes.{appended, GotPrefix}

@@ -1,4 +1,5 @@
--- The notes of a program on its command line and on files that it did not read, in the words of `cool`.
+-- The texts of a program's messages on invalid arguments and on files that it could not read. They are the same as those of `cool`, with the program's own
+-- name.
 use Rattle.std.specs.Prelude.{◌≡◌, refl, ℕ, List, [], ◌++◌, codes}
 use Rattle.cool_ports.specs.declared.shelf.ShelfFault.{ShelfFault}
 use Rattle.cool_ports.specs.declared.shelf.ShelfFault.TheVariants.{Missing, Failed, TooLarge, Memory}

@@ -1,4 +1,4 @@
--- The reasons why the shelf refuses a file, and the file at which reading stops.
+-- The reasons why a source file cannot be read (missing, unreadable, too large), and the file at which reading stops.
 use Rattle.std.specs.Prelude.{◌≡◌, ℕ, ◌-◌, ◌<◌, ◌≤◌, List, [], ◌∷◌, ◌++◌, length, Option}
 use Rattle.cool_faults.specs.Files.{total}
 use Rattle.cool_ports.specs.Counts.{Rose}

@@ -1,4 +1,4 @@
--- The exit statuses of calls, as for `cool`.
+-- The exit statuses of programs on source files, as numbers; they are the same as those of `cool`.
 use Rattle.std.specs.Prelude.{ℕ}
 use Rattle.cool_sources.specs.declared.status.Status.{Status}
 use Rattle.cool_sources.specs.declared.status.Status.TheVariants.{Done, Refused, Usage, WriteFault, Memory, FileFault}

@@ -1,4 +1,5 @@
--- The task of a program on source files, and the outcome that is due for files of these names: the text for the output, the note and the status.
+-- The specification of a program's task on source files, and the outcome that it demands for given file names: the text for the output, the message on standard
+-- error, and the status.
 use Rattle.std.specs.Prelude.{◌≡◌, ◌≢◌, ℕ, ◌<◌, ◌≤◌, ◌⊎◌, List, [], Bool, true, false, length}
 use Rattle.cool_syntax.specs.declared.TheConstants.{MOST_FILES, MOST_SOURCE_BYTES}
 use Rattle.cool_ports.specs.declared.shelf.ShelfFault.{ShelfFault}

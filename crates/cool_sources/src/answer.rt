@@ -1,4 +1,4 @@
-//! The answer of a task.
+//! The answer of a task on source files: whether they have errors, the text for the output, and the message.
 
 /// The answer of a task on source files.
 #[derive(Drop)]

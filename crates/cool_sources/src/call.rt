@@ -1,4 +1,4 @@
-//! A call: a task on the files of these names, from their names to the output, the note and the status.
+//! Performs a task on source files, from their names to the output text, the message on standard error and the exit status.
 
 ghost use Rattle.std.specs.Prelude.{◌≡◌, ◌≢◌, ◌≤◌, [], length, map, string_bytes, IfOk};
 ghost use Rattle.cool_syntax.specs.declared.TheConstants.{MOST_FILES};

@@ -1,4 +1,4 @@
-//! The command line of a program that writes one of two forms: the requested form, and the names of files.
+//! Parses the command line of a program with two forms of output: the requested form, and the names of the files.
 
 ghost use Rattle.std.specs.Prelude.{◌≡◌};
 ghost use Rattle.std.specs.List.{list_any};

@@ -1,4 +1,4 @@
-//! The notes of a program.
+//! The texts of a program's messages on invalid arguments and on files that could not be read.
 
 ghost use Rattle.std.specs.Prelude.{◌≡◌, ◌++◌, ℕ, List, codes, IfOk};
 ghost use Rattle.cool_faults.specs.Shown.{shown};

@@ -1,4 +1,4 @@
-//! A call over the system: a runtime's files, and std's writers.
+//! Performs a task on source files of the operating system, with standard output and standard error.
 
 ghost use Rattle.std.specs.Prelude.{[], map, string_bytes};
 ghost use Rattle.cool_ports.specs.ShelfFiles.{AskedFront};

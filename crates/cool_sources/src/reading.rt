@@ -1,4 +1,4 @@
-//! Reading the source files of a call.
+//! Reads the source files of a call by their names, up to a limit of bytes.
 
 ghost use Rattle.std.specs.Prelude.{◌≡◌, ◌≤◌, ◌<◌, ◌^◌, length, map, string_bytes, IfOk, IfErr, OnOk, OnErr};
 ghost use Rattle.std.specs.List.{AllByRecursion};

@@ -1,4 +1,4 @@
-//! The exit status of a call, and its note.
+//! The exit statuses of a call, and the function that writes a message and returns a status.
 
 ghost use Rattle.std.specs.Prelude.{◌≡◌, ◌≢◌, ◌<◌, ◌≤◌, ◌⊎◌, [], ◌∷◌, ◌++◌, length};
 ghost use Rattle.cool_ports.specs.Counts.{Rose};

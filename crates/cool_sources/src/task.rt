@@ -1,4 +1,4 @@
-//! The trait of a program's task on source files.
+//! The trait of a program's task: its answer on source files.
 
 ghost use Rattle.std.specs.Prelude.{◌≡◌, ◌<◌, ◌≤◌, length, map, string_bytes, IfOk, true};
 ghost use Rattle.cool_syntax.specs.declared.TheConstants.{MOST_FILES, MOST_SOURCE_BYTES};

@@ -1,5 +1,5 @@
-//! Tests of calls over objects in memory of which one call fails: the bytes written then, and the number of puts, for which clauses of `cool` specify only
-//! notes and images. The cases of `conformance/` show everything else that commands do.
+//! Tests of calls over files, input and outputs in memory, of which one operation fails: the bytes written until then, and the number of writes, where the
+//! clauses of `cool` specify only messages and images. The cases of `conformance/` show everything else that commands do.
 
 use cool_driver::cool;
 use cool_ports::{MemShelf, MemSink, MemSource};

@@ -1,5 +1,5 @@
-//! Tests of the crates below, for cases that no clause covers: devices that fail at a given call, and calls that no command makes, once each with enough
-//! memory. They are a crate of their own, since a crate that has tests is proved once more with them.
+//! Tests of the crates below, for cases that no clause covers: files, inputs or outputs that fail at a given call, and library calls that no command makes,
+//! once each with enough memory. They are a crate of their own, since a crate that has tests is proved once more with them.
 #![tactic(auto)]
 
 #[cfg(test)]

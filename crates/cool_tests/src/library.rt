@@ -1,5 +1,5 @@
-//! Tests of calls that no command makes, once each: trees that are taken out of a pool, copied, compared and written as tokens; values for the nodes of
-//! trees; and the lines of one routine.
+//! Tests of library calls that no command makes, once each: syntax trees that are taken out of an arena, copied, compared and written as tokens; values for the
+//! nodes of trees; and the lines of one run-time routine.
 
 ghost use Rattle.std.specs.Prelude.{◌≡◌, ◌<◌, [], length};
 

@@ -1,4 +1,5 @@
-//! Tests of printing the lines of a text that was read, which no command does. The cases of `conformance/` show the syntax of texts and their faults.
+//! Tests of printing the lines of a parsed assembly text, which no command does. The cases of `conformance/` show the syntax of assembly texts and their
+//! errors.
 
 use mips_text::{print_asm, read_asm};
 use std::test::Fail;

@@ -1,4 +1,4 @@
--- `perform` calls `cool_over_system` with new devices: its clauses are those of `cool_over_system` for devices that did nothing before.
+-- `perform` satisfies its postconditions because it calls `cool_over_system` with new files, input and outputs, which were not used before.
 use Rattle.cool_app.proofs.FreshDevices.{fresh_ends, fresh_ran}
 use Rattle.cool_app.proofs.process.perform.Goals as goal
 

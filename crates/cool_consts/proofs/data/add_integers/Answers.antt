@@ -1,4 +1,4 @@
--- `add_integers` appends the objects of integers, numbered from 0; each step of its loop appends one object.
+-- `add_integers` appends the data lines of integer constants, which are Int objects numbered from 0; each step of its loop appends one object.
 use Rattle.std.proofs.Common.{◌≡◌, ℕ, ◌+◌, ◌<◌, List, ◌++◌, length, take, get_or, sym, ap, ◌∙◌, arith, append_assoc}
 use Rattle.std.proofs.lemmas.List.{take_more, length-take-le}
 use Rattle.mips_isa.specs.Lines.{Name, Line, lines_of}

@@ -1,4 +1,4 @@
--- `add_integers` has so far appended the objects of the integers that its loop has passed.
+-- In the loop of `add_integers`, the Int objects of the integer constants passed so far are appended.
 use Rattle.std.proofs.Common.{◌≡◌, ◌++◌, take}
 use Rattle.mips_isa.specs.Lines.{lines_of}
 use Rattle.cool_consts.specs.LinesOfConstants.{integers_lines}

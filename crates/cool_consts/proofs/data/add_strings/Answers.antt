@@ -1,4 +1,5 @@
--- `add_strings` appends the objects of strings and of their lengths, numbered from 0; each step of its loop appends those of one string.
+-- `add_strings` appends the data lines of string constants, which are String objects numbered from 0, each after the Int of its length; each step of its loop
+-- appends one of both.
 use Rattle.std.proofs.Common.{◌≡◌, ℕ, ◌+◌, ◌<◌, List, [], ◌∷◌, ◌++◌, length, take, sym, ap, ◌∙◌, arith, append_assoc}
 use Rattle.std.specs.Global.{Vec}
 use Rattle.std.proofs.lemmas.List.{take_more, length-take-le, length-map, map_push}

@@ -1,4 +1,4 @@
--- `add_strings` has so far appended the objects of the strings that its loop has passed, and of their lengths.
+-- In the loop of `add_strings`, the String objects of the constants passed so far are appended, each after the Int of its length.
 use Rattle.std.proofs.Common.{◌≡◌, ◌++◌, take}
 use Rattle.mips_isa.specs.Lines.{lines_of}
 use Rattle.cool_consts.specs.LinesOfConstants.{strings_lines}

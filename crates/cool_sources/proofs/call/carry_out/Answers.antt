@@ -1,4 +1,4 @@
--- The text was written, and then the note; or a write of the text failed.
+-- `carry_out` writes the output text and then the message, or returns the status of a failed write, as the specification of a call's end demands.
 use Rattle.std.proofs.Common.{refl}
 use Rattle.cool_sources.proofs.OutcomesWritten.{done_cut, done_whole, got_nothing}
 use Rattle.cool_sources.specs.Devices.{sink_use}

@@ -1,4 +1,5 @@
--- There is no call, or there are too many files, or the outcome is that of few files.
+-- `due_outcome` returns the specified outcome: a message if the arguments are invalid or there are too many files, and otherwise the result of
+-- `outcome_of_few`.
 use Rattle.std.proofs.Common.{◌∙◌, ap, inl, inr, map, refl, sym}
 use Rattle.std.specs.Prelude.{string_bytes}
 use Rattle.cool_sources.specs.Devices.{shelf_use}

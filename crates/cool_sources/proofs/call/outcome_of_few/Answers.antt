@@ -1,4 +1,4 @@
--- The files were read, and there is an answer; or a file was refused.
+-- `outcome_of_few` returns the answer of the task if all files were read, and otherwise a message about the file that was refused.
 use Rattle.std.proofs.Common.{◌∙◌, ℕ, List, ap, map, refl, subst}
 use Rattle.std.specs.Prelude.{string_bytes}
 use Rattle.std.specs.Global.{Vec}

@@ -1,4 +1,4 @@
--- There is no note, or it was written, or its write failed.
+-- `tell_note` writes the message if there is one, and returns the given status, or that of a failed write.
 use Rattle.std.proofs.Common.{refl}
 use Rattle.cool_sources.proofs.OutcomesWritten.{no_bytes, some_bytes, told_none, told_some}
 use Rattle.cool_sources.specs.Devices.{sink_use}

@@ -1,4 +1,4 @@
--- In the loop of `has_option`, one of all words is an option exactly if one of the words that are left is.
+-- In the loop of `has_option`, one of all arguments is an option exactly if one of the arguments not yet tested is.
 use Rattle.std.proofs.Common.{◌≡◌, drop}
 use Rattle.std.specs.List.{list_any}
 use Rattle.cool_sources.specs.CommandLine.{is_option, words_of}

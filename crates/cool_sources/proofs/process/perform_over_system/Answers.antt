@@ -1,4 +1,4 @@
--- The call ended as `perform_task` says, with devices that did nothing before.
+-- `perform_over_system` satisfies the specification of a call because it calls `perform_task` with new files and outputs, which were not used before.
 use Rattle.std.proofs.Common.{refl}
 use Rattle.cool_sources.proofs.FreshDevices.{ended_fresh, is_fresh_shelf, is_fresh_sink}
 use Rattle.cool_sources.proofs.process.perform_over_system.Goals as goal

@@ -1,5 +1,5 @@
--- `Consts::string` returns the number of a string and adds the string to the set if it is new.
--- The set holds vectors, and the proof passes from these to the lists of their bytes.
+-- `Consts::string` returns the number of a string constant, and adds the string to the set if it is new. The set holds vectors, and the proof passes from these
+-- to the lists of their bytes.
 use Rattle.std.proofs.Common.{ap, ◌∙◌}
 use Rattle.cool_consts.specs.Constants.{Constants, with_string, string_number}
 use Rattle.cool_consts.proofs.StringKeys.{bytes_of, number_shown, used_shown}
