@@ -1,4 +1,5 @@
--- A call has the effects of the command that its arguments request. If they request none, or memory runs out while they are parsed, it reports this.
+-- A call has the effects of the command that its arguments request. If they request none, or if memory runs out while they are parsed, it ends as specified for
+-- these cases.
 use Rattle.std.proofs.Common.{◌≡◌, None, Option, Some, [], arith, inl, inr, refl, ℕ}
 use Rattle.cool_ports.proofs.AskedNames.{asked_none}
 use Rattle.cool_words.specs.Plans.{Asked}

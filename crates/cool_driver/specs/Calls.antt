@@ -1,5 +1,5 @@
--- `Call` describes one call of `cool`: its arguments, the files that it read, the bytes that it wrote, and the rest of its input. A note is a message on
--- standard error; a shelf gives files by name, and a sink takes bytes.
+-- `Call` describes one call of `cool`: its arguments, the files that it read, the bytes that it wrote, and the rest of its input. In names here, a note is a
+-- message on standard error, a shelf is a file system, and a sink is an output stream.
 use Rattle.std.specs.Prelude.{◌≡◌, ◌≢◌, ℕ, ◌<◌, ◌≤◌, List, [], Option, Some}
 use Rattle.cool_ports.specs.{Counts.{last_count, Rose}, ShelfFiles.{FileMap}, SinkBytes.{appended, GotPrefix}}
 use Rattle.cool_ports.specs.declared.shelf.Shelf as shelf

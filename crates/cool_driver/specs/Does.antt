@@ -1,4 +1,4 @@
--- `Doing` is the specification of a command: the files that it asks for, whether it reads the input, and its promise about the call and the status.
+-- `Doing` is the specification of a command: the files that it reads, whether it reads the input, and its postcondition on the call and the exit status.
 -- `DoesUnless` states the effects of a command on files, input and outputs.
 use Rattle.std.specs.Prelude.{◌≡◌, ℕ, Bool, false, List, Option, IfSome}
 use Rattle.cool_ports.specs.{Answers.{Leaves}, ShelfFiles.{AskedFront}, Taking.{Took}}

@@ -1,4 +1,5 @@
--- `Ends` says how a call of `cool` ends: its status agrees with the failures of its files, input and outputs, and the promise of the requested command holds.
+-- `Ends` says how a call of `cool` ends: its status agrees with the failures of its files, input and outputs, and the postcondition of the requested command
+-- holds.
 use Rattle.std.specs.Prelude.{◌≡◌, ℕ, Option, None}
 use Rattle.cool_words.specs.Plans.{Asked}
 use Rattle.cool_driver.specs.{CommandLine.{asked_for, doing_of}, Calls.{Call}, Does.{EndsUnless}}

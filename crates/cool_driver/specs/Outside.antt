@@ -1,4 +1,4 @@
--- `Outside` is the state of the files (a shelf), the input (a source) and the two outputs (sinks) that a call uses, at one point, as contracts see it.
+-- `Outside` is the state, at one point, of all that a call uses: the file system (shelf), the input stream (source) and the two output streams (sinks).
 use Rattle.std.specs.Prelude.{ℕ, List, Option}
 use Rattle.cool_ports.specs.{Answers.{Past}, ShelfFiles.{FileMap}}
 use Rattle.cool_ports.specs.declared.shelf.Shelf as shelf

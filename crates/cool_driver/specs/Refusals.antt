@@ -1,5 +1,5 @@
--- A `Refusal` is the reason why a command stops before its work: a status with the lines of a note (a message on standard error), or out of memory. The
--- definitions say which refusals are correct for given files.
+-- A `Refusal` is the reason why a command stops before its work: an exit status with a message on standard error, or out of memory. The definitions say which
+-- refusals are correct for given files.
 use Rattle.std.specs.Prelude.{◌≡◌, ℕ, List, [], ◌∷◌, ◌++◌, map}
 use Rattle.cool_faults.specs.{declared.fault.Fault.{Fault}, Texts.{fault_line}, Verdicts.{IsRefused}}
 use Rattle.cool_syntax.specs.declared.TheConstants.{MOST_SOURCE_BYTES}

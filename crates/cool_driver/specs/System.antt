@@ -1,5 +1,5 @@
--- `RunsAsSource` is the theorem about `run` for the files, input and outputs of the operating system, whose contents contracts cannot see. It is stated by
--- the bytes that they gave and took.
+-- `RunsAsSource` is the main theorem about `run` for the files, input and outputs of the operating system. It is stated by the bytes that these gave and took,
+-- since contracts cannot see their contents.
 use Rattle.std.specs.Prelude.{◌≡◌, ◌≢◌, ℕ, List, [], Option, Some, None}
 use Rattle.cool_classes.specs.Chains.{Class}
 use Rattle.cool_faults.specs.Verdicts.{IsAccepted}

@@ -1,5 +1,5 @@
--- The writing of notes (messages on standard error): `note_of` joins lines, `fault_note` is the note for a file that was not read, and `Noted` says that a
--- note was written or that the write failed.
+-- The specification of messages on standard error: `note_of` joins lines, `fault_note` is the message for a file that was not read, and `Noted` says that a
+-- message was written or that the write failed.
 use Rattle.std.specs.{Prelude.{◌≡◌, ◌≢◌, ℕ, ◌==◌, ◌⊎◌, Bool, true, false, List, [], ◌∷◌, ◌++◌, Option, Some, None}, List.{concat, AllByRecursion}, Global.{Vec}}
 use Rattle.cool_ports.specs.declared.shelf.ShelfFault.{ShelfFault}
 use Rattle.cool_ports.specs.declared.shelf.ShelfFault.TheVariants as faults

@@ -1,4 +1,4 @@
--- Lemmas on lines that are a part of a text after a given number of lines.
+-- Lemmas on assembly lines that are a consecutive part of a text and begin after a given number of its lines.
 use Rattle.std.proofs.Common.{◌≡◌, ◌∙◌, ℕ, ◌+◌, ◌≤◌, List, ◌++◌, length, take, sym, ap, append_assoc, arith}
 use Rattle.std.proofs.lemmas.List.{length-append}
 use Rattle.mips_isa.specs.Lines.{Line}

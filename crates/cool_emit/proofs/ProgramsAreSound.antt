@@ -1,4 +1,4 @@
--- The lines of a program within the limits satisfy `AreSound`, so they assemble without a fault.
+-- The lines of a program within the limits satisfy `AreSound` (registers, numbers and labels are valid), so they assemble without error.
 use Rattle.std.proofs.Common.{◌≡◌, ℕ, List, ◌∷◌, drop, length, map, refl, subst, sym}
 use Rattle.std.specs.Prelude.{String, string_bytes}
 use Rattle.std.specs.Global.{Global}

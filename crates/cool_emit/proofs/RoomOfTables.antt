@@ -1,4 +1,4 @@
--- The addresses of the code of a program are below 2 ^ 32, and so are those of each part of it.
+-- The addresses of the code of a program are below 2 ^ 32, and so are those of each feature and class.
 use Rattle.std.proofs.Common.{◌≡◌, ◌∙◌, ℕ, zero, suc, ◌+◌, ◌-◌, ◌*◌, ◌^◌, ◌<◌, ◌≤◌, List, [], ◌∷◌, ◌++◌, length, flat_map, take, drop, get_or, Bool, true, false, refl, sym, ap, subst, append-nil, arith}
 use Rattle.std.specs.Prelude.{nat_lt, if◌then◌else◌}
 use Rattle.std.proofs.lemmas.Grind.{flat_map-append}

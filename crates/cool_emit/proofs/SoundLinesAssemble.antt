@@ -1,4 +1,4 @@
--- Lines that satisfy `AreSound` assemble without a fault; their numbers are in range, and their count is limited.
+-- Assembly lines that satisfy `AreSound` (registers, numbers and labels are valid) assemble without error.
 use Rattle.std.proofs.Common.{◌≡◌, ℕ, zero, suc, ◌+◌, ◌*◌, ◌<◌, ◌≤◌, List, [], ◌∷◌, ◌++◌, length, refl, sym, ap, ◌∙◌}
 use Rattle.std.proofs.Common.{subst, arith, Bool, true, false, not, ◌||◌, ◌&&◌, Option, Some, None, length-append}
 use Rattle.std.specs.Prelude.{if◌then◌else◌, Contains, bytes_eq, is_some}

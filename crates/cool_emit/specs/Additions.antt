@@ -1,4 +1,4 @@
--- `Adds` says which lines and constants a part of a program adds to those emitted before it.
+-- `Adds` says which assembly lines and constants a part of a program adds to those emitted before it.
 use Rattle.std.specs.Prelude.{◌≡◌, ℕ, List, ◌++◌, flat_map, map, string_bytes, Bool, true, false}
 use Rattle.cool_syntax.specs.declared.file_tree.Feature.{Feature}
 use Rattle.cool_syntax.specs.declared.file_tree.Feature.TheVariants.{Attribute, Method}

@@ -1,5 +1,5 @@
--- `AreSound` gives a condition under which lines of assembly, text and then data, assemble without a fault. It is stated line by line, so that it can be
--- shown for the parts of a program separately.
+-- `AreSound` gives a condition under which lines of assembly, text and then data, assemble without error. It is stated line by line, so that it can be shown
+-- for the parts of a program separately.
 use Rattle.std.specs.Prelude.{◌≡◌, ℕ, suc, zero, ◌+◌, ◌<◌, ◌≤◌, List, [], ◌∷◌, ◌++◌, flat_map, Contains}
 use Rattle.std.specs.List.{AllByRecursion}
 use Rattle.mips_isa.specs.declared.address_map.TheConstants.{MOST_DATA_BYTES}

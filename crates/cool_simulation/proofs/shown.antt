@@ -1,4 +1,4 @@
--- Proofs of `Shown`: from the beginning of an expression, the machine reaches the beginning of each expression that evaluation begins.
+-- Proofs that the machine reaches the code of each expression that evaluation begins, with the correct values of all names in scope (`Shown`).
 pub mod AllCalls
 pub mod Arguments
 pub mod Blocks

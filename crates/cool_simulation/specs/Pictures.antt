@@ -1,4 +1,5 @@
--- `Pictures` is the simulation relation between machine memory and a state of the source: where objects and variables are, and which words may change.
+-- `Pictures` is the simulation relation between machine memory and a state of the source: it says at which addresses objects and variables are, and which words
+-- may change.
 use Rattle.std.specs.Prelude.{◌≡◌, ℕ, ◌+◌, ◌*◌, ◌/◌, ◌%◌, ◌<◌, ◌≤◌, ◌⊎◌, Bool as Truth, true, false, List, [], length, get_or, slice_get, Some}
 use Rattle.mips_isa.specs.declared.address_map.TheConstants.{HEAP_START, STACK_END}
 use Rattle.mips_isa.specs.Bytes.{Bytes, word}

@@ -1,5 +1,5 @@
--- `IsQuietAt` says that, in the code of an expression, no instruction between its subexpressions' codes or after them is at a watched address. If no
--- subexpression comes first, only the first word of the code may be watched.
+-- `IsQuietAt` says that, in the code of an expression, no instruction between its subexpressions' codes or after them has a marked address (one at which the
+-- proof watches the machine). If no subexpression comes first, only the first word of the code may be marked.
 use Rattle.std.specs.Prelude.{◌≡◌, ℕ, ◌+◌, ◌-◌, ◌%◌, ◌<◌, ◌≤◌, List, [], ◌∷◌, codes, Bool as Truth, false, Some, IfSome, flat_map, Contains}
 use Rattle.cool_syntax.specs.Tree.{Tree, Trees, Last, More, Without, With, tree_size}
 use Rattle.cool_syntax.specs.Tree as trees

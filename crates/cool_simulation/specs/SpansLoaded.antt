@@ -1,4 +1,4 @@
--- The code of each expression of a loaded program is at the address that its span gives, counted from the label of its method or of its initializer.
+-- In a loaded program, the code of each expression is at its recorded address range (span), counted from the label of its method or of its initializer.
 use Rattle.std.specs.Prelude.{◌≡◌, ℕ, ◌<◌, ◌≤◌, length, slice_get, Some, Contains}
 use Rattle.cool_syntax.specs.declared.file_tree.Feature.TheVariants.{Method}
 use Rattle.cool_syntax.specs.declared.file_tree.MethodDef.{MethodDef}

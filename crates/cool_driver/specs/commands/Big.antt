@@ -1,5 +1,5 @@
--- The promise of `big`: its line of output gives the sizes and the outcome of a generated program of a given number, compiled and run within the usual limits
--- on empty input.
+-- The postcondition of `big`: its line of output gives the sizes and the outcome of a generated program of a given number, compiled and run within the usual
+-- limits on empty input.
 use Rattle.std.specs.{Prelude.{◌≡◌, ℕ, ◌+◌, ◌<◌, ◌≤◌, List, [], ◌∷◌, ◌++◌, length, codes, decimal, refl, None, false}, Fmt.{digits}}
 use Rattle.cool_big.specs.BigPrograms.{big_text}
 use Rattle.cool_classes.specs.Chains.{Class}

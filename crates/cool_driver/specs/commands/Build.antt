@@ -1,5 +1,5 @@
--- The promise of `asm` and `build`: they write the assembly lines, or the image, of a correct compilation of the program in their files, or a note with the
--- reason why there is none.
+-- The postcondition of `asm` and `build`: they write the assembly lines, or the image, of a correct compilation of the program in their files, or a message
+-- with the reason why there is none.
 use Rattle.std.specs.Prelude.{◌≡◌, ℕ, List, [], Some, false}
 use Rattle.cool_syntax.specs.declared.TheConstants.{MOST_SOURCE_BYTES}
 use Rattle.cool_classes.specs.Chains.{Class}

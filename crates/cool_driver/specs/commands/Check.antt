@@ -1,4 +1,4 @@
--- The promise of `check`: status 0 and no note if its files are an accepted program, or else a note with the reason why they are none.
+-- The postcondition of `check`: exit status 0 and no message if its files are an accepted program, or else a message with the reason why they are not.
 use Rattle.std.specs.Prelude.{◌≡◌, ◌≢◌, ℕ, List, [], Some, false}
 use Rattle.cool_syntax.specs.declared.TheConstants.{MOST_SOURCE_BYTES}
 use Rattle.cool_classes.specs.Chains.{Class}

@@ -1,5 +1,5 @@
--- The promise of `debug`: it runs the image of the program in its files, within the limits, with the notes that its script requests, or writes a note with
--- the reason why not.
+-- The postcondition of `debug`: it runs the image of the program in its files, within the limits, with the debugger's messages that its script requests, or
+-- writes a message with the reason why not.
 use Rattle.std.specs.Prelude.{◌≡◌, ◌≢◌, ℕ, ◌<◌, ◌≤◌, ◌⊎◌, List, [], ◌∷◌, ◌++◌, length, Some, None, Ok, Err, true}
 use Rattle.cool_syntax.specs.declared.TheConstants.{MOST_FILES, MOST_SOURCE_BYTES}
 use Rattle.cool_classes.specs.Chains.{Class}

@@ -1,5 +1,5 @@
--- The promise of `session`: it reads commands from the input and writes their replies to the output, and ends with the status and the note for the end of the
--- session.
+-- The postcondition of `session`: it reads commands from the input and writes their replies to the output, and ends with the exit status and the message for
+-- the end of the session.
 use Rattle.std.specs.{Prelude.{◌≡◌, ◌⊎◌, ℕ, List, [], Result, Ok, Err, None, true}, List.{concat}}
 use Rattle.cool_session.specs.{declared.ending.Ending.{Ending}, declared.ending.Ending.TheVariants.{Over, BadCommand, EndsInFile, TooLarge}}
 use Rattle.cool_session.specs.{declared.ending.Interruption.{Interruption}, declared.ending.Interruption.TheVariants.{Memory}, Conversations.{Conversed}}

@@ -1,4 +1,4 @@
--- The promise of a call whose arguments request no command: it writes a message about the usage to standard error.
+-- The postcondition of a call whose arguments request no command: it writes a message about the usage to standard error.
 use Rattle.std.specs.Prelude.{◌≡◌, ℕ, List, [], None, false}
 use Rattle.cool_driver.specs.{Calls.{Request, Call, UnlessCutShort}, Comes.{Comes, NoPieces}, Does.{Doing}, Notes.{usage_note}, Statuses.{USAGE}}
 

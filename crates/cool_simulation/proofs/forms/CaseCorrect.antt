@@ -1,4 +1,5 @@
--- The code of a case expression simulates its evaluation.
+-- The code generated for a case expression simulates its evaluation: unless a limit stops it, the machine reaches the value, state or error that the semantics
+-- gives.
 use Rattle.std.proofs.Common.{◌≡◌, ℕ, ◌+◌, ◌*◌, ◌<◌, ◌≤◌, List, [], ◌++◌, length, get_or, Option, Some, None, ap, sym, refl, subst, arith, inl, inr, ◌∷◌}
 use Rattle.std.specs.Prelude.{Contains}
 use Rattle.std.specs.List.{AllByRecursion}

@@ -1,4 +1,4 @@
--- Facts about the branches of a case, needed for its simulation: their types, the constants that their code uses, and that the code of each body simulates the
+-- The branches of a case satisfy what its simulation needs: their types are known, their constants are in the program, and the code of each body simulates the
 -- body.
 use Rattle.std.proofs.Common.{◌≡◌, ℕ, ◌+◌, ◌<◌, ◌≤◌, List, [], ◌∷◌, length, ap, sym, ◌∙◌, subst, arith}
 use Rattle.std.specs.List.{AllByRecursion}

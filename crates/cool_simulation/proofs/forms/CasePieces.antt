@@ -1,5 +1,5 @@
 -- The code of a case stands in the text as consecutive pieces: the code of its value, the tests of void and of class tags, the branches, and the error exits.
--- The tests and exits are not watched.
+-- No expression begins in the tests and exits.
 use Rattle.std.proofs.Common.{◌≡◌, ℕ, ◌+◌, List, [], ◌++◌, map as each, ap, sym, refl, subst, arith}
 use Rattle.std.specs.Prelude.{Contains, codes}
 use Rattle.std.proofs.lemmas.List.Elements.{Contains-append_right}

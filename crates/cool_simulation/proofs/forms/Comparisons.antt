@@ -1,4 +1,5 @@
--- The code of `<` and `<=` simulates their evaluation.
+-- The code generated for `<` and `<=` simulates their evaluation: unless a limit stops it, the machine reaches the value, state or error that the semantics
+-- gives.
 use Rattle.std.proofs.Common.{◌≡◌, ℕ, ◌+◌, ◌-◌, ◌≤◌, ℤ, pos, negsuc, List, ◌++◌, refl, sym, ap, ◌∙◌, subst, arith, not, inl, inr}
 use Rattle.std.specs.Prelude.{Bool as Truth, true, false, nat_lt, int_lt, int_le}
 use Rattle.mips_isa.specs.Bytes.{Bytes, word}

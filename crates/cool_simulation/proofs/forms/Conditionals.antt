@@ -1,4 +1,4 @@
--- The code of `if` simulates its evaluation.
+-- The code generated for `if` simulates its evaluation: unless a limit stops it, the machine reaches the value, state or error that the semantics gives.
 use Rattle.std.proofs.Common.{◌≡◌, ℕ, ◌+◌, ◌-◌, ◌*◌, List, ◌++◌, inl, inr, refl, ◌∙◌, subst, arith}
 use Rattle.std.specs.Prelude.{Bool as Truth, true, false, codes, if◌then◌else◌}
 use Rattle.std.proofs.lemmas.List.Elements.{Contains-append_left, Contains-append_right}

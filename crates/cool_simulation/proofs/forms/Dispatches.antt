@@ -1,4 +1,5 @@
--- The code of dispatch and of static dispatch simulates their evaluation.
+-- The code generated for dispatch and of static dispatch simulates their evaluation: unless a limit stops it, the machine reaches the value, state or error
+-- that the semantics gives.
 use Rattle.std.proofs.Common.{◌≡◌, ℕ, ◌+◌, ◌-◌, ◌*◌, ◌<◌, ◌≤◌, List, [], ◌∷◌, ◌++◌, length, get_or, map as each, Option, Some, refl, sym, ap, ◌∙◌, subst, arith, inr}
 use Rattle.std.specs.Prelude.{ℤ, Contains, pos, unwrap_or}
 use Rattle.std.proofs.lemmas.List.Elements.{Contains-append_left, Contains-append_right}

@@ -1,4 +1,4 @@
--- The code of `=` simulates its evaluation.
+-- The code generated for `=` simulates its evaluation: unless a limit stops it, the machine reaches the value, state or error that the semantics gives.
 use Rattle.std.proofs.Common.{◌≡◌, ℕ, ◌+◌, ◌-◌, ◌*◌, ◌≤◌, ◌⊎◌, inl, inr, List, ◌++◌, length, refl, sym, ap, ◌∙◌, subst, arith}
 use Rattle.std.specs.Prelude.{Bool as Truth, true, false}
 use Rattle.mips_isa.specs.declared.address_map.TheConstants.{HEAP_START}

@@ -1,4 +1,4 @@
--- The code of `let` simulates its evaluation.
+-- The code generated for `let` simulates its evaluation: unless a limit stops it, the machine reaches the value, state or error that the semantics gives.
 use Rattle.std.proofs.Common.{◌≡◌, ℕ, ◌+◌, ◌-◌, ◌*◌, ◌%◌, ◌≤◌, List, [], ◌∷◌, ◌++◌, length, refl, sym, subst, arith, inl, inr}
 use Rattle.mips_isa.specs.Bytes.{Bytes, set_word}
 use Rattle.mips_isa.specs.Calls.{State as Machine}

@@ -1,4 +1,4 @@
--- The code of `while` simulates its evaluation.
+-- The code generated for `while` simulates its evaluation: unless a limit stops it, the machine reaches the value, state or error that the semantics gives.
 use Rattle.std.proofs.Common.{◌≡◌, ℕ, zero, suc, ◌+◌, ◌-◌, ◌*◌, ◌≤◌, List, ◌++◌, refl, ap, ◌∙◌, subst, arith, inl, inr}
 use Rattle.std.specs.Prelude.{Bool as Truth, true, false, codes, if◌then◌else◌, Contains}
 use Rattle.mips_isa.specs.Bytes.{Bytes}

@@ -1,4 +1,5 @@
--- The code of `~` (the negative of a number) simulates its evaluation.
+-- The code generated for `~` (the negative of a number) simulates its evaluation: unless a limit stops it, the machine reaches the value, state or error that
+-- the semantics gives.
 use Rattle.std.proofs.Common.{◌≡◌, ℕ, ◌+◌, ◌-◌, ◌*◌, ◌<◌, ℤ, neg_ℤ, List, [], ◌++◌, get_or, refl, subst, arith, inr}
 use Rattle.std.specs.Prelude.{true, false, Contains, codes}
 use Rattle.mips_isa.specs.Machine.{wrap}

@@ -1,4 +1,5 @@
--- The code of `new` simulates its evaluation for each class, including the basic classes.
+-- The code generated for `new` simulates its evaluation for each class, including the basic ones: the machine reaches the new object, state or error that the
+-- semantics gives.
 use Rattle.std.proofs.Common.{◌≡◌, ◌≢◌, ℕ, ◌+◌, ◌-◌, ◌*◌, ◌≤◌, List, Option, Some, Bool as Truth, ap, sym, ◌∙◌, refl, subst, arith, inl, inr}
 use Rattle.std.specs.Prelude.{if◌then◌else◌}
 use Rattle.cool_syntax.specs.declared.place.Place.{Place}

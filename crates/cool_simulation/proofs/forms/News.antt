@@ -1,4 +1,5 @@
--- The code of `new` simulates its evaluation, whether the type is a class or SELF_TYPE.
+-- The code generated for `new` simulates its evaluation for a class and for SELF_TYPE: unless a limit stops it, the machine reaches the object, state or error
+-- that the semantics gives.
 use Rattle.std.proofs.Common.{ℕ, zero, suc, ◌+◌, ◌-◌, ◌*◌, ◌<◌, ◌≤◌, List, length, Some, sym, ◌∙◌, subst, arith, ◌++◌, ap, refl}
 use Rattle.mips_isa.specs.Bytes.{Bytes}
 use Rattle.mips_isa.specs.Calls.{State as Machine}

@@ -1,4 +1,5 @@
--- The code of `+`, `-`, `*`, `/` and `~` on numbers simulates their evaluation.
+-- The code generated for `+`, `-`, `*`, `/` and `~` on numbers simulates their evaluation: unless a limit stops it, the machine reaches the value, state or
+-- error that the semantics gives.
 use Rattle.std.proofs.Common.{◌≡◌, ℕ, ◌+◌, ◌-◌, ◌*◌, ◌%◌, ◌<◌, ◌≤◌, ℤ, pos, ◌+ℤ◌, ◌-ℤ◌, ◌*ℤ◌, List, [], ◌++◌, get_or, refl, sym, ap, subst, arith}
 use Rattle.std.specs.Prelude.{Bool as Truth, true, false, Contains, codes, nat_lt, int_div, if◌then◌else◌}
 use Rattle.mips_isa.specs.Bytes.{Bytes}

@@ -1,4 +1,5 @@
--- The result of a run-time routine, stated as the result of the method call that it implements.
+-- If a run-time routine yields the value that the semantics gives to a basic method's call, and changes only new heap memory and the console, it simulates this
+-- call.
 use Rattle.std.proofs.Common.{◌≡◌, ℕ, ◌+◌, ◌-◌, ◌*◌, ◌≤◌, List, length, refl, subst, arith}
 use Rattle.mips_isa.specs.declared.address_map.TheConstants.{HEAP_START}
 use Rattle.mips_isa.specs.Bytes.{Bytes}

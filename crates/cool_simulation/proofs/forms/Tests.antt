@@ -1,4 +1,5 @@
--- The code of `not` and of `isvoid` simulates their evaluation.
+-- The code generated for `not` and of `isvoid` simulates their evaluation: unless a limit stops it, the machine reaches the value, state or error that the
+-- semantics gives.
 use Rattle.std.proofs.Common.{◌≡◌, ℕ, ◌+◌, ◌*◌, ◌≤◌, List, ◌++◌, refl, ap, subst, arith, not, inr}
 use Rattle.std.specs.Prelude.{Bool as Truth, true, false, nat_lt}
 use Rattle.mips_isa.specs.Bytes.{Bytes}

@@ -1,5 +1,5 @@
--- A pushed value can become the value of a new variable: its address is the pushed word until the end of the body, when the word is popped. Lemmas on stores to
--- variables follow.
+-- A pushed value can become the value of a new variable: the pushed word is the variable's address until the end of the body, when the word is popped. A store
+-- to a variable changes the word at its address.
 use Rattle.std.proofs.Common.{◌≡◌, ℕ, ◌+◌, ◌-◌, ◌*◌, ◌/◌, ◌%◌, ◌<◌, ◌≤◌, ◌⊎◌, inl, inr, List, [], ◌∷◌, ◌++◌, length, Bool as Truth, true, false, refl, sym, ap, ◌∙◌, subst, arith}
 use Rattle.std.specs.Prelude.{slice_get, slice_set, Some, bytes_eq, if◌then◌else◌}
 use Rattle.mips_isa.specs.Bytes.{Bytes, word, set_word}

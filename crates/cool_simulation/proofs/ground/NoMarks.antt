@@ -1,5 +1,5 @@
--- If no address is watched, the conditions on watched addresses hold for all code: for each method and initializer of a loaded program, and for each of its
--- expressions.
+-- If the proof watches no run, no code address is marked as the beginning of an expression, and the conditions on marked addresses hold for all code of a
+-- loaded program.
 use Rattle.std.proofs.Common.{◌≡◌, ℕ, ◌+◌, ◌<◌, ◌≤◌, List, [], ◌∷◌, length, Option, None, Some, Bool as Truth, false, refl, ap, subst, sym}
 use Rattle.std.specs.Prelude.{IfSome, slice_get}
 use Rattle.cool_syntax.specs.declared.file_tree.Feature.{Feature}

@@ -1,4 +1,5 @@
--- Runs that visit only specified states at watched addresses (`Passes`) compose, and a run over instructions without watched addresses is such a run.
+-- Runs that, at each marked address (the beginning of an expression), are in a state of the source run (`Passes`) compose. A run over instructions without
+-- marked addresses is such a run.
 use Rattle.std.proofs.Common.{◌≡◌, ℕ, zero, suc, ◌+◌, ◌-◌, ◌<◌, ◌≤◌, ◌⊎◌, inl, inr, List, Option, None, Some, Bool as Truth, true, false, refl, sym, ap, ◌∙◌, subst, arith, ◌%◌}
 use Rattle.mips_isa.specs.Calls.{State as Machine, Outcome, Running, Exited, Trapped}
 use Rattle.mips_isa.specs.Decoding.{decoded}

@@ -1,5 +1,5 @@
--- If a run succeeds although the words at some addresses are missing from the program text, the same run succeeds over the whole text, and never reaches these
--- addresses.
+-- If a run does not trap although the words at some addresses are missing from the program text, the same run succeeds over the whole text, and never reaches
+-- these addresses.
 use Rattle.std.proofs.Common.{◌≡◌, ℕ, zero, suc, ◌%◌, ◌<◌, List, Option, None, Bool as Truth, true, false, refl, sym, ap, ◌∙◌, subst, arith, ◌≤◌}
 use Rattle.std.specs.Prelude.{if◌then◌else◌, not, ◌==◌}
 use Rattle.mips_isa.specs.declared.address_map.TheConstants.{TEXT_START}

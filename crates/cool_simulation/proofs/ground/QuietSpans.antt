@@ -1,4 +1,4 @@
--- If only the beginnings of expressions are watched addresses, no instruction between the codes of two subexpressions is at a watched address.
+-- If only the beginnings of expressions are marked addresses, no instruction between the codes of two subexpressions has a marked address.
 use Rattle.std.proofs.Common.{◌≡◌, ℕ, zero, suc, ◌+◌, ◌-◌, ◌%◌, ◌<◌, ◌≤◌, ◌⊎◌, inl, inr, List, [], ◌∷◌, ◌++◌, map as each, Bool as Truth, true, false, refl, sym, ap, ◌∙◌, subst, arith}
 use Rattle.std.specs.Prelude.{Contains, codes}
 use Rattle.std.specs.List.{AllByRecursion}

@@ -1,5 +1,5 @@
--- A program text without the words at watched addresses agrees with the whole text on all other instructions: the same runs, registers, memory and console are
--- possible.
+-- A program text without the words at marked addresses (beginnings of expressions) agrees with the whole text elsewhere: each run over it is also a run over
+-- the whole text, with the same registers, memory and console.
 use Rattle.std.proofs.Common.{◌≡◌, ℕ, ◌+◌, ◌*◌, ◌%◌, ◌<◌, ◌≤◌, inl, inr, List, [], ◌∷◌, length, None, Bool as Truth, true, false, refl, sym, ap, ◌∙◌, subst, arith}
 use Rattle.mips_isa.specs.declared.instr.Instr.{Instr}
 use Rattle.mips_isa.specs.Assembly.{instructions}

@@ -1,4 +1,4 @@
--- Lemmas on a program text in which the words at some watched addresses are replaced by a word that is not an instruction.
+-- Lemmas on a program text in which the words at marked addresses (the beginnings of expressions) are replaced by a word that is not an instruction.
 use Rattle.std.proofs.Common.{◌≡◌, ℕ, zero, suc, ◌+◌, ◌-◌, ◌*◌, ◌/◌, ◌%◌, ◌<◌, ◌≤◌, ◌⊎◌, inl, inr, List, [], ◌∷◌, length, None, Bool as Truth, true, false, refl, sym, ap, ◌∙◌, subst, arith, eqb-true}
 use Rattle.std.specs.Prelude.{Contains, get_or, nat_eq, if◌then◌else◌}
 use Rattle.std.proofs.Math.ListN.{get_or-eq_default}

@@ -1,5 +1,4 @@
--- If each watched address of a text is the beginning of an expression, each watched address in a part of the text is the beginning of an expression of this
--- part.
+-- If each marked address of a text is the beginning of an expression, each marked address in a part of the text is the beginning of an expression of this part.
 use Rattle.std.proofs.Common.{◌≡◌, ℕ, zero, suc, ◌+◌, ◌%◌, ◌<◌, ◌≤◌, ◌⊎◌, inl, inr, List, [], ◌∷◌, ◌++◌, Bool as Truth, true, false, refl, subst, arith}
 use Rattle.std.specs.Prelude.{Contains, flat_map}
 use Rattle.std.proofs.lemmas.List.Elements.{Contains-append_cases}

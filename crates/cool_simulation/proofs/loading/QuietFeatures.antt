@@ -1,5 +1,5 @@
--- If, in the body or initial value of each feature, only beginnings of expressions are watched addresses, the code of methods and initializers has no other
--- watched address.
+-- If, in the body or initial value of each feature, only beginnings of expressions are marked addresses, the code of methods and initializers has no other
+-- marked address.
 use Rattle.std.proofs.Common.{◌≡◌, ℕ, zero, suc, ◌+◌, ◌%◌, ◌<◌, ◌≤◌, ◌⊎◌, inl, inr, List, [], ◌∷◌, ◌++◌, length, map as each, Option, None, Some, Bool as Truth, true, refl, sym, ap, ◌∙◌, subst, arith, le-ltb, ◌*◌}
 use Rattle.std.specs.Prelude.{Contains, IfSome, flat_map, nat_lt, slice_get, if◌then◌else◌, pos}
 use Rattle.std.proofs.lemmas.List.Elements.{Contains-append_cases}

@@ -1,5 +1,5 @@
--- If each watched address is the beginning of an expression of the program, no run-time routine has one, and methods and initializers have them only where
--- their expressions begin.
+-- If each marked address is the beginning of an expression of the program, no run-time routine has one, and methods and initializers have them only where their
+-- expressions begin.
 use Rattle.std.proofs.Common.{◌≡◌, ℕ, zero, suc, ◌+◌, ◌<◌, ◌≤◌, ◌⊎◌, inl, inr, List, ◌∷◌, length, Some, Bool as Truth, true, false, refl, sym, ap, subst, arith}
 use Rattle.std.specs.Prelude.{Contains, flat_map, slice_get, nat_lt, if◌then◌else◌}
 use Rattle.std.proofs.lemmas.List.Elements.{Contains-append_cases}

@@ -1,5 +1,5 @@
--- In a typed program without empty blocks, the code of each subexpression begins within its body or initial value. If only beginnings of expressions are
--- watched, no other instruction there is.
+-- In a typed program without empty blocks, the code of each subexpression begins within its body or initial value. If only beginnings of expressions are marked
+-- addresses, no other instruction there has one.
 use Rattle.std.proofs.Common.{◌≡◌, ℕ, ◌+◌, ◌<◌, List, [], ◌∷◌, ◌++◌, Some, Bool as Truth, true, false, refl, ap, subst, length}
 use Rattle.std.specs.Prelude.{bytes_eq, slice_get, if◌then◌else◌}
 use Rattle.std.proofs.lemmas.List.Elements.{All-contains, All-from_recursion}

@@ -1,5 +1,5 @@
--- A loaded program also satisfies `IsLoaded` if a run is watched: the text has no instruction where an expression begins, and is that of the program's image
--- elsewhere.
+-- A loaded program also satisfies `IsLoaded` if the proof watches a run: then the text has no instruction where an expression begins, and is that of the
+-- program's image elsewhere.
 use Rattle.std.proofs.Common.{◌≡◌, ℕ, ◌+◌, ◌<◌, List, ◌∷◌, ◌++◌, drop, length, map as each, None, Some, Bool as Truth, refl, sym, subst, arith}
 use Rattle.std.specs.Prelude.{slice_get}
 use Rattle.mips_isa.specs.declared.address_map.TheConstants.{HEAP_START, TEXT_START}

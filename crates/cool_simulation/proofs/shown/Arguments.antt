@@ -1,4 +1,5 @@
--- `Shown` for arguments: the machine reaches the code of each argument after the value of the preceding one is pushed.
+-- During a call, the machine reaches the code of each argument after the value of the preceding one is pushed, with the correct values of all names in scope
+-- (`Shown`).
 use Rattle.std.proofs.Common.{ℕ, ◌+◌, ◌-◌, ◌≤◌, List, [], ◌∷◌, ◌++◌, refl, arith, ◌≡◌, None}
 use Rattle.std.specs.Prelude.{Contains}
 use Rattle.std.proofs.lemmas.List.Elements.{Contains-append_left, Contains-append_right}

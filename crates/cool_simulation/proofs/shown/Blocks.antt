@@ -1,4 +1,4 @@
--- `Shown` for a block: the machine reaches the code of each of its expressions after that of the preceding one.
+-- In the code of a block, the machine reaches each expression after the preceding one, with the correct values of all names in scope (`Shown`).
 use Rattle.std.proofs.Common.{ℕ, ◌+◌, ◌≤◌, List, refl, arith, ◌≡◌, None}
 use Rattle.std.specs.Prelude.{Contains}
 use Rattle.std.proofs.lemmas.List.Elements.{Contains-append_left, Contains-append_right}

@@ -1,4 +1,4 @@
--- `Shown` for a call of a method: the machine reaches the code of the body after the instructions of the method's entry.
+-- In a call of a method, the machine reaches the code of the body after the method's entry, with the correct values of all names in scope (`Shown`).
 use Rattle.std.proofs.Common.{◌≡◌, ℕ, ◌+◌, ◌<◌, ◌≤◌, inl, List, ◌++◌, map as each, length, Option, Some, refl, subst, arith, None}
 use Rattle.std.specs.Prelude.{Contains, slice_get}
 use Rattle.mips_isa.specs.Bytes.{Bytes}

@@ -1,4 +1,5 @@
--- `Shown` for a call by a dispatch: once the receiver and the arguments are evaluated, the machine reaches the entry of the method.
+-- Once a dispatch has evaluated its receiver and arguments, the machine reaches the entry of the method, and then each expression that the call begins
+-- (`Shown`).
 use Rattle.std.proofs.Common.{◌≡◌, ℕ, zero, suc, ◌<◌, ◌≤◌, List, length, map as each, Option, Some, None, refl, arith}
 use Rattle.mips_isa.specs.Bytes.{Bytes}
 use Rattle.mips_isa.specs.Calls.{State as Machine}

@@ -1,4 +1,4 @@
--- `Shown` for the branch that a case takes: the machine reaches the code of the branch's body.
+-- In the code of a case, the machine reaches the body of the branch that evaluation takes, with the correct values of all names in scope (`Shown`).
 use Rattle.std.proofs.Common.{◌≡◌, inl, inr, ℕ, ◌+◌, List, ◌∷◌, Option, Some, None, Bool as Truth, ap, ◌∙◌, refl}
 use Rattle.std.specs.Prelude.{if◌then◌else◌}
 use Rattle.cool_syntax.specs.Tree.{Cases, NoCase, CaseOf, tree_size}

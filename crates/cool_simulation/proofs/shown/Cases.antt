@@ -1,4 +1,5 @@
--- `Shown` for a case: the machine reaches the code of its value, and then that of the branch's body that is taken.
+-- In the code of a case, the machine reaches the case's value, and then the body of the branch that is taken, each with the correct values of all names in
+-- scope (`Shown`).
 use Rattle.std.proofs.Common.{◌≡◌, ℕ, ◌+◌, ◌-◌, ◌*◌, ◌<◌, List, [], ◌∷◌, ◌++◌, length, get_or, Option, Some, ap, sym, ◌∙◌, refl, subst, arith, None}
 use Rattle.std.specs.Prelude.{Contains}
 use Rattle.std.specs.List.{AllByRecursion}

@@ -1,4 +1,4 @@
--- `Shown` for `if`: the machine reaches the test, and then the branch that is taken.
+-- In the code of `if`, the machine reaches the test, and then the branch that is taken, each with the correct values of all names in scope (`Shown`).
 use Rattle.std.proofs.Common.{◌≡◌, ℕ, ◌+◌, List, ◌++◌, refl, subst, arith, None}
 use Rattle.std.specs.Prelude.{Bool as Truth, true, false, codes, if◌then◌else◌}
 use Rattle.std.proofs.lemmas.List.Elements.{Contains-append_left, Contains-append_right}

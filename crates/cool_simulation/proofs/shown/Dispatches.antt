@@ -1,4 +1,5 @@
--- `Shown` for dispatch and static dispatch: the machine reaches the arguments, then the receiver, and then the method that is called.
+-- In the code of dispatch and static dispatch, the machine reaches the arguments, then the receiver, and then the method that is called, each in the correct
+-- state (`Shown`).
 use Rattle.std.proofs.Common.{◌≡◌, ℕ, ◌+◌, ◌-◌, ◌*◌, ◌<◌, ◌≤◌, List, ◌++◌, ◌⊎◌, length, map as each, Option, Some, refl, ap, ◌∙◌, subst, arith, None}
 use Rattle.std.specs.Prelude.{Contains, pos, unwrap_or}
 use Rattle.std.proofs.lemmas.List.Elements.{Contains-append_left, Contains-append_right}

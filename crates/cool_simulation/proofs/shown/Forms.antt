@@ -1,4 +1,4 @@
--- `Shown` holds for each kind of expression, if it holds for calls with fewer steps: the machine reaches each subexpression that evaluation begins.
+-- In the code of each kind of expression, the machine reaches all expressions that its evaluation begins (`Shown`), if it does so in calls with fewer steps.
 use Rattle.std.proofs.Common.{ℕ, ◌≡◌, None}
 use Rattle.cool_syntax.specs.Tree.{Tree, Trees, Cases, Last, More, Without, With, NoCase, CaseOf}
 use Rattle.cool_syntax.specs.Tree as trees

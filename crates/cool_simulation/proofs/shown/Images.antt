@@ -1,4 +1,5 @@
--- `Shown` for the machine of a program's image: it reaches each expression that a run of the source begins.
+-- A machine that runs a program's image reaches the code of each expression that a run of the source begins, with the correct values of all names in scope
+-- (`Shown`).
 use Rattle.std.proofs.Common.{◌≡◌, ℕ, ◌+◌, ◌-◌, ◌*◌, ◌<◌, ◌⊎◌, inl, inr, [], refl, sym, subst, arith, append-nil, None}
 use Rattle.mips_isa.specs.declared.address_map.TheConstants.{HEAP_START, STACK_END}
 use Rattle.mips_isa.specs.Bytes.{Segments, bytes_of_image}

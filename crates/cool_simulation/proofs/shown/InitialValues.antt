@@ -1,4 +1,4 @@
--- `Shown` for the initial values of a class's own attributes: the machine reaches the code of each, one after another.
+-- In an initializer, the machine reaches the initial values of the class's own attributes, one after another, each in the correct state (`Shown`).
 use Rattle.std.proofs.Common.{◌≡◌, ℕ, zero, suc, ◌+◌, ◌*◌, ◌<◌, ◌≤◌, ◌⊎◌, inr, List, [], ◌∷◌, ◌++◌, map as each, length, get_or, Option, Some, None, sym, ◌∙◌, ap, refl, subst, arith, append_assoc}
 use Rattle.std.specs.Prelude.{Contains, slice_get, IfSome}
 use Rattle.std.proofs.lemmas.List.Elements.{Contains-append_left, Contains-append_right}

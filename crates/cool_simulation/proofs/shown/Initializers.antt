@@ -1,4 +1,5 @@
--- `Shown` for an initializer: the machine reaches the initial values of the parent class, and after its initializer those of the class itself.
+-- In an initializer, the machine reaches the initial values of the parent class, and after the parent's initializer those of the class itself, each in the
+-- correct state (`Shown`).
 use Rattle.std.proofs.Common.{◌≡◌, ◌⊎◌, inl, inr, ℕ, zero, suc, ◌+◌, ◌*◌, ◌<◌, ◌≤◌, List, [], ◌∷◌, ◌++◌, length, Option, Some, None, Bool as Truth, ap, sym, ◌∙◌, refl, subst, arith}
 use Rattle.std.specs.Prelude.{Contains, drop, if◌then◌else◌, slice_get}
 use Rattle.std.proofs.lemmas.Bool.{le-ltb}

@@ -1,4 +1,4 @@
--- `Shown` for `let`: the machine reaches the initial value if there is one, and after the push of the value the body.
+-- In the code of `let`, the machine reaches the initial value if there is one, and after the push of the value the body, each in the correct state (`Shown`).
 use Rattle.std.proofs.Common.{◌≡◌, ℕ, ◌+◌, ◌-◌, ◌<◌, ◌≤◌, List, [], ◌∷◌, ◌++◌, length, refl, sym, subst, arith, None}
 use Rattle.std.specs.Prelude.{Contains}
 use Rattle.std.proofs.lemmas.List.Elements.{Contains-append_left, Contains-append_right}

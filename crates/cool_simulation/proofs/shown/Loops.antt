@@ -1,4 +1,4 @@
--- `Shown` for `while`: the machine reaches the test in each iteration, and the body if the test is true.
+-- In the code of `while`, the machine reaches the test in each iteration, and the body if the test is true, each in the correct state (`Shown`).
 use Rattle.std.proofs.Common.{◌≡◌, ℕ, zero, suc, ◌+◌, ◌≤◌, List, ◌++◌, refl, subst, arith, None}
 use Rattle.std.specs.Prelude.{Bool as Truth, true, codes, if◌then◌else◌, Contains}
 use Rattle.std.proofs.lemmas.List.Elements.{Contains-append_left, Contains-append_right}

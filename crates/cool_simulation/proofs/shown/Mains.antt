@@ -1,4 +1,5 @@
--- `Shown` for the run of a loaded program: the machine reaches the initial values of the new Main, and then the body of `main`.
+-- In the run of a loaded program, the machine reaches the initial values of the new Main object, and then the body of `main`, each in the correct state
+-- (`Shown`).
 use Rattle.std.proofs.Common.{◌≡◌, ℕ, zero, suc, ◌+◌, ◌*◌, List, [], length, Option, Some, sym, ap, ◌∙◌, refl, subst, arith, None}
 use Rattle.std.specs.Prelude.{codes, max}
 use Rattle.mips_isa.specs.Calls.{State as Machine}

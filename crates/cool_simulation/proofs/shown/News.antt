@@ -1,4 +1,4 @@
--- `Shown` for `new`: the machine reaches the initial values of the new object after the copy of its prototype.
+-- In the code of `new`, the machine reaches the initial values of the new object after the copy of its prototype, each in the correct state (`Shown`).
 use Rattle.std.proofs.Common.{◌≡◌, ◌≢◌, ℕ, zero, suc, ◌+◌, ◌*◌, ◌<◌, ◌≤◌, List, ◌++◌, length, Option, Some, sym, ap, ◌∙◌, refl, subst, arith, None}
 use Rattle.std.specs.Prelude.{Bool as Truth, if◌then◌else◌}
 use Rattle.mips_isa.specs.Bytes.{Bytes}

@@ -1,4 +1,4 @@
--- `Shown` for expressions with one subexpression, or none: the machine reaches the code of the expression and of its subexpression.
+-- In the code of an expression with at most one subexpression, the machine reaches the expression and its subexpression, each in the correct state (`Shown`).
 use Rattle.std.proofs.Common.{ℕ, ◌≤◌, List, refl, arith, ◌≡◌, None}
 use Rattle.std.specs.Prelude.{Bool as Truth, not, neg_ℤ, Contains}
 use Rattle.cool_syntax.specs.declared.place.Place.{Place}

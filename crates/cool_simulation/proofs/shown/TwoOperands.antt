@@ -1,4 +1,5 @@
--- `Shown` for expressions with two operands: the machine reaches the first operand, and after the push of its value the second.
+-- In the code of an operator with two operands, the machine reaches the first operand, and after the push of its value the second, each in the correct state
+-- (`Shown`).
 use Rattle.std.proofs.Common.{ℕ, ◌+◌, ◌-◌, ◌≤◌, List, ◌++◌, ◌⊎◌, refl, arith, ◌≡◌, None}
 use Rattle.std.specs.Prelude.{Contains}
 use Rattle.std.proofs.lemmas.List.Elements.{Contains-append_left, Contains-append_right}
