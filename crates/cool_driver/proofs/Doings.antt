@@ -1,4 +1,4 @@
--- The effects of a command (`Does`) follow from fewer facts if the command reads no input, or if it did not refuse its source files for their errors.
+-- A command that reads no input, or that did not refuse its source files for their errors, has its specified effects (`Does`) if the remaining conditions hold.
 use Rattle.std.proofs.Common.{◌≡◌, ◌≢◌, ℕ, Bool, false, List}
 use Rattle.std.specs.Prelude.{IfSome}
 use Rattle.cool_ports.proofs.InputsInParts.{leaves_same, took_nothing}

@@ -1,4 +1,5 @@
--- If an image is a correct compilation of a program, each call that ran the image within its limits satisfies the main theorem about `run` (`Headline`).
+-- If an image is a correct compilation of a program, each call that ran the image within its limits satisfies the main theorem about `run` (`Headline`): its
+-- outcome agrees with the source.
 use Rattle.std.proofs.Common.{arith, ◌≡◌, ℕ, ◌+◌, ◌<◌, ◌⊎◌, inl, inr, List, [], ◌++◌, Some, refl, sym, ◌∙◌, ap, subst, append_assoc, append-nil}
 use Rattle.cool_classes.specs.Chains.{Class}
 use Rattle.cool_eval.specs.Ends.{IsPartOf}

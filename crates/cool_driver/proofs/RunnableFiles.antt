@@ -1,4 +1,4 @@
--- A file for `exec` determines either exactly one image, or exactly one error, and never both.
+-- A file for `exec` stands for at most one image. A file with an error stands for none, and an assembly text has at most one first error.
 use Rattle.std.proofs.Common.{◌≡◌, ℕ, inl, inr, true, false, List, Some, sym, ◌∙◌, ap}
 use Rattle.mips_isa.specs.{Assembly.{fault_of, image_of}, ImageBounds.{ImageParts}, declared.asm_fault.AsmFault.{AsmFault}}
 use Rattle.mips_image.specs.{ImageReading.{first_fault, parts_of}, declared.image_error.ImageError.{ImageError}}

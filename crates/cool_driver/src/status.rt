@@ -1,4 +1,4 @@
-//! The exit statuses of a call.
+//! The exit statuses of a call of `cool`, each with its number.
 
 ghost use Rattle.std.specs.Prelude.{◌≡◌};
 ghost use Rattle.cool_driver.specs.Execution.{status_of_halt};

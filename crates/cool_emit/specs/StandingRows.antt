@@ -1,4 +1,4 @@
--- The rows of the debug table give the correct addresses of code in a loaded program.
+-- The rows of the debug information give the correct addresses of code in a loaded program.
 use Rattle.std.specs.Prelude.{◌≡◌, ℕ, ◌+◌, ◌<◌, List, [], length, slice_get, Some, Contains}
 use Rattle.std.specs.List.{AllByRecursion}
 use Rattle.cool_syntax.specs.declared.file_tree.Feature.{Feature}

@@ -1,4 +1,5 @@
--- If the code of an expression begins with the code of a subexpression, its run is the run of this part, followed by the run of the remaining instructions.
+-- If the code of an expression begins with the code of a subexpression, its run is the run of this subexpression, followed by the run of the remaining
+-- instructions.
 use Rattle.std.proofs.Common.{◌≡◌, ℕ, ◌+◌, ◌-◌, ◌*◌, ◌≤◌, List, arith}
 use Rattle.mips_isa.specs.Bytes.{Bytes}
 use Rattle.mips_isa.specs.Calls.{State as Machine}

@@ -1,4 +1,4 @@
--- If the code of an expression does not begin with a subexpression, then at its first instruction the machine represents the state in which evaluation of this
+-- If the code of an expression does not begin with a subexpression, the machine at its first instruction represents the state in which evaluation of this
 -- expression begins.
 use Rattle.std.proofs.Common.{◌≡◌, ℕ, zero, suc, ◌+◌, ◌*◌, ◌%◌, ◌<◌, ◌≤◌, ℤ, List, [], length, true, false, refl, sym, ◌∙◌, subst, arith}
 use Rattle.mips_isa.specs.declared.instr.Instr.{Instr}

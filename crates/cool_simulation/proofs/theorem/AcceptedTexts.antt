@@ -1,5 +1,4 @@
--- The string constants of accepted files contain no zero byte, and neither do their file names, if the files consist of bytes and their names have no zero
--- byte.
+-- No string constant in the code of an accepted program contains a zero byte, if the source files consist of bytes and their names have no zero byte.
 use Rattle.std.proofs.Common.{ℕ, ◌+◌, List, [], ◌∷◌}
 use Rattle.std.specs.List.{AllByRecursion}
 use Rattle.cool_syntax.specs.declared.file_tree.FileTree.{FileTree}
