@@ -1,5 +1,5 @@
--- Each of the two code sequences of `new` (for a named class, and for SELF_TYPE) runs from its first instruction to the end of the initializer, with the
--- specified result for each class.
+-- Each of the two code sequences of `new` (for a named class, and for SELF_TYPE) makes the object and calls its initializer, with the outcome that the
+-- semantics gives for the class.
 use Rattle.std.proofs.Common.{◌≡◌, ℕ, ◌+◌, ◌-◌, ◌*◌, ◌<◌, ◌≤◌, List, [], ◌++◌, length, Some, Bool as Truth, true, false, ap, sym, ◌∙◌, refl, subst, arith}
 use Rattle.std.specs.Prelude.{pos, ◌==◌, codes}
 use Rattle.mips_isa.specs.Bytes.{Bytes, word}

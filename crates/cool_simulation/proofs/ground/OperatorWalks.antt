@@ -1,5 +1,4 @@
--- Runs over the instructions of arithmetic and comparison operators: they load the operands, compute the result and a flag for errors, and make the result an
--- object.
+-- Runs over the instructions of operators: they load the operands, compute the result, and set a flag for an error or a truth value.
 use Rattle.std.proofs.Common.{◌≡◌, ℕ, ◌+◌, ◌-◌, ◌*◌, ◌/◌, ◌%◌, ◌<◌, ◌≤◌, true, false, refl, ◌∙◌, arith}
 use Rattle.std.specs.Prelude.{nat_lt, ◌==◌, not}
 use Rattle.mips_isa.specs.declared.address_map.TheConstants.{STACK_END}

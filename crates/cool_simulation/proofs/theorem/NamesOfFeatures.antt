@@ -1,4 +1,4 @@
--- The names of methods, attributes and variables of a parsed program contain only letters, digits and underscores.
+-- The names of methods, attributes and variables of a parsed program contain only characters that may stand in names of assembly.
 use Rattle.std.proofs.Common.{◌≡◌, ℕ, List, [], ◌∷◌, Option, Some, None, Bool, true, false, ◌&&◌, ◌==◌, refl, sym, ◌∙◌, subst, true≢false}
 use Rattle.std.specs.Prelude.{if◌then◌else◌, not, map}
 use Rattle.std.specs.List.{list_all}
