@@ -1,4 +1,4 @@
--- If two tables differ only in bodies, initial values and places, look-ups in one find the same as look-ups in the other.
+-- If two class tables differ only in method bodies, initial values and source locations, look-ups in both give the same results.
 use Rattle.std.proofs.Common.{◌≡◌, ℕ, zero, suc, ◌+◌, List, [], ◌∷◌, length, take, Option, Some, refl, sym, ap, arith}
 use Rattle.std.specs.Prelude.{slice_get, bytes_eq, nat_lt, option_map, if◌then◌else◌}
 use Rattle.std.specs.List.{AllByRecursion}

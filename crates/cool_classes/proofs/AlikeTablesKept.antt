@@ -1,4 +1,5 @@
--- If two tables differ only in bodies, initial values and places, and one is whole and keeps the rules of classes, so does the other.
+-- If two class tables differ only in method bodies, initial values and source locations, and one is complete and keeps the rules of classes, the other does,
+-- too.
 use Rattle.std.proofs.Common.{◌≡◌, ℕ, suc, ◌<◌, List, [], ◌∷◌, ◌++◌, map, length, take, Option, Some, None, refl, sym, ap, ◌∙◌, subst}
 use Rattle.std.specs.Prelude.{codes}
 use Rattle.std.specs.List.{AllByRecursion}

@@ -1,4 +1,4 @@
--- Lemmas on properties that all elements of a list have.
+-- A property that all elements of a list have also holds of all elements after one element with the property is appended, and after the list is reordered.
 use Rattle.std.proofs.Common.{◌≡◌, ℕ, zero, suc, ◌<◌, List, [], ◌∷◌, ◌++◌, length, map, get_or, sym, subst, arith}
 use Rattle.std.specs.List.{All, AllByRecursion}
 use Rattle.std.specs.List.Sorted.{IsPermutation}

@@ -1,4 +1,5 @@
--- The attributes of a chain are those of the classes above its first class and then those of the first class, and all of them exist in the table.
+-- The attributes of a chain (a class with all its ancestors) are those of the ancestors and then those of the class itself, and all of them exist in the class
+-- table.
 use Rattle.std.proofs.Common.{◌≡◌, ℕ, suc, ◌-◌, ◌+◌, ◌<◌, List, [], ◌∷◌, ◌++◌, length, drop, get_or, slice_get, Some, ap, sym, ◌∙◌, refl, subst, arith}
 use Rattle.std.specs.List.{AllByRecursion}
 use Rattle.std.proofs.lemmas.List.{append_assoc, length_push}

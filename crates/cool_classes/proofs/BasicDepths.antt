@@ -1,4 +1,4 @@
--- The depth of Object is 0, and the depth of each other basic class is 1.
+-- The depth of a class (the number of its ancestors) is 0 for Object, and 1 for each other basic class.
 use Rattle.std.proofs.Common.{◌≡◌, ◌≢◌, ℕ, zero, suc, ◌<◌, List, refl, arith}
 use Rattle.cool_classes.specs.declared.class_id.ClassId.{ClassId}
 use Rattle.cool_classes.specs.Chains.{class_number}

@@ -1,4 +1,4 @@
--- The basic classes of a table keep its limits, and have no features of their own.
+-- The basic classes of a class table have no features of their own, and keep the compiler's limits on the attributes and methods of a class.
 use Rattle.std.proofs.Common.{◌≡◌, ℕ, zero, suc, ◌<◌, ◌≤◌, List, [], ◌∷◌, ◌++◌, length, take, get_or, Option, Some, ap, sym, ◌∙◌, refl, subst, length-take, arith}
 use Rattle.std.proofs.lemmas.List.{get_or-take}
 use Rattle.cool_syntax.specs.declared.file_tree.Feature.{Feature}

@@ -1,4 +1,4 @@
--- Lemmas for the loop of `basic_names`: the name that each step adds is that of the next basic class.
+-- Each step of the loop of `basic_names`, which maps the names of the basic classes to their numbers, adds the name of the next basic class.
 use Rattle.std.proofs.Common.{◌≡◌, ℕ, zero, suc, ◌+◌, ◌<◌, List, [], ◌∷◌, ◌++◌, length, map, take, get_or, Some, sym, ap, ◌∙◌, refl, arith}
 use Rattle.std.proofs.lemmas.List.{take_more}
 use Rattle.cool_classes.specs.Chains.{class_number, name_of}

@@ -1,4 +1,5 @@
--- No chain has a class twice, so `chain` of `ClimbedChains.antt` returns the chain of each class of a whole table.
+-- No chain (a class with all its ancestors) has a class twice, so the function `chain` of `ClimbedChains.antt` returns the chain of each class of a complete
+-- class table.
 use Rattle.std.proofs.Common.{◌≡◌, ◌≢◌, ℕ, zero, suc, ◌<◌, ◌≤◌, min, ◌⊎◌, inl, inr, List, [], ◌∷◌, length, map, Option, Some, None, Bool, true, false, cond, ap, sym, ◌∙◌, refl, subst, arith}
 use Rattle.std.specs.Prelude.{nat_eq, ltb, if◌then◌else◌}
 use Rattle.std.specs.List.{AllByRecursion}

@@ -1,4 +1,5 @@
--- Lemmas on chains of parents, and the invariants of the loops of `chain`, `is_below` and `join`, which climb along a chain.
+-- In a class table without cycles of inheritance, each class has exactly one chain: the list of the class and its ancestors up to Object. The file also states
+-- the invariants of the loops of `chain`, `is_below` and `join`, which go from a class to its ancestors.
 use Rattle.std.proofs.Common.{◌≡◌, ◌≢◌, ℕ, zero, suc, ◌+◌, ◌<◌, ◌≤◌, ◌⊎◌, List, [], ◌∷◌, ◌++◌, length, get_or, Option, Some, None, ap, sym, ◌∙◌, refl, subst, arith, inl, inr, append_assoc}
 use Rattle.std.specs.Prelude.{Contains, IfSome}
 use Rattle.cool_classes.specs.declared.class_id.ClassId.{ClassId}

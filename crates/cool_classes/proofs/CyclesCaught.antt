@@ -1,4 +1,4 @@
--- The walks of `depths` find exactly the definitions that are on cycles of parents.
+-- `depths`, which walks from each class definition to its ancestors, finds exactly the definitions that are on cycles of inheritance.
 use Rattle.std.proofs.Common.{◌≡◌, ◌≢◌, ◌⊎◌, inl, inr, ℕ, zero, suc, ◌+◌, ◌-◌, ◌<◌, ◌≤◌, List, [], ◌∷◌, ◌++◌, length, get_or, Option, Some, None, Contains, Bool, true, false, sym, ap, ◌∙◌, refl, subst, cond, arith}
 use Rattle.std.specs.Prelude.{is_some, IsSome, nat_eq, nat_lt, replicate}
 use Rattle.std.specs.List.{AllByRecursion}

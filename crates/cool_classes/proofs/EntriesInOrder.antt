@@ -1,4 +1,4 @@
--- Lemmas for the loop of `entries_of`: the entry that each step adds is that of the next definition, and its depth is known.
+-- Each step of the loop of `entries_of` adds the class-table entry of the next class definition, whose depth (number of ancestors) is known.
 use Rattle.std.proofs.Common.{◌≡◌, ◌≢◌, ℕ, suc, ◌+◌, ◌<◌, List, [], ◌∷◌, ◌++◌, length, drop, get_or, Option, Some, None, sym, ap, ◌∙◌, append_assoc, arith, drop-cons}
 use Rattle.std.proofs.lemmas.List.{get_or-map}
 use Rattle.cool_syntax.specs.declared.file_tree.ClassDef.{ClassDef}

@@ -1,4 +1,4 @@
--- `table` returns exactly the faults of the classes, or those of the features if the classes have none.
+-- `table`, which builds the class table, returns exactly the faults (compile-time errors) of the classes, or those of the features if the classes have none.
 use Rattle.std.proofs.Common.{◌≡◌, ℕ, List, [], ◌∷◌, ◌++◌, length, map, inl, inr, ap, sym, ◌∙◌, Some, refl, subst, arith, Option}
 use Rattle.std.specs.List.Sorted.{IsPermutation}
 use Rattle.std.specs.Global.{Vec}

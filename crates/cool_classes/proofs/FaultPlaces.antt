@@ -1,4 +1,4 @@
--- The faults that the features of a class have are of the kinds F1 to F9, and their places are in the source files.
+-- Each fault (compile-time error) in the features of a class is of one of the kinds F1 to F9, and its location is in one of the source files.
 use Rattle.std.proofs.Common.{ℕ, ◌+◌, ◌<◌, List, [], ◌∷◌, ◌++◌, Option, Some, is_some, Bool, true, false, not, ◌||◌, arith}
 use Rattle.std.specs.Prelude.{bytes_eq, codes}
 use Rattle.std.specs.List.{AllByRecursion}

@@ -1,4 +1,4 @@
--- If the features of a class have no fault, the types that they declare exist, and the class keeps the limits.
+-- If the features of a class have no fault (compile-time error), the types that they declare exist, and the class keeps the compiler's limits.
 use Rattle.std.proofs.Common.{◌≡◌, ℕ, suc, ◌+◌, ◌<◌, List, [], ◌∷◌, ◌++◌, length, map, get_or, Option, Some, is_some, Bool, true, false, ◌||◌, cond, sym, refl, arith, true≢false}
 use Rattle.std.specs.Prelude.{bytes_eq}
 use Rattle.std.specs.List.{AllByRecursion}

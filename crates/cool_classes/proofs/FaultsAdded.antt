@@ -1,4 +1,5 @@
--- Lemmas on `AddsFaults` of `Settled.antt`: it holds if no fault, one fault or several faults of classes are added to a list.
+-- The relation `AddsFaults` between a list of faults (compile-time errors) and the list after an addition holds if no fault, one fault or several faults of
+-- classes are added.
 use Rattle.std.proofs.Common.{◌≡◌, ℕ, ◌<◌, List, [], ◌∷◌, ◌++◌, Option, Some, None, refl}
 use Rattle.std.specs.Prelude.{IfSome}
 use Rattle.cool_syntax.specs.declared.place.Place.{Place}

@@ -1,4 +1,4 @@
--- Faults that are sorted by file, byte, kind and line are in the order of `AreInOrder` of `FaultOrder.antt`.
+-- A list of faults (compile-time errors) that is sorted by file, byte, kind and line is in the order that `AreInOrder` of `FaultOrder.antt` demands.
 use Rattle.std.proofs.Common.{◌≡◌, inl, inr, ℕ, suc, ◌+◌, ◌<◌, List, [], ◌∷◌, get_or, false, sym, refl, subst, arith, true≢false}
 use Rattle.std.specs.Ordering.{nat_cmp, ordering_then, is_lt, MatchOrdering}
 use Rattle.std.specs.Cmp.{ranks}

@@ -1,4 +1,4 @@
--- Four lists of faults that are appended one after the other are appended as one list.
+-- Appending four lists of faults (compile-time errors) one after the other gives the same list as appending their concatenation.
 use Rattle.std.proofs.Common.{◌≡◌, List, ◌++◌, ap, ◌∙◌, append_assoc}
 
 -- four parts

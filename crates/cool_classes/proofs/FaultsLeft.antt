@@ -1,4 +1,4 @@
--- Lemmas for loops that add faults: the faults added so far, and then those of the items that are left, are all faults.
+-- In each loop that adds faults (compile-time errors), the faults added so far, followed by those of the remaining items, are the faults of all items.
 use Rattle.std.proofs.Common.{◌≡◌, ℕ, zero, suc, ◌+◌, ◌<◌, ◌≤◌, List, is_some, [], ◌∷◌, ◌++◌, length, drop, get_or, Some, Option, None, ap, sym, ◌∙◌, refl, arith, append_assoc, append-nil}
 use Rattle.std.proofs.lemmas.List.{get_or-map, drop_more}
 use native.Mathlib.Numerals.{add-one}

@@ -1,4 +1,5 @@
--- The faults that `class_faults` lists for the features of a class are exactly those of the rows of `FeatureRows.antt`.
+-- The faults (compile-time errors) that `class_faults` lists for the features of a class are exactly the violations of the rules of features that
+-- `FeatureRows.antt` defines.
 use Rattle.std.proofs.Common.{◌≡◌, ◌≢◌, ◌⊎◌, inl, inr, ℕ, zero, suc, ◌+◌, ◌<◌, ◌≤◌, List, [], ◌∷◌, ◌++◌, length, map, take, Option, Some, None, is_some, Contains, Bool, true, false, not, ◌&&◌, ◌||◌, sym, ap, ◌∙◌, refl, subst, arith, append_assoc, true≢false, append-nil}
 use Rattle.std.specs.Prelude.{slice_get, bytes_eq, nat_lt, codes}
 use Rattle.std.specs.List.{AllByRecursion}

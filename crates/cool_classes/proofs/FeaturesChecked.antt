@@ -1,5 +1,5 @@
--- The invariant of the loop of `feature_faults`: it has added the faults of the first classes. If they have none, their types exist and they keep the
--- limits.
+-- The loop of `feature_faults` keeps its invariant: it has added the faults (compile-time errors) of the first classes, and if they have none, their declared
+-- types exist and they keep the limits.
 use Rattle.std.proofs.Common.{◌≡◌, ℕ, zero, suc, ◌+◌, ◌-◌, ◌<◌, ◌≤◌, List, [], ◌∷◌, ◌++◌, length, get_or, Some, Bool, true, false, ◌||◌, sym, ◌∙◌, refl, subst, arith, true≢false}
 use Rattle.std.specs.Prelude.{nat_lt}
 use Rattle.std.specs.List.{AllByRecursion}

@@ -1,4 +1,4 @@
--- Lemmas on the first index of a name in a list of names, and on the items at positions of lists.
+-- A name that occurs in a list of names has a first index there, and the item at this index has the name.
 use Rattle.std.proofs.Common.{◌≡◌, ℕ, zero, suc, ◌+◌, ◌<◌, ◌≤◌, List, [], ◌∷◌, ◌++◌, length, map, take, Option, Some, None, Bool, true, false, sym, ap, ◌∙◌, refl, arith, true≢false}
 use Rattle.std.specs.Prelude.{slice_get, bytes_eq, if◌then◌else◌}
 use Rattle.std.proofs.lemmas.Option.{none-some, same_Some}

@@ -1,4 +1,4 @@
--- If the depths of all classes are right, each class is one deeper than its parent, and only Object has no parent.
+-- If the depths (numbers of ancestors) of all classes are right, each class is one deeper than its parent, and only Object has no parent.
 use Rattle.std.proofs.Common.{◌≡◌, ℕ, zero, suc, ◌+◌, ◌<◌, List, [], ◌∷◌, length, map, get_or, Option, Some, None, sym, ◌∙◌, refl, subst, arith}
 use Rattle.std.specs.List.{AllByRecursion}
 use Rattle.cool_classes.specs.declared.class_id.ClassId.{ClassId}

@@ -1,4 +1,5 @@
--- The table of definitions without faults keeps the rules of classes.
+-- If class definitions have no faults (compile-time errors), the class table that they make keeps Cool's rules on parents, redefined methods, unique names and
+-- the method main.
 use Rattle.std.proofs.Common.{◌≡◌, ◌≢◌, ◌⊎◌, inl, inr, ℕ, zero, suc, ◌+◌, ◌<◌, ◌≤◌, List, [], ◌∷◌, ◌++◌, map, length, get_or, Option, Some, None, Bool, true, false, not, ◌&&◌, ◌||◌, cond, ap, sym, ◌∙◌, refl, subst, arith, true≢false}
 use Rattle.std.specs.Prelude.{if◌then◌else◌, bytes_eq, codes, option_map, nat_eq, nat_lt, slice_get, is_none}
 use Rattle.std.proofs.lemmas.List.{length-map}

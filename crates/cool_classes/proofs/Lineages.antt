@@ -1,5 +1,5 @@
--- The classes above a class are classes of the table. The counts of the classes on a chain add up to the numbers of its attributes and of the names of its
--- methods.
+-- The ancestors of a class are classes of the class table, and the counts that are stored for a class and its ancestors add up to its numbers of attributes and
+-- of method names.
 use Rattle.std.proofs.Common.{◌≡◌, ℕ, ◌<◌, List, [], ◌∷◌, length, Option, Some, None, sym, refl, subst, arith}
 use Rattle.std.specs.Prelude.{IfSome}
 use Rattle.std.proofs.lemmas.List.{length-append}

@@ -1,4 +1,4 @@
--- Lemma for `lacks_main`: the first method main of a class named Main decides whether the class lacks it.
+-- The first method main of a class named Main decides whether the class lacks a method main without formal parameters, as `lacks_main` tests.
 use Rattle.std.proofs.Common.{◌≡◌, ℕ, List, Option, Bool, true, ◌&&◌, ap, sym, ◌∙◌}
 use Rattle.std.specs.Prelude.{codes, bytes_eq}
 use Rattle.cool_classes.specs.declared.class_id.ClassId.{ClassId}

@@ -1,4 +1,4 @@
--- Lemmas on the nearest method of a name on a chain, and the invariant of the loop of `find_method`, which climbs to it.
+-- A search from a class up through its ancestors finds the nearest method of a name, which is the invariant of the loop of `find_method`.
 use Rattle.std.proofs.Common.{◌≡◌, ℕ, suc, ◌+◌, ◌<◌, List, [], ◌∷◌, length, get_or, drop, slice_get, Option, Some, None, ap, sym, ◌∙◌, refl, subst, arith, Bool, true, false, cond}
 use Rattle.std.specs.Prelude.{bytes_eq, IfSome, option_map, nat_lt}
 use Rattle.std.proofs.lemmas.List.{at_drop_more}

@@ -1,4 +1,4 @@
--- The list `methods_of` of `MethodNames.antt` has the names of all methods on a chain, so there are no more different names than the list is long.
+-- The list `methods_of` has the names of all methods of a class and its ancestors, so these methods have no more different names than the list is long.
 use Rattle.std.proofs.Common.{◌≡◌, ◌≢◌, ◌⊎◌, ℕ, ◌+◌, ◌≤◌, List, [], ◌∷◌, ◌++◌, length, Option, Some, None, is_none, Bool, true, false, ◌&&◌, cond, ap, sym, ◌∙◌, refl, subst, arith, true≢false}
 use Rattle.std.specs.Prelude.{bytes_eq, nat_lt, nat_eq, option_map}
 use Rattle.std.specs.List.{AllByRecursion}

@@ -1,4 +1,4 @@
--- Lemmas for `add_name` and `first_index`: a map finds the first index of each name, also after the next name was added.
+-- The map of names that `add_name` extends gives the first index of each name, and still does after the next name is added.
 use Rattle.std.proofs.Common.{◌≡◌, ℕ, suc, ◌+◌, List, [], ◌∷◌, ◌++◌, map, length, Option, Some, None, is_some, Bool, true, false, cond, ap, sym, ◌∙◌, refl, arith, true≢false}
 use Rattle.std.specs.Prelude.{bytes_eq, option_map}
 use Rattle.std.specs.Map.{lookup}

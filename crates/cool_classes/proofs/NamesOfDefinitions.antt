@@ -1,4 +1,4 @@
--- Lemmas for the loop of `find_names`: each step adds the name of the next definition, with the number of its class.
+-- Each step of the loop of `find_names` adds the name of the next class definition, with the number of its class, to the map of class names.
 use Rattle.std.proofs.Common.{◌≡◌, ◌≢◌, ℕ, ◌+◌, ◌<◌, List, [], ◌∷◌, ◌++◌, length, map, take, get_or, Option, Some, None, is_some, Bool, false, sym, ap, ◌∙◌, refl, subst, arith, below_more, true≢false}
 use Rattle.std.specs.Prelude.{option_map}
 use Rattle.std.specs.Global.{Vec}

@@ -1,4 +1,5 @@
--- If no class has a fault, the methods of a class, the formals of each method and the attributes on a chain have different names.
+-- If the classes have no fault (compile-time error), the methods of each class have different names, and so have the formal parameters of each method and the
+-- attributes of each class with the inherited ones.
 use Rattle.std.proofs.Common.{◌≡◌, ◌≢◌, ℕ, suc, ◌+◌, ◌<◌, List, [], ◌∷◌, ◌++◌, map, length, Option, Some, None, Bool, true, false, not, ◌||◌, cond, ap, sym, ◌∙◌, refl, subst, arith}
 use Rattle.std.specs.Prelude.{bytes_eq, slice_get, is_some}
 use Rattle.std.specs.List.{AllByRecursion}

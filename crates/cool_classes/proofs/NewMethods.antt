@@ -1,4 +1,4 @@
--- Lemmas for `counts_of` and `is_new`, which count the names of methods that a class adds to those of the classes above it.
+-- `counts_of` counts a method of a class exactly if it is the first of its name there and no ancestor has a method of this name, as `is_new` tests.
 use Rattle.std.proofs.Common.{◌≡◌, ℕ, ◌+◌, ◌<◌, ◌≤◌, List, [], ◌∷◌, ◌++◌, length, get_or, Bool, true, false, not, ◌&&◌, cond, is_none, ap, sym, ◌∙◌, refl, arith}
 use Rattle.std.proofs.lemmas.List.{length-append, get_or_append_left, get_or_push}
 use Rattle.cool_syntax.specs.declared.file_tree.Feature.{Feature}

@@ -1,4 +1,4 @@
--- Lemmas on the maps of names of features: a look-up finds the first feature of a name, also after one more feature or class was added.
+-- The maps of the names of features give the first feature of each name, and still do after one more feature or class is added.
 use Rattle.std.proofs.Common.{◌≡◌, ℕ, ◌+◌, ◌<◌, ◌≤◌, List, [], ◌∷◌, ◌++◌, map, length, get_or, drop, Option, Some, None, is_some, ◌||◌, Bool, true, false, cond, ap, sym, ◌∙◌, refl, subst, arith}
 use Rattle.std.specs.Prelude.{bytes_eq, nat_lt, option_map}
 use Rattle.std.specs.Global.{Vec}

@@ -1,4 +1,4 @@
--- The parents of definitions are classes of the table, and there is one for each definition.
+-- There is one parent for each class definition, and each of these parents is a class of the class table.
 use Rattle.std.proofs.Common.{◌≡◌, ℕ, ◌+◌, ◌<◌, ◌≤◌, List, [], ◌∷◌, ◌++◌, length, take, get_or, Option, Some, None, sym, ap, ◌∙◌, refl, subst, arith}
 use Rattle.std.specs.List.{AllByRecursion}
 use Rattle.std.proofs.lemmas.List.{length-append, length-map, map-append, take_more}

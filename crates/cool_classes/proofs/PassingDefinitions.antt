@@ -1,4 +1,5 @@
--- The invariant of the loop of `climb`: the path leads from the first definition to the current one, and each step passes one more definition.
+-- The loop of `climb`, which follows parents from one class definition, keeps its invariant: the path leads from the first definition to the current one, and
+-- each step visits one more.
 use Rattle.std.proofs.Common.{◌≡◌, ◌≢◌, ◌⊎◌, inl, inr, ℕ, zero, suc, ◌+◌, ◌-◌, ◌<◌, ◌≤◌, List, ◌∷◌, length, get_or, set, Option, Some, None, Contains, sym, ap, ◌∙◌, refl, subst, cond, arith, get_or-set_other, get_or-set_same, true≢false, []}
 use Rattle.std.specs.Prelude.{is_some, is_none, IsSome}
 use Rattle.std.specs.List.{AllByRecursion}

@@ -1,5 +1,5 @@
--- Definitions whose classes have no fault make the entries of a whole table, except that the types of their features may not exist (`AreResolved` of
--- `Resolved.antt`).
+-- If class definitions have no errors in names, parents and number of classes, their entries make a complete class table, except that the types that their
+-- features name may not exist (`AreResolved` of `Resolved.antt`).
 use Rattle.std.proofs.Common.{◌≡◌, ◌≢◌, ℕ, zero, suc, ◌+◌, ◌<◌, ◌≤◌, ◌^◌, List, [], ◌∷◌, ◌++◌, length, take, map, get_or, Option, Some, None, sym, ap, ◌∙◌, refl, subst, arith, true≢false}
 use Rattle.std.specs.Prelude.{IsSome}
 use Rattle.std.specs.List.{AllByRecursion}

@@ -1,4 +1,5 @@
--- The faults that `table` returns are exactly those of the rows of `ClassRows.antt`, or of `FeatureRows.antt` if the classes have none.
+-- The faults (compile-time errors) that `table` returns are exactly the violations of the rules of classes in `ClassRows.antt`, or of the rules of features in
+-- `FeatureRows.antt` if no rule of classes is violated.
 use Rattle.std.proofs.Common.{◌≡◌, ◌≢◌, ◌⊎◌, inl, inr, ℕ, zero, suc, ◌+◌, ◌<◌, List, [], ◌∷◌, ◌++◌, length, map, take, drop, get_or, Option, Some, None, is_some, is_none, Contains, Bool, true, false, ◌||◌, sym, ap, ◌∙◌, refl, subst, arith, append_assoc, true≢false}
 use Rattle.std.specs.Prelude.{slice_get, bytes_eq, nat_eq, codes, if◌then◌else◌}
 use Rattle.std.specs.List.{AllByRecursion}

@@ -1,4 +1,4 @@
--- Lemmas on lists of declared types of different lengths, and on the disjunction of two tests.
+-- Lists of declared types of different lengths are not the same, and a disjunction of two tests has the result of the second test if the first fails.
 use Rattle.std.proofs.Common.{◌≡◌, ◌≢◌, ℕ, suc, List, [], ◌∷◌, length, Bool, true, false, not, ◌&&◌, ◌||◌, ap, sym, ◌∙◌, refl}
 use Rattle.std.specs.Prelude.{bytes_eq, ◌==◌}
 use Rattle.std.proofs.Math.Dec.{eqb-suc-zero}

@@ -1,4 +1,5 @@
--- Lemmas on the classes that the entries of a table represent, and on tests whether two numbers or two names are equal.
+-- A class number is below the number of class-table entries exactly if it is below the number of classes that they represent, and tests for equal numbers and
+-- names are right.
 use Rattle.std.proofs.Common.{◌≡◌, ◌≢◌, ℕ, ◌<◌, List, length, get_or, sym, ap, ◌∙◌, subst, Bool, true, false, not, eqb, true≢false}
 use Rattle.std.proofs.lemmas.Bool.{eqb-true, eq-eqb, not-false}
 use Rattle.std.proofs.lemmas.List.{length-map, get_or-map}

@@ -1,5 +1,5 @@
--- Lemmas for `swap_body` and `swap_feature`: the entries afterwards represent the classes with one body or feature exchanged, and keep the invariant of the
--- table.
+-- After `swap_body` or `swap_feature`, the class-table entries represent the same classes with one expression or one feature exchanged, and the class table
+-- keeps its invariant.
 use Rattle.std.proofs.Common.{◌≡◌, ℕ, zero, suc, ◌+◌, ◌<◌, List, [], ◌∷◌, map, length, get_or, set, Option, Some, None, refl, sym, ap, ◌∙◌, subst}
 use Rattle.std.specs.Prelude.{slice_get}
 use Rattle.std.specs.Global.{Vec}

@@ -1,4 +1,5 @@
--- Lemmas for `walk`: a walk from a definition finds right depths or a cycle, and keeps `AreWalked` of `Walks.antt`.
+-- `walk`, which follows parents from one class definition, finds the right depths (numbers of ancestors) or a cycle of inheritance, and keeps the invariant
+-- `AreWalked` of all walks.
 use Rattle.std.proofs.Common.{◌≡◌, ◌≢◌, ◌⊎◌, inl, inr, ℕ, suc, ◌+◌, ◌-◌, ◌<◌, ◌≤◌, List, [], ◌∷◌, ◌++◌, length, take, drop, get_or, set, Option, Some, None, Contains, Bool, true, false, sym, ap, ◌∙◌, refl, subst, cond, arith, get_or-set_other, get_or-set_same, true≢false}
 use Rattle.std.specs.Prelude.{is_some, is_none, IsSome, nat_eq, replicate}
 use Rattle.std.specs.List.{AllByRecursion}

@@ -1,4 +1,4 @@
--- `named_methods` and `IsSignature` relate the code's tables of the methods of the basic classes to `basic_methods`, `basic_formals` and `basic_result` of
+-- `named_methods` and `IsSignature` say that the code's tables of the methods of the basic classes agree with the specification of these methods in
 -- Features.antt.
 use Rattle.std.specs.Prelude.{◌≡◌, ◌<◌, ◌≤◌, List, map, length}
 use Rattle.std.specs.List.{AllByRecursion}

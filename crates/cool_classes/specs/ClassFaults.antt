@@ -1,5 +1,5 @@
--- `class_phase` lists the faults of the classes of a program, and `feature_phase` those of their features (the Cool manual, sections 3 to 8, and the limits
--- of this compiler). `HasTableFaults` says which of these lists an error has, and in which order.
+-- `class_phase` lists the faults (compile-time errors) of the classes of a program, and `feature_phase` those of their features (the Cool manual, sections 3 to
+-- 8, and the limits of this compiler). `HasTableFaults` says which of these lists the compiler returns, and in which order.
 use Rattle.std.specs.Prelude.{◌≡◌, ◌≢◌, ◌⊎◌, ℕ, suc, List, [], ◌∷◌, ◌++◌, map, drop, get_or, Option, Some, None, is_some, is_none, Bool, ◌||◌, nat_eq, codes, bytes_eq, if◌then◌else◌}
 use Rattle.std.specs.List.Sorted.{IsPermutation}
 use Rattle.cool_syntax.specs.declared.place.Place.{Place}

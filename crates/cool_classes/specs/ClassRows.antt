@@ -1,5 +1,5 @@
--- `IsClassFault` has a row for each rule of classes (the Cool manual, section 3) and for the limit on their number: which fault a violation has, and its
--- place. `HasRows` says that an error has exactly these faults, or exactly those of the features.
+-- `IsClassFault` says for each rule of classes (the Cool manual, section 3), and for the limit on their number, which fault (compile-time error) a violation
+-- has, and its location. `HasRows` says that a returned error has exactly these faults, or exactly those of the features.
 use Rattle.std.specs.Prelude.{◌≡◌, ◌≢◌, ◌⊎◌, ℕ, ◌+◌, List, ◌++◌, take, slice_get, Contains, Some, codes}
 use Rattle.cool_syntax.specs.declared.place.Place.{Place}
 use Rattle.cool_syntax.specs.declared.type_ref.TypeRef.{TypeRef}

@@ -1,4 +1,4 @@
--- The chain of a class as a function of the table: the classes from one up, each followed by its parent (the Cool manual, section 3.2).
+-- `chain` is the chain of a class as a function of the class table: the list of the class, its parent, and so on up to Object (the Cool manual, section 3.2).
 use Rattle.std.specs.Prelude.{◌≡◌, ℕ, zero, suc, List, [], ◌∷◌, length, Option, Some, None, refl}
 use Rattle.cool_classes.specs.declared.class_id.ClassId.{ClassId}
 use Rattle.cool_classes.specs.Chains.{Class, class_number, parent_of, three}

@@ -1,4 +1,4 @@
--- Cycles of parents: the definitions whose chains of parents come back to themselves (the Cool manual, section 3).
+-- The cycles of inheritance: the class definitions from which following parents leads back to the same definition (the Cool manual, section 3).
 use Rattle.std.specs.Prelude.{◌≡◌, ◌≢◌, ℕ, zero, suc, ◌+◌, ◌<◌, List, [], ◌∷◌, length, get_or, Contains, Option, Some, None, refl}
 use Rattle.std.specs.List.{AllByRecursion}
 use Rattle.cool_classes.specs.declared.class_id.ClassId.{ClassId}

@@ -1,4 +1,5 @@
--- `DeclareSame` says that two features declare the same names and types, and `AreAlike` that two classes differ at most in bodies, initial values and places.
+-- `DeclareSame` says that two features declare the same names and types, and `AreAlike` that two classes differ at most in method bodies, initial values and
+-- source locations.
 use Rattle.std.specs.Prelude.{◌≡◌, refl, ℕ, List, [], ◌∷◌, map, codes, Option, Some, None}
 use Rattle.cool_syntax.specs.declared.file_tree.Feature.{Feature}
 use Rattle.cool_syntax.specs.declared.file_tree.Feature.TheVariants.{Method, Attribute}

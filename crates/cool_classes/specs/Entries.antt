@@ -1,5 +1,5 @@
--- `as_class` converts an entry of the code's class table, which also stores the number of classes above the class, to a class of the definitions. `AreWhole`
--- says that entries are a complete table, and that these numbers are right.
+-- `as_class` converts an entry of the code's class table, which also stores the number of ancestors, to a class as the specification defines it. `AreWhole`
+-- says that entries are a complete class table, and that these numbers are right.
 use Rattle.std.specs.Prelude.{◌≡◌, ℕ, List, [], map, get_or, Option, Some, None, refl}
 use Rattle.cool_syntax.specs.declared.file_tree.Feature.{Feature}
 use Rattle.cool_syntax.specs.Tree.{Tree}

@@ -1,5 +1,5 @@
--- `IsFaultList` says that a list of faults is not empty, is in order, and has only faults of classes or only faults of features. `rank` is the order of the
--- kinds of faults.
+-- `IsFaultList` says that a list of faults (compile-time errors) is not empty, is in order, and has only faults of classes or only faults of features. `rank`
+-- is the order of the kinds of faults.
 use Rattle.std.specs.Prelude.{◌≢◌, ◌⊎◌, ℕ, ◌<◌, List, []}
 use Rattle.std.specs.List.{AllByRecursion}
 use Rattle.std.specs.List.Sorted.{IsPermutation}

@@ -1,5 +1,5 @@
--- `class_faults` lists the faults of a class: feature by feature, then its method main, then its limits (the Cool manual, sections 5, 6 and 8, and the limits
--- of this compiler).
+-- `class_faults` lists the faults (compile-time errors) of a class: those of each feature, of its method main, and of its limits (the Cool manual, sections 5,
+-- 6 and 8, and the limits of this compiler).
 use Rattle.std.specs.Prelude.{ℕ, ◌+◌, List, [], ◌∷◌, ◌++◌, map, length, slice_get, Option, Some, None, is_some, Bool, true, false, not, ◌&&◌, ◌||◌, nat_lt, codes, bytes_eq, if◌then◌else◌}
 use Rattle.cool_syntax.specs.declared.place.Place.{Place}
 use Rattle.cool_syntax.specs.declared.type_ref.TypeRef.{TypeRef}

@@ -1,4 +1,5 @@
--- `IsFeatureFault` has a row for each rule of features (the Cool manual, sections 5, 6 and 8) and for each limit: which fault a violation has, and its place.
+-- `IsFeatureFault` says for each rule of features (the Cool manual, sections 5, 6 and 8), and for each limit, which fault (compile-time error) a violation has,
+-- and its location.
 use Rattle.std.specs.Prelude.{◌≡◌, ◌≢◌, ◌⊎◌, ℕ, ◌<◌, List, [], ◌∷◌, length, slice_get, Contains, Some, codes}
 use Rattle.std.specs.List.{AllByRecursion}
 use Rattle.cool_syntax.specs.declared.place.Place.{Place}

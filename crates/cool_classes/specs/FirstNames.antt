@@ -1,4 +1,4 @@
--- `first_index` is the index of the first item that has a name in a list in which some items have none. `FindsFirst` says that a map finds this index for
+-- `first_index` is the index of the first item with a given name in a list in which some items have no name. `FindsFirst` says that a map gives this index for
 -- every name.
 use Rattle.std.specs.Prelude.{◌≡◌, ℕ, ◌+◌, List, [], ◌∷◌, map, Option, Some, None, Bool, false, nat_eq, codes, bytes_eq, if◌then◌else◌, refl}
 use Rattle.std.specs.Map.{lookup}

@@ -1,5 +1,5 @@
--- `IsLineage` says that the code's list of the classes above a class is right. `AreCounts` says the same of the code's numbers of attributes and methods that
--- each class adds to those above it.
+-- `IsLineage` says that the list of the ancestors of a class that the code keeps is right. `AreCounts` says the same of the numbers of attributes and methods
+-- that each class adds to those of its ancestors.
 use Rattle.std.specs.Prelude.{◌≡◌, ℕ, ◌+◌, ◌<◌, List, [], ◌∷◌, length, get_or}
 use Rattle.std.specs.List.{AllByRecursion}
 use Rattle.cool_classes.specs.declared.class_id.ClassId.{ClassId}

@@ -1,5 +1,5 @@
--- `AreResolved` says that the classes of a table are checked and their features not yet. The table lacks only the properties of `AreGood`: the types of
--- features are types, and the limits are kept.
+-- `AreResolved` says that the names, parents and number of the classes of a class table are right, although their features may not be. The table lacks only the
+-- properties of `AreGood`: the types of features exist, and the limits are kept.
 use Rattle.std.specs.Prelude.{◌≡◌, ◌≢◌, ℕ, ◌+◌, ◌<◌, ◌≤◌, ◌^◌, List, length, take}
 use Rattle.std.specs.List.{AllByRecursion}
 use Rattle.cool_syntax.specs.declared.place.Place.{Place}

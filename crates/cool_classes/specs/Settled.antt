@@ -1,5 +1,5 @@
--- `AreSettled` says that the classes of definitions have no fault, and that these are their depths (the Cool manual, section 3). `entries_of` are the entries
--- of the class table that the definitions make.
+-- `AreSettled` says that the classes of class definitions have no fault (compile-time error), and that given numbers are their depths (numbers of ancestors).
+-- `entries_of` are the entries of the class table that the definitions make (the Cool manual, section 3).
 use Rattle.std.specs.Prelude.{◌≡◌, ◌≢◌, ℕ, ◌≤◌, ◌<◌, List, [], ◌∷◌, ◌++◌, map, take, length, get_or, Option, Some, None, IsSome}
 use Rattle.std.specs.List.{AllByRecursion}
 use Rattle.cool_syntax.specs.declared.place.Place.{Place}

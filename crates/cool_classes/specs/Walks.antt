@@ -1,5 +1,5 @@
--- Invariants of the walks from each definition up to its ancestors, by which the code computes depths and finds cycles: `IsClimb` for one walk, `AreWalked`
--- for all walks so far.
+-- Invariants of the walks from each class definition up to its ancestors, by which the code computes depths (numbers of ancestors) and finds cycles: `IsClimb`
+-- for one walk, `AreWalked` for all walks so far.
 use Rattle.std.specs.Prelude.{◌≡◌, ◌≢◌, ◌⊎◌, ℕ, ◌+◌, ◌<◌, ◌≤◌, List, [], ◌∷◌, length, get_or, slice_set, Contains, Option, Some, None, IsSome, is_none, nat_eq, if◌then◌else◌, refl}
 use Rattle.std.specs.List.{AllByRecursion, count_by}
 use Rattle.cool_classes.specs.declared.class_id.ClassId.{ClassId}

@@ -1,4 +1,4 @@
-//! The numbers of classes, and types: a class, or `SELF_TYPE`.
+//! The type `ClassId`, the number of a class in the class table, and the type `Ty` of Cool types: a class or `SELF_TYPE`.
 
 /// The number of a class in its table, from 0.
 ///

@@ -1,5 +1,5 @@
-//! The faults of classes: their names, their parents, their number, and the chains that they make (the Cool manual,
-//! section 3).
+//! The function `settle_classes`: it finds the name, parent and depth of each class, or the compile-time errors in class names, parents, cycles of inheritance
+//! and the number of classes (the Cool manual, section 3).
 
 ghost use Rattle.std.specs.Prelude.{◌≡◌, ℕ, ◌-◌, ◌<◌, ◌≤◌, ◌^◌, ◌≢◌, List, [], ◌++◌, length, IfOk, IfErr, OnOk, IfSome, IfNone, IsSome, false};
 ghost use Rattle.std.specs.List.{AllByRecursion};

@@ -1,4 +1,5 @@
-//! Functions that climb from a class to its ancestors: the chain of a class, whether a class is below another, and the least class above two.
+//! Functions that go from a class to its ancestors: they list the ancestors, test whether a class inherits from another, and find the least common ancestor of
+//! two classes.
 
 ghost use Rattle.std.specs.Prelude.{◌≡◌, ◌<◌, ◌↔◌, IsTrue, IfOk, Some, List, length};
 ghost use Rattle.cool_classes.specs.declared.class_id.ClassId as number;

@@ -1,4 +1,5 @@
-//! The number of classes above each definition, and the definitions on cycles of parents (the Cool manual, section 3).
+//! The function `depths`: it computes the number of ancestors of each class definition, and finds the definitions on cycles of inheritance (the Cool manual,
+//! section 3).
 //!
 //! A definition is named by its position among the definitions, its class by its number, which is higher by the number of the basic classes. Each
 //! definition is passed once, so the cost is linear.

@@ -1,4 +1,4 @@
-//! Faults of classes and features (the Cool manual, sections 3 to 8, and the limits of this compiler).
+//! The faults (compile-time errors) of classes and features (the Cool manual, sections 3 to 8, and the limits of this compiler).
 
 use cool_syntax::{Listed, Place};
 use std::alloc::AllocError;

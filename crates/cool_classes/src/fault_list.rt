@@ -1,4 +1,4 @@
-//! Lists of faults: adding a fault, sorting the faults, and returning them as an error.
+//! Functions on lists of faults (compile-time errors): they add a fault, sort the faults, and return them as an error.
 
 ghost use Rattle.std.specs.Prelude.{◌≡◌, ◌⊎◌, ℕ, [], OnOk, IfErr};
 ghost use Rattle.std.specs.List.{AllByRecursion};

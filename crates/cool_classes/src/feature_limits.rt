@@ -1,4 +1,4 @@
-//! The numbers of attributes and methods of classes, with those that they inherit, and whether they exceed the limits.
+//! Functions that count the attributes and methods of classes, with the inherited ones, and test whether they exceed the compiler's limits.
 
 ghost use Rattle.std.specs.Prelude.{◌≡◌, ◌<◌, ◌^◌, ◌∷◌, length, if◌then◌else◌, nat_lt, IfOk};
 ghost use Rattle.std.specs.List.{AllByRecursion};

@@ -1,4 +1,5 @@
-//! The faults of the features of all classes (the Cool manual, sections 5, 6 and 8, and the limits of this compiler).
+//! The function `feature_faults`: it finds the faults (compile-time errors) in the features of all classes (the Cool manual, sections 5, 6 and 8, and the
+//! limits of this compiler).
 
 ghost use Rattle.std.specs.Prelude.{◌≡◌, ◌<◌, ◌^◌, ◌+◌, ◌++◌, ℕ, [], length, IfOk, OnOk};
 ghost use Rattle.std.specs.List.{AllByRecursion};

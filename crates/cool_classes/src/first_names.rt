@@ -1,4 +1,4 @@
-//! A map from each name of a list to the first index of the name.
+//! The type `FirstNames`: a map from each name in a list to the first index at which it stands.
 
 ghost use Rattle.std.specs.Prelude.{◌≡◌, ℕ, List, [], ◌∷◌, ◌++◌, length, Option, Some, OnOk};
 ghost use Rattle.cool_classes.specs.FirstNames.{first_index, is_index, shown_names, FindsFirst};

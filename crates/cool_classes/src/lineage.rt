@@ -1,4 +1,4 @@
-//! A class with the classes above it.
+//! The type `Lineage`: a class, and the list of its ancestors from its parent up to Object.
 
 ghost use Rattle.std.specs.Prelude.{◌≡◌, ◌<◌, length, IfOk};
 ghost use Rattle.cool_classes.specs.Entries.{classes, depth_at};

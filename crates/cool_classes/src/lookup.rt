@@ -1,4 +1,4 @@
-//! Looking up classes and methods by name.
+//! Functions that find the class of a name, and the method of a name in a class or its nearest ancestor that has one.
 
 ghost use Rattle.std.specs.Prelude.{◌≡◌, ℕ, ◌<◌, List, length, IfSome, Some};
 ghost use Rattle.cool_classes.specs.declared.class_id.ClassId as number;

@@ -1,4 +1,4 @@
-//! Methods and attributes, identified by class and index.
+//! References to methods and attributes: a class with the index of a feature in it, or a method of a basic class.
 
 use crate::class_id::ClassId;
 

@@ -1,4 +1,4 @@
-//! The names of the classes of a table, and for each class the names of its features, as maps.
+//! Maps from names to the classes of a class table, and, for each class, from names to the methods and attributes that it defines itself.
 
 ghost use Rattle.std.specs.Prelude.{◌≡◌, ◌<◌, ◌^◌, ◌++◌, ◌∷◌, [], Some, List, length, slice_get, IfOk, OnOk, IfSome};
 ghost use Rattle.std.specs.List.{AllByRecursion};

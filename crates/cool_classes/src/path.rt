@@ -1,11 +1,11 @@
-//! The path of a climb: the definitions that it has passed, with the last one on top.
+//! The type `Path`: a stack of the class definitions that the search for cycles of inheritance has visited on its way from a definition to its ancestors.
 
 ghost use Rattle.std.specs.Prelude.{◌≡◌, [], ◌∷◌, MatchOption, OnOk};
 
 use std::alloc::{AllocError, Global};
 use std::marker::Model;
 
-/// Definitions by their positions. A contract sees the list of them, the last one that came first.
+/// Class definitions, each as its position among all definitions. A contract sees the list of them, with the one that was added last at the front.
 #[derive(Drop)]
 pub(crate) struct Path {
     passed: Vec<usize>,
@@ -20,7 +20,7 @@ impl Model for Path {
 }
 
 impl Path {
-    /// A path with no definition. It takes no memory.
+    /// Returns a path without definitions. It allocates no memory.
     pub(crate) fn new(alloc: Global) -> Path
         ensures { result ≡ [] }
     {
@@ -29,7 +29,7 @@ impl Path {
         }
     }
 
-    /// Adds a definition. Returns `Err` only if memory runs out.
+    /// Adds a definition at the front. Returns `Err` only if memory runs out.
     pub(crate) fn push(&mut self, class: usize) -> Result<(), AllocError>
         ensures { OnOk result (self.new ≡ class ∷ self.old) }
     {
@@ -37,7 +37,7 @@ impl Path {
         Ok(())
     }
 
-    /// Takes the last definition off.
+    /// Removes the definition that was added last, and returns it; returns `None` if the path is empty.
     pub(crate) fn pop(&mut self) -> Option<usize>
         ensures { MatchOption result ((self.old ≡ []) × (self.new ≡ [])) (λ class. self.old ≡ class ∷ self.new) }
     {

@@ -1,4 +1,4 @@
-//! The word `SELF_TYPE` (the Cool manual, section 4.1).
+//! The name `SELF_TYPE`, and the test whether a name is `SELF_TYPE` (the Cool manual, section 4.1).
 
 ghost use Rattle.std.specs.Prelude.{◌≡◌, bytes_eq};
 ghost use Rattle.cool_classes.specs.Names.{self_type};

@@ -1,4 +1,4 @@
-//! The declarations of features: the types of the formals and the results of methods, and of attributes.
+//! Functions that return the declared types of features: of the formal parameters and the result of a method, and of an attribute.
 
 ghost use Rattle.std.specs.Prelude.{◌≡◌, ◌<◌, List, [], length, get_or};
 ghost use Rattle.cool_classes.specs.declared.entry.Entry as entry;

@@ -1,4 +1,5 @@
-//! The faults of declarations: types, formals, and methods that are defined again (the Cool manual, sections 5 and 6).
+//! Functions that find the faults (compile-time errors) in declarations: unknown types, wrong formal parameters, and methods redefined with another signature
+//! (the Cool manual, sections 5 and 6).
 
 ghost use Rattle.std.specs.Prelude.{◌≡◌, ℕ, ◌<◌, ◌^◌, ◌++◌, List, [], ◌∷◌, length, Option, OnOk};
 ghost use Rattle.cool_classes.specs.Features.{HasMethod};

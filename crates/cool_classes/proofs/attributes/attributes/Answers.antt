@@ -1,5 +1,5 @@
--- `attributes` returns the attributes of all classes on the chain of a class, from Object down. Its loop reads the chain from its end, and each step adds
--- the own attributes of one class.
+-- `attributes` returns the attributes of a class and of all its ancestors, from Object down. Its loop reads the list of these classes from its end, and each
+-- step adds the attributes of one class.
 use Rattle.std.proofs.Common.{◌≡◌, ◌<◌, ◌-◌, ◌++◌, ℕ, List, length, drop, get_or, Some, ap, sym, ◌∙◌, subst, arith}
 use Rattle.std.specs.List.{AllByRecursion}
 use Rattle.cool_classes.specs.declared.class_id.ClassId.{ClassId}

@@ -1,4 +1,4 @@
--- The loop of `attributes` has added the attributes of the classes from position `index` of the chain up to Object.
+-- The loop of `attributes` has added the attributes of the classes from position `index` of the chain (the class and its ancestors) up to Object.
 use Rattle.std.proofs.Common.{◌≡◌, drop}
 use Rattle.cool_classes.specs.Features.{attributes_of}
 use Rattle.cool_classes.specs.Entries.{classes}

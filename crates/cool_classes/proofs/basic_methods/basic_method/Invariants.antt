@@ -1,4 +1,4 @@
--- The loop of `basic_method` has not found the name yet: the methods from the current one on give the same result as all of them.
+-- The loop of `basic_method` has not found the name yet: searching only the methods from the current one on gives the same result as searching all of them.
 use Rattle.std.proofs.Common.{◌≡◌, drop}
 use Rattle.cool_classes.specs.BasicMethods.{named_methods}
 use Rattle.cool_classes.specs.Features.{method_among}

@@ -1,4 +1,4 @@
--- `fit_basic` returns false if the basic method has another number of formals: `same_types` of `FeatureFaults.antt` is false for lists of different lengths.
+-- `fit_basic`, which compares declared formal parameters with those of a basic method, returns false if their numbers differ, as `same_types` does.
 use Rattle.std.proofs.Common.{length, ap, sym, ◌∙◌}
 use Rattle.std.proofs.lemmas.List.{length-map}
 use Rattle.cool_classes.specs.Chains.{name_of}

@@ -1,4 +1,5 @@
--- The loop of `fit_basic` has found no difference yet: the formals from the current one on declare the same types exactly if all of them do.
+-- The loop of `fit_basic` has found no difference yet: the formal parameters from the current one on have the types of those of the basic method exactly if all
+-- have.
 use Rattle.std.proofs.Common.{◌≡◌, drop, map}
 use Rattle.cool_classes.specs.Chains.{name_of}
 use Rattle.cool_classes.specs.FeatureFaults.{declared_types, same_types}

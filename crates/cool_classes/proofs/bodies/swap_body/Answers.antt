@@ -1,5 +1,5 @@
--- `swap_body` changes the entries only in the body of one feature of one class. It takes the features out of the entry, exchanges the body and puts them
--- back.
+-- `swap_body` changes the class-table entries only in the expression of one feature of one class. It takes the features out of the entry, exchanges the
+-- expression and puts them back.
 use Rattle.std.proofs.Common.{◌≡◌, get_or, ap, ◌∙◌}
 use Rattle.cool_classes.specs.Bodies.{with_body, changed_at}
 use Rattle.cool_classes.specs.Entries.{entry_with_body}

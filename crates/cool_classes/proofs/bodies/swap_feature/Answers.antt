@@ -1,4 +1,5 @@
--- `swap_feature` changes the entries only in one feature of one class. It takes the features out of the entry, replaces the one and puts them back.
+-- `swap_feature` changes the class-table entries only in one feature of one class. It takes the features out of the entry, replaces this feature and puts them
+-- back.
 use Rattle.std.proofs.Common.{◌≡◌, get_or, ap, ◌∙◌}
 use Rattle.cool_syntax.specs.declared.file_tree.Feature.{Feature}
 use Rattle.cool_classes.specs.Bodies.{changed_at}

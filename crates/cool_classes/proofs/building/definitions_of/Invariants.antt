@@ -1,4 +1,4 @@
--- The loop of `definitions_of` has added the definitions of the files before the current one.
+-- The loop of `definitions_of` has added the class definitions of the source files before the current one.
 use Rattle.std.proofs.Common.{◌≡◌, ◌++◌}
 use Rattle.cool_classes.specs.Definitions.{definitions}
 use Rattle.cool_classes.proofs.building.definitions_of.Given as goal

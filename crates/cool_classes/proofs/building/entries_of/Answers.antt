@@ -1,5 +1,5 @@
--- `entries_of` returns the entries of the basic classes and after them one for each definition, which a step of its loop adds. The depth of each definition
--- is known, as `AreSettled` of `Settled.antt` says.
+-- `entries_of` returns the class-table entries of the basic classes, followed by one entry for each class definition, which a step of its loop adds. The depth
+-- (number of ancestors) of each definition is known, as `AreSettled` of `Settled.antt` says.
 use Rattle.std.proofs.Common.{◌≡◌, ◌∷◌, ◌++◌, ◌+◌, ◌<◌, List, [], length, drop, sym, ap, ◌∙◌, arith}
 use Rattle.cool_classes.specs.Settled.{names_with_basic, entries_meant, entries_of}
 use Rattle.cool_classes.specs.declared.entry.Entry.{Entry}

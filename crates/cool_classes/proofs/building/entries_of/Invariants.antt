@@ -1,4 +1,4 @@
--- The loop of `entries_of` has added the entries of the definitions before the current one.
+-- The loop of `entries_of` has added the class-table entries of the class definitions before the current one.
 use Rattle.std.proofs.Common.{◌≡◌, ◌++◌, ◌+◌, length, drop}
 use Rattle.cool_classes.specs.Settled.{names_with_basic, entries_meant, entries_of}
 use Rattle.cool_classes.proofs.building.entries_of.Given as goal

@@ -1,4 +1,4 @@
--- The loop of `places_of` has added the places of the definitions before the current one.
+-- The loop of `places_of` has added the source locations of the class definitions before the current one.
 use Rattle.std.proofs.Common.{◌≡◌, map, take}
 use Rattle.cool_syntax.specs.declared.file_tree.ClassDef.{ClassDef}
 use Rattle.cool_classes.proofs.building.places_of.Given as goal

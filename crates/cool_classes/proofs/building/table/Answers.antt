@@ -1,5 +1,5 @@
--- `table` returns the classes that the definitions make (`classes_meant` of `ClassFaults.antt`) if they have no fault. Otherwise it returns the faults of
--- the classes, or those of the features if the classes have none.
+-- `table` returns the class table that the class definitions make if they have no fault (compile-time error). Otherwise it returns the faults of the classes,
+-- or those of the features if the classes have none.
 use Rattle.std.proofs.Common.{rules, ◌≡◌, ◌+◌, ℕ, List, [], length, map, sym, ap, ◌∙◌, subst}
 use Rattle.std.proofs.lemmas.List.{length-map}
 use Rattle.cool_syntax.specs.declared.place.Place.{Place}

@@ -1,4 +1,4 @@
--- `add_cyclic` adds the fault C5 at the place of each definition on a cycle: each step of its loop adds one fault.
+-- `add_cyclic` adds the compile-time error C5 at the name of each class definition on a cycle of inheritance: each step of its loop adds one error.
 use Rattle.std.proofs.Common.{◌<◌, ℕ, List, Some, length, get_or, sym, ◌∙◌, subst, arith}
 use Rattle.cool_syntax.specs.TreesWithinLimits.{IsClassWithin, AreClassesWithin}
 use Rattle.cool_classes.specs.declared.fault.ClassFault.{ClassFault}

@@ -1,4 +1,4 @@
--- The loop of `add_cyclic` has added a fault for each definition on a cycle before the current one.
+-- The loop of `add_cyclic` has added an error for each class definition on a cycle of inheritance before the current one.
 use Rattle.std.proofs.Common.{◌≡◌, ◌++◌, ℕ, [], drop}
 use Rattle.cool_syntax.specs.TreesWithinLimits.{AreClassesWithin}
 use Rattle.cool_classes.specs.ClassFaults.{cycle_faults}

@@ -1,4 +1,5 @@
--- `check_number` adds no fault if there are at most `MOST_CLASSES` definitions: `number_faults` of `ClassFaults.antt` is empty then.
+-- `check_number` adds no error if there are at most `MOST_CLASSES` class definitions, which is the limit: the specification `number_faults` of
+-- `ClassFaults.antt` is empty then.
 use Rattle.std.proofs.Common.{◌++◌, List, ap, sym, ◌∙◌, append-nil}
 use Rattle.cool_syntax.specs.declared.file_tree.ClassDef.{ClassDef}
 use Rattle.cool_classes.specs.ClassFaults.{first_fault}

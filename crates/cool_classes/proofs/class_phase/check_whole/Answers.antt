@@ -1,4 +1,4 @@
--- `check_whole` adds the faults C5, C6 and C7 one after the other, as its calls of `add_cyclic`, `check_main` and `check_number` do.
+-- `check_whole` adds the compile-time errors for cycles of inheritance (C5), a missing class Main (C6) and too many classes (C7), one after the other.
 use Rattle.cool_classes.specs.ClassFaults.{cycle_faults, main_faults, number_faults}
 use Rattle.cool_classes.proofs.FaultsLeft.{joined_three}
 use Rattle.cool_classes.proofs.class_phase.check_whole.Goals as goal

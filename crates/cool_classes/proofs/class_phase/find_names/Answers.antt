@@ -1,5 +1,5 @@
--- `find_names` returns a map from each name to its first class, and adds the faults C1 and C2. Each step of its loop adds the name and the fault of one
--- definition.
+-- `find_names` returns a map from each name to its first class, and adds the compile-time errors for class names that are taken (C1) or `SELF_TYPE` (C2). Each
+-- step of its loop adds the name and the error of one definition.
 use Rattle.std.proofs.Common.{◌≡◌, ◌≢◌, ◌++◌, ◌<◌, ℕ, List, [], Option, Some, None, false, map, take, length, get_or, sym, ap, ◌∙◌, ◌∷◌, ◌+◌, is_some, subst, arith}
 use Rattle.std.specs.Prelude.{IfNone}
 use Rattle.cool_syntax.specs.TreesWithinLimits.{AreClassesWithin}

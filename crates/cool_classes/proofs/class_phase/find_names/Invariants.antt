@@ -1,4 +1,4 @@
--- The loop of `find_names` has added the names of the definitions before the current one, and their faults.
+-- The loop of `find_names` has added the names of the class definitions before the current one, and the compile-time errors in these names.
 use Rattle.std.proofs.Common.{◌≡◌, ◌++◌, ℕ, [], drop, take}
 use Rattle.cool_syntax.specs.TreesWithinLimits.{AreClassesWithin}
 use Rattle.cool_classes.specs.ClassFaults.{names_faults}

@@ -1,5 +1,5 @@
--- `find_parents` returns the parents of the definitions and adds the faults C2, C3 and C4: each step of its loop adds the parent and the fault of one
--- definition.
+-- `find_parents` returns the parents of the class definitions, and adds the compile-time errors for parents that are `SELF_TYPE` (C2), undefined (C3), or Int,
+-- Bool or String (C4). Each step of its loop adds the parent and the error of one definition.
 use Rattle.std.proofs.Common.{◌++◌, ◌∷◌, ◌<◌, ℕ, List, [], take, length, ap, ◌∙◌, arith}
 use Rattle.std.specs.Prelude.{IfSome}
 use Rattle.cool_syntax.specs.TreesWithinLimits.{AreClassesWithin, IsTypeWithin}

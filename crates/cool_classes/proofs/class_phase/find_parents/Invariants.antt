@@ -1,4 +1,4 @@
--- The loop of `find_parents` has added the parents of the definitions before the current one, and their faults.
+-- The loop of `find_parents` has added the parents of the class definitions before the current one, and the compile-time errors in these parents.
 use Rattle.std.proofs.Common.{◌≡◌, ◌++◌, ℕ, [], drop, take}
 use Rattle.std.specs.List.{AllByRecursion}
 use Rattle.cool_syntax.specs.declared.file_tree.ClassDef.{ClassDef}

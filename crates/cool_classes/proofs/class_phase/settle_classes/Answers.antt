@@ -1,5 +1,5 @@
--- `settle_classes` returns the names, parents and depths of the classes if no definition has a fault C1 to C7. Otherwise it returns these faults, as
--- `class_phase` of `ClassFaults.antt` lists them.
+-- `settle_classes` returns the names, parents and depths (numbers of ancestors) of the classes if no class definition has a compile-time error C1 to C7.
+-- Otherwise it returns these errors, as `class_phase` of `ClassFaults.antt` lists them.
 use Rattle.std.proofs.Common.{rules, ◌≡◌, ◌+◌, ◌<◌, ◌++◌, ℕ, List, length, sym, ap, ◌∙◌, subst}
 use Rattle.std.specs.List.{AllByRecursion}
 use Rattle.cool_syntax.specs.TokenFacts.{IsPlaced}

@@ -1,4 +1,5 @@
--- `is_below` returns true exactly if the second class is on the chain of the first: its loop climbs this chain until it meets the second class.
+-- `is_below` returns true exactly if the second class is the first class or one of its ancestors: its loop follows the parents of the first class until it
+-- meets the second.
 use Rattle.std.proofs.Common.{◌≡◌, sym, ◌∙◌, refl}
 use Rattle.cool_classes.specs.Entries.{classes, depth_at}
 use Rattle.cool_classes.proofs.Climbs.{climbing_step, below_end}

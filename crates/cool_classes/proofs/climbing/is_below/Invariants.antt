@@ -1,4 +1,4 @@
--- The loop of `is_below` has climbed to a class that is below the second class exactly if the first one is.
+-- The loop of `is_below` has reached the first class or an ancestor of it, and this class is below the second class exactly if the first one is.
 use Rattle.cool_classes.specs.Entries.{classes, depth_at}
 use Rattle.cool_classes.proofs.Climbs.{Climbing}
 use Rattle.cool_classes.proofs.climbing.is_below.Given as goal

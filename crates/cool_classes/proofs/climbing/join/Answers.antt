@@ -1,5 +1,5 @@
--- `join` returns the least class that both classes are below. Its loop replaces a class that is at least as deep as the other by its parent, until the two
--- are the same.
+-- `join` returns the least common ancestor of two classes. Its loop replaces a class that is at least as deep as the other by its parent, until the two are the
+-- same.
 use Rattle.std.proofs.Common.{◌≤◌, arith}
 use Rattle.cool_classes.specs.Entries.{classes, depth_at}
 use Rattle.cool_classes.proofs.Climbs.{meeting_start, meeting_left, meeting_right, meeting_end, lower_there}

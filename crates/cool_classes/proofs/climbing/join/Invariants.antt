@@ -1,4 +1,4 @@
--- The loop of `join` has climbed from each of the two classes to one above it. Both are below each class that both of the first two are below.
+-- The loop of `join` has replaced each of the two classes by itself or by an ancestor. Each common ancestor of the two first classes is one of the current two.
 use Rattle.std.proofs.Common.{◌+◌}
 use Rattle.cool_classes.specs.Entries.{classes, depth_at}
 use Rattle.cool_classes.proofs.Climbs.{Meeting}

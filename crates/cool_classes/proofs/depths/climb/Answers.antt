@@ -1,5 +1,5 @@
--- `climb` ends in a state that `IsClimb` of `Walks.antt` describes. Each step of its loop marks a definition as passed, adds it to the path and goes on to
--- its parent.
+-- `climb` follows parents from a class definition to a class of known depth or to a visited definition. Each step of its loop marks a definition as visited,
+-- adds it to the path and goes on to its parent.
 use Rattle.std.proofs.Common.{◌≡◌, ◌-◌, ℕ, List, set, get_or, Some, None, sym, subst}
 use Rattle.cool_classes.specs.declared.depths.Above.TheVariants.{Known}
 use Rattle.cool_classes.specs.Walks.{IsClimb}

@@ -1,4 +1,4 @@
--- The loop of `climb` has followed the path from the first definition to the current one, and marked the definitions on the path as passed.
+-- The loop of `climb` has followed parents from the first class definition to the current one, and has marked the definitions on this path as visited.
 use Rattle.cool_classes.specs.Walks.{unpassed}
 use Rattle.cool_classes.proofs.PassingDefinitions.{Climbing}
 use Rattle.cool_classes.proofs.depths.climb.Given as goal

@@ -1,5 +1,5 @@
--- `depths` returns the definitions on cycles and, if there are none, the depth of each definition. Its loop walks from each definition and keeps `AreWalked`
--- of `Walks.antt`.
+-- `depths` returns the class definitions on cycles of inheritance and, if there are none, the depth (number of ancestors) of each definition. Its loop walks
+-- from each definition to its ancestors.
 use Rattle.std.proofs.Common.{◌≤◌, length, refl, arith, rules}
 use Rattle.cool_classes.proofs.CyclesCaught.{all_caught}
 use Rattle.cool_classes.proofs.WalksFind.{all_known, walked_none}

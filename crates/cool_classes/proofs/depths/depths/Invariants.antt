@@ -1,4 +1,4 @@
--- The loop of `depths` has walked from the definitions before the current one (`AreWalked` of `Walks.antt`).
+-- The loop of `depths` has walked from each class definition before the current one to its ancestors, as `AreWalked` of `Walks.antt` describes.
 use Rattle.cool_classes.specs.Walks.{AreWalked}
 use Rattle.cool_classes.proofs.depths.depths.Given as goal
 

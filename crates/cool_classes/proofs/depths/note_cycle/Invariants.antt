@@ -1,4 +1,4 @@
--- The loop of `note_cycle` has added definitions of the cycle: together with those left on the path they are the whole cycle.
+-- The loop of `note_cycle` has added class definitions of a cycle of inheritance: together with those left on the path they are the whole cycle.
 use Rattle.std.proofs.Common.{◌≡◌, ◌++◌, length}
 use Rattle.cool_classes.specs.Walks.{cycle_of}
 use Rattle.cool_classes.proofs.depths.note_cycle.Given as goal

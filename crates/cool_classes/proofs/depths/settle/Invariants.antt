@@ -1,5 +1,5 @@
--- The loop of `settle` has stored the depths of definitions from the end of the path. The rest of the path, below the current depth, gives the same depths
--- as the whole path.
+-- The loop of `settle` has stored the depths (numbers of ancestors) of class definitions from the end of the path. The rest of the path, below the current
+-- depth, gives the same depths as the whole path.
 use Rattle.std.proofs.Common.{◌≡◌, ◌+◌, ◌^◌, ◌<◌, ℕ, length}
 use Rattle.std.specs.List.{AllByRecursion}
 use Rattle.cool_classes.specs.Walks.{settled}

@@ -1,5 +1,5 @@
--- `walk` handles one more definition and keeps `AreWalked` of `Walks.antt`. A climb to a known depth gives the depths of its path, and a climb that returns
--- to its own path gives a cycle.
+-- `walk` follows parents from one more class definition, and stores the depths (numbers of ancestors) of the definitions that it visits, or finds a cycle. It
+-- keeps the invariant of all walks, `AreWalked` of `Walks.antt`.
 use Rattle.std.proofs.Common.{◌≡◌, ◌+◌, List, ℕ, Option, length, sym, ap, ◌∙◌, subst}
 use Rattle.cool_classes.specs.declared.depths.Above.{Above}
 use Rattle.cool_classes.specs.Walks.{AreWalked, IsClimb, settled}

@@ -1,4 +1,5 @@
--- `refuse_faults` returns exactly the faults that it was given, in order: the sort permutes the list, so their kinds and places are the same.
+-- `refuse_faults` returns exactly the faults (compile-time errors) that it was given, in order: sorting only permutes the list, so their kinds and locations
+-- are the same.
 use Rattle.std.proofs.Common.{rules, ◌≡◌, ◌≢◌, inl, inr, List, [], length, sym, ap, ◌∷◌, ◌∙◌, subst, arith}
 use Rattle.std.specs.List.{AllByRecursion}
 use Rattle.std.specs.List.Sorted.{IsPermutation}

@@ -1,4 +1,4 @@
--- `sort_faults` sorts faults by file, byte, kind and line, so they are in the order of `AreInOrder` of `FaultOrder.antt`.
+-- `sort_faults` sorts faults (compile-time errors) by file, byte, kind and line, which is the order that `AreInOrder` of `FaultOrder.antt` demands.
 use Rattle.std.proofs.Common.{rules}
 use Rattle.std.specs.List.Sorted.{IsSortedByKey}
 use Rattle.std.proofs.lemmas.List.Sorted.{answers_always}

@@ -1,5 +1,5 @@
--- `counts_of` returns the numbers of attributes and of new names of methods of each class (`AreCounts` of `Lineages.antt`): each step of its loop counts
--- those of one class.
+-- `counts_of` returns for each class the number of its attributes, and the number of method names that it adds to those of its ancestors. Each step of its loop
+-- counts those of one class.
 use Rattle.std.proofs.Common.{◌≡◌, ◌+◌, ◌++◌, ◌∷◌, [], ℕ, List, length, ap, sym, ◌∙◌, subst}
 use Rattle.cool_syntax.specs.declared.file_tree.Feature.{Feature}
 use Rattle.cool_classes.specs.declared.class_id.ClassId.{ClassId}

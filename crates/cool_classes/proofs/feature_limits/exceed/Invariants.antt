@@ -1,4 +1,4 @@
--- The loop of `exceed` has subtracted the counts of the classes before the current one from the limit.
+-- The loop of `exceed`, which tests whether counts add up to more than a limit, has subtracted the counts of the classes before the current one from the limit.
 use Rattle.std.proofs.Common.{◌≡◌, ◌+◌, ◌<◌, length, drop}
 use Rattle.std.specs.List.{AllByRecursion}
 use Rattle.cool_classes.specs.Lineages.{sum_at}

@@ -1,5 +1,5 @@
--- `is_over_limit` compares the numbers of attributes and of methods of a class with the limits. Each number is the sum of the counts of all classes on the
--- chain.
+-- `is_over_limit` compares the numbers of attributes and of methods of a class with the compiler's limits. Each number is the sum of the counts of the class
+-- and its ancestors.
 use Rattle.std.proofs.Common.{ℕ, List, ◌∷◌, Some, length, ap, ◌∙◌, refl}
 use Rattle.std.specs.Prelude.{nat_lt}
 use Rattle.cool_classes.specs.declared.TheConstants.{MOST_ATTRIBUTES, MOST_METHODS}

@@ -1,4 +1,4 @@
--- The loop of `new_method_count` has counted the new methods before the current feature.
+-- The loop of `new_method_count` has counted the methods before the current feature that have a name which is new in the class.
 use Rattle.std.proofs.Common.{◌≡◌, ◌+◌, ◌≤◌, length, drop}
 use Rattle.cool_classes.specs.Entries.{classes}
 use Rattle.cool_classes.specs.MethodNames.{new_among}

@@ -1,5 +1,5 @@
--- `feature_faults` returns the faults of the features of all classes: each step of its loop adds those of one class. If there are none, `AreGood` of
--- `Resolved.antt` holds of the table.
+-- `feature_faults` returns the faults (compile-time errors) of the features of all classes: each step of its loop adds those of one class. If there are none,
+-- the declared types exist and the limits are kept (`AreGood` of `Resolved.antt`).
 use Rattle.std.proofs.Common.{◌≡◌, ◌+◌, ◌++◌, ◌<◌, ◌≤◌, length, get_or, ap, ◌∙◌, subst, arith}
 use Rattle.cool_syntax.specs.declared.place.Place.{Place}
 use Rattle.cool_syntax.specs.TokenFacts.{IsPlaced}

@@ -1,4 +1,4 @@
--- The loop of `feature_faults` has added the faults of the classes before the current one.
+-- The loop of `feature_faults` has added the faults (compile-time errors) in the features of the classes before the current one.
 use Rattle.std.proofs.Common.{◌≡◌, ◌+◌, ◌++◌, drop}
 use Rattle.cool_classes.specs.ClassFaults.{features_from}
 use Rattle.cool_classes.specs.Entries.{classes}

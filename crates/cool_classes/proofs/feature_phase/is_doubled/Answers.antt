@@ -1,4 +1,4 @@
--- `is_doubled` returns whether an earlier attribute of the class or an attribute of a class above has the name: `is_first_at` decides the first case, and
+-- `is_doubled` returns whether an earlier attribute of the class or an attribute of an ancestor has the name: `is_first_at` decides the first case, and
 -- `have_attribute` the second.
 use Rattle.std.proofs.Common.{List, map, not, ap, ◌∙◌}
 use Rattle.cool_classes.specs.declared.class_id.ClassId.{ClassId}

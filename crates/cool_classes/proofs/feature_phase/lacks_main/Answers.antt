@@ -1,4 +1,4 @@
--- `lacks_main` returns true exactly for a class named Main if its first method main is missing or has formals; `first_index` looks this method up.
+-- `lacks_main` returns true exactly for a class named Main whose first method main is missing or has formal parameters; `first_index` looks this method up.
 use Rattle.std.proofs.Common.{◌≡◌, ℕ, List, map, length, Option, Some, None, true, not, ap, sym, ◌∙◌}
 use Rattle.std.specs.Prelude.{codes, bytes_eq, ◌==◌}
 use Rattle.std.proofs.lemmas.Bool.{not-false}

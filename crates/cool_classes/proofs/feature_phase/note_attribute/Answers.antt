@@ -1,5 +1,4 @@
--- `note_attribute` adds the faults of an attribute as `attribute_faults` of `FeatureFaults.antt` lists them. F3 is for the name self, F2 for the name of
--- another attribute, F6 for an unknown type.
+-- `note_attribute` adds the compile-time errors of an attribute: F3 for the name self, F2 for the name of another attribute, and F6 for an unknown type.
 use Rattle.std.proofs.Common.{◌≡◌, ◌++◌, ℕ, List, Bool, ap, ◌∙◌, append_assoc}
 use Rattle.std.specs.Prelude.{bytes_eq, codes}
 use Rattle.std.proofs.lemmas.Result.{on_ok_weaker}

@@ -1,4 +1,4 @@
--- The loop of `note_features` has added the faults of the features before the current one.
+-- The loop of `note_features` has added the faults (compile-time errors) of the features before the current one.
 use Rattle.std.proofs.Common.{◌≡◌, ◌++◌, drop}
 use Rattle.cool_classes.specs.Entries.{classes}
 use Rattle.cool_classes.specs.FeatureFaults.{features_faults}

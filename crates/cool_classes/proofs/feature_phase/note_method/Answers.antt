@@ -1,4 +1,5 @@
--- `note_method` adds the faults of a method as `method_faults` of `FeatureFaults.antt` lists them: F1, F7, those of the formals and that of the result.
+-- `note_method` adds the compile-time errors of a method: F1 for the name of an earlier method, F7 for a signature unlike the inherited one, and those of its
+-- formal parameters and of its result type.
 use Rattle.std.proofs.Common.{◌≡◌, ◌++◌, ℕ, [], List, map, Bool, not, ap, ◌∙◌}
 use Rattle.std.proofs.lemmas.Result.{on_ok_weaker}
 use Rattle.cool_syntax.specs.declared.file_tree.Formal.{Formal}

@@ -1,4 +1,4 @@
--- `add_name` leaves a name of the map at its first index, and adds another name with the next index.
+-- `add_name` gives a new name the next index in the map, and leaves a name that is already in the map at its first index.
 use Rattle.std.proofs.Common.{◌≡◌, ◌++◌, ◌∷◌, [], ℕ, List, Some, is_some, true, false, ap, sym, ◌∙◌, subst}
 use Rattle.std.specs.Prelude.{bytes_eq}
 use Rattle.std.specs.Map.{lookup}

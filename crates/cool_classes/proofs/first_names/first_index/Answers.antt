@@ -1,4 +1,4 @@
--- `first_index` returns the first index of a name, because a look-up in the map finds this index (`FindsFirst` of `FirstNames.antt`).
+-- `first_index` returns the first index of a name in a list, because a look-up in the map of names finds this index (`FindsFirst` of `FirstNames.antt`).
 use Rattle.std.proofs.Common.{◌∙◌}
 use Rattle.cool_classes.proofs.NameIndexes.{shown_lookup}
 use Rattle.cool_classes.proofs.first_names.first_index.Goals as goal

@@ -1,4 +1,4 @@
--- `above` returns only classes of the table: they are the chain of the parent, and each parent is in the table.
+-- `above` returns the ancestors of a class, which are all classes of the class table, because each parent is.
 use Rattle.std.proofs.Common.{sym, ◌∙◌, Some}
 use Rattle.std.proofs.lemmas.Result.{IfOk-weaker}
 use Rattle.cool_classes.specs.Chains.{IsChain}

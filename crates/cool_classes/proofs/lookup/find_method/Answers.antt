@@ -1,4 +1,5 @@
--- `find_method` returns the method of a name in the nearest class on the chain that defines one, or none: its loop climbs from the class to Object.
+-- `find_method` returns the method of a name in the nearest class, from the given class up to Object, that defines one, or none: its loop goes from each class
+-- to its parent.
 use Rattle.std.proofs.Common.{length, sym, ◌∙◌}
 use Rattle.cool_classes.specs.Entries.{classes}
 use Rattle.cool_classes.proofs.Seen.{within_classes, within_entries}

@@ -1,4 +1,4 @@
--- The loop of `find_method` has found no method of the name in the classes that it has climbed past.
+-- The loop of `find_method`, which goes from a class to its ancestors, has found no method of the name in the classes that it has left.
 use Rattle.std.proofs.Common.{◌<◌, length}
 use Rattle.cool_classes.specs.Entries.{classes, depth_at}
 use Rattle.cool_classes.proofs.Methods.{Finding}

@@ -1,4 +1,4 @@
--- `add_feature` adds the name of a feature to the map of methods or to that of attributes: both still find the first index of each name (`AreOwn` of
+-- `add_feature` adds the name of a feature to the map of methods or to that of attributes, and both maps still give the first index of each name (`AreOwn` of
 -- `OwnNames.antt`).
 use Rattle.std.proofs.Common.{◌++◌, ◌∷◌, [], ℕ, List, map, Some, sym, ◌∙◌, subst}
 use Rattle.std.proofs.lemmas.List.{length-map}

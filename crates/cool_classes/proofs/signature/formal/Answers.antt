@@ -1,4 +1,5 @@
--- `formal` returns the type that the declared name of a formal denotes: the name is in the table of the basic methods, or in the method's definition.
+-- `formal` returns the type that the declared name of a formal parameter denotes. This name is in the table of the basic methods, or in the definition of the
+-- method.
 use Rattle.std.proofs.Common.{◌≡◌, List, [], get_or, ap, sym, ◌∙◌, subst, ℕ}
 use Rattle.cool_syntax.specs.declared.file_tree.Feature.TheVariants.{Method}
 use Rattle.cool_classes.specs.declared.class_id.Ty.TheVariants.{Class as IsClass}

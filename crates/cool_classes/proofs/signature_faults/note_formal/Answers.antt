@@ -1,4 +1,5 @@
--- `note_formal` adds the faults of a formal as `formal_faults` of `FeatureFaults.antt` lists them: F3 and F4 for its name, F5 and F6 for its type.
+-- `note_formal` adds the compile-time errors of a formal parameter: F3 for the name self, F4 for the name of an earlier one, F5 for the type `SELF_TYPE`, and
+-- F6 for an unknown type.
 use Rattle.std.proofs.Common.{◌≡◌, ◌++◌, ℕ, List, Bool, is_some, ap, ◌∙◌}
 use Rattle.std.specs.Prelude.{bytes_eq, codes}
 use Rattle.std.proofs.lemmas.Result.{on_ok_weaker}

@@ -1,4 +1,5 @@
--- `note_formals` adds the faults of the formals in their order: each step of its loop adds those of one formal and notes its name for the formals after it.
+-- `note_formals` adds the compile-time errors of formal parameters in their order: each step of its loop adds those of one parameter and keeps its name for the
+-- parameters after it.
 use Rattle.std.proofs.Common.{◌≡◌, ◌+◌, ◌<◌, ◌++◌, ◌∷◌, [], ℕ, List, Some, length, take, drop, get_or, sym, ap, ◌∙◌, subst, append_assoc, arith}
 use Rattle.std.specs.Prelude.{Option}
 use Rattle.std.proofs.lemmas.List.{map-append, length-map, length-take-le, take_more, at_drop_more}

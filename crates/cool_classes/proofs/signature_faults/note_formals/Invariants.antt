@@ -1,4 +1,4 @@
--- The loop of `note_formals` has added the faults and the names of the formals before the current one.
+-- The loop of `note_formals` has added the compile-time errors and the names of the formal parameters before the current one.
 use Rattle.std.proofs.Common.{◌≡◌, ◌++◌, [], drop, take}
 use Rattle.cool_classes.specs.Entries.{classes}
 use Rattle.cool_classes.specs.FirstNames.{shown_names, FindsFirst}

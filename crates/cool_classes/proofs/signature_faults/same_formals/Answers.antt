@@ -1,4 +1,4 @@
--- `same_formals` returns false for lists of different lengths, and so does `same_types` of `FeatureFaults.antt`.
+-- `same_formals`, which compares the declared types of two lists of formal parameters, returns false for lists of different lengths, as `same_types` does.
 use Rattle.std.proofs.Common.{◌∙◌}
 use Rattle.std.proofs.lemmas.List.{length-map}
 use Rattle.cool_syntax.specs.declared.file_tree.Formal.{Formal}

@@ -1,4 +1,4 @@
--- The loop of `same_formals` has found no difference yet: the formals from the current one on declare the same types exactly if all of them do.
+-- The loop of `same_formals` has found no difference yet: the formal parameters from the current one on declare the same types exactly if all do.
 use Rattle.std.proofs.Common.{◌≡◌, drop}
 use Rattle.cool_classes.specs.FeatureFaults.{same_types, declared_types}
 use Rattle.cool_classes.proofs.signature_faults.same_formals.Given as goal

@@ -1,5 +1,5 @@
--- `ClassTable::count` promises that the classes are a whole table that keeps the rules of classes: the invariant of `ClassTable` (`IsIndexed` of
--- `OwnNames.antt`) says so.
+-- `ClassTable::count` promises that the classes are a complete class table that keeps the rules of classes, which is the invariant of `ClassTable` (`IsIndexed`
+-- of `OwnNames.antt`).
 use Rattle.std.proofs.Common.{subst}
 use Rattle.cool_classes.specs.Entries.{depth_at}
 use Rattle.cool_classes.specs.LawfulTables.{IsLawful}

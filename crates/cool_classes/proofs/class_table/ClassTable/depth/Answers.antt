@@ -1,4 +1,4 @@
--- `ClassTable::depth` returns the number of classes above a class: the chain of the class has one class more than its depth.
+-- `ClassTable::depth` returns the number of ancestors of a class, which is one less than the length of its chain: the list of the class and its ancestors.
 use Rattle.std.proofs.Common.{◌+◌, ◌<◌, ℕ, List, length, Some, ap, sym, ◌∙◌, subst}
 use Rattle.cool_classes.specs.declared.entry.Entry.{Entry}
 use Rattle.cool_classes.specs.Chains.{Class, IsChain}

@@ -1,4 +1,4 @@
--- `ClassTable::parent` returns a class of the table if it returns one: `IsGrounded` of `Tables.antt` says that each parent is in the table.
+-- If `ClassTable::parent` returns a class, it is a class of the class table, because each parent is (`IsGrounded` of `Tables.antt`).
 use Rattle.std.proofs.Common.{◌<◌, List, length, ap, sym, ◌∙◌, subst}
 use Rattle.std.specs.Prelude.{IfSome}
 use Rattle.cool_classes.specs.declared.entry.Entry.{Entry}

@@ -1,5 +1,4 @@
--- `ClassTable::swap_body` keeps the invariant of the table. The classes afterwards are those before with one body exchanged (`with_body_at` of
--- `Bodies.antt`).
+-- `ClassTable::swap_body` keeps the invariant of the class table, and changes only the expression of one feature (`with_body_at` of `Bodies.antt`).
 use Rattle.std.proofs.Common.{◌≡◌, List, length, sym, ap, ◌∙◌, subst}
 use Rattle.std.specs.Vec.{with_items}
 use Rattle.std.proofs.lemmas.List.{with_items_is}

@@ -1,5 +1,4 @@
--- `ClassTable::swap_feature` keeps the invariant of the table. The classes afterwards are those before with one feature exchanged (`with_feature_at` of
--- `Bodies.antt`).
+-- `ClassTable::swap_feature` keeps the invariant of the class table, and changes only one feature (`with_feature_at` of `Bodies.antt`).
 use Rattle.std.proofs.Common.{◌≡◌, List, length, sym, ap, ◌∙◌, subst}
 use Rattle.std.specs.Prelude.{slice_get}
 use Rattle.std.specs.Vec.{with_items}
