@@ -1,4 +1,5 @@
--- Lemmas for `count_above` and `counts_of`: the count at the tag of the parent is the number of attributes that a class inherits.
+-- The number that `counts_of` stores at the tag of a class's parent is the number of attributes that the class inherits, which is 0 for a class without a
+-- parent.
 use Rattle.std.proofs.Common.{◌≡◌, ◌≢◌, ℕ, ◌+◌, ◌<◌, ◌≤◌, List, [], ◌∷◌, ◌++◌, length, get_or, take, Some, None, refl, sym, ap, ◌∙◌, arith, inl, inr}
 use Rattle.std.proofs.lemmas.Bool.{cases_eq}
 use Rattle.std.proofs.lemmas.List.{length_push, get_or_push, get_or_append_left}

@@ -1,4 +1,4 @@
--- The attributes of a class are those of its parent and then its own, and each of them exists in the table.
+-- The attributes of a class are those of its parent and then its own, and each of them exists in the class table.
 use Rattle.std.proofs.Common.{◌≡◌, ◌≢◌, ℕ, ◌+◌, ◌<◌, List, [], ◌∷◌, ◌++◌, length, get_or, Some, None, sym, ap, ◌∙◌, arith, inl, inr}
 use Rattle.std.specs.List.{AllByRecursion}
 use Rattle.std.specs.Global.{Vec}

@@ -1,4 +1,4 @@
--- Lemma for the loop of `add_basic`: the method that each step adds is the next one in the table of methods of the basic class.
+-- Each step of the loop of `add_basic`, which adds the methods of a basic class to its dispatch table, adds the next method in the list of that class.
 use Rattle.std.proofs.Common.{◌≡◌, ℕ, ◌+◌, ◌<◌, List, [], ◌∷◌, ◌++◌, length, take, get_or, ap, sym, ◌∙◌}
 use Rattle.std.proofs.lemmas.List.{map_more, map_push}
 use Rattle.cool_classes.specs.BasicMethods.{named_methods}

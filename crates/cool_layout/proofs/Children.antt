@@ -1,4 +1,4 @@
--- Lemmas for the loop of `children_of`: each step adds one class to the list of its parent, except Object, which has none.
+-- Each step of the loop of `children_of` adds one class to the list of the children of its parent, except Object, which has no parent.
 use Rattle.std.proofs.Common.{◌≡◌, ◌≢◌, ℕ, zero, suc, ◌+◌, ◌<◌, List, [], ◌∷◌, ◌++◌, length, filter, get_or, set, Option, Some, None, Bool, true, false, cond, sym, ap, ◌∙◌, subst, arith, inl, inr, ◌⊎◌, append-nil}
 use Rattle.std.specs.Prelude.{nat_eq}
 use Rattle.std.specs.Global.{Vec}

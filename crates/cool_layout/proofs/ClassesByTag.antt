@@ -1,4 +1,4 @@
--- The class at a position in preorder has the position as its tag, and the table of slots at this tag has its methods.
+-- The class at a position in preorder has this position as its tag, and the dispatch table that is stored at the tag has the methods of this class.
 use Rattle.std.proofs.Common.{◌≡◌, ℕ, ◌<◌, List, length, get_or, sym, ap, ◌∙◌, subst, arith}
 use Rattle.cool_classes.specs.declared.class_id.ClassId.{ClassId}
 use Rattle.cool_classes.specs.Chains.{Class, class_number}

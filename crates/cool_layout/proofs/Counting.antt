@@ -1,4 +1,5 @@
--- A class occurs in a family (`family` of `Preorder.antt`) as often as the head of the family occurs on the chain of the class.
+-- A class occurs in a subtree of the class hierarchy (`family` of `Preorder.antt`) as often as the root of the subtree occurs in the list of the class and its
+-- ancestors.
 use Rattle.std.proofs.Common.{◌≡◌, ◌≢◌, ℕ, zero, suc, ◌+◌, ◌<◌, ◌≤◌, List, [], ◌∷◌, ◌++◌, length, flat_map, filter, Option, Some, None, Bool, true, false, cond, refl, sym, ap, ◌∙◌, arith}
 use Rattle.std.specs.Prelude.{nat_eq}
 use Rattle.cool_classes.specs.declared.class_id.ClassId.{ClassId}

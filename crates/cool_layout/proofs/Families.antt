@@ -1,4 +1,5 @@
--- The family of a class (`family` of `Preorder.antt`) is the class and then the families of its children, and is a part of the preorder.
+-- The subtree below a class (`family` of `Preorder.antt`), listed in preorder, is the class followed by the subtrees of its children, and is a contiguous part
+-- of the preorder of all classes.
 use Rattle.std.proofs.Common.{◌≡◌, ℕ, zero, suc, ◌+◌, ◌<◌, ◌≤◌, List, [], ◌∷◌, ◌++◌, length, flat_map, filter, Option, Some, None, Bool, true, false, cond, refl, sym, ap, ◌∙◌, subst, arith, true≢false, append_assoc}
 use Rattle.std.specs.Prelude.{nat_eq, take}
 use Rattle.std.specs.List.{AllByRecursion}

@@ -1,4 +1,4 @@
--- Lemmas for `find_slot`: the slot of a name is in the table of the class, or in the nearest table above it that has the name.
+-- `find_slot` finds the slot of a method name in the dispatch table of the class itself, or in that of the nearest ancestor which has the name.
 use Rattle.std.proofs.Common.{◌≡◌, ℕ, suc, ◌+◌, ◌<◌, List, [], ◌∷◌, ◌++◌, length, get_or, map, flat_map, Option, Some, None, is_some, Bool, true, false, refl, sym, ap, ◌∙◌, subst, arith, length-append}
 use Rattle.std.specs.Prelude.{bytes_eq, nat_lt, if◌then◌else◌, IfSome}
 use Rattle.std.specs.Map.{lookup}

@@ -1,4 +1,4 @@
--- The offset that a layout keeps for an attribute is `offset` of `Members.antt`.
+-- The offset that a `Layout` stores for an attribute is the one that the specification defines (`offset` of `Members.antt`).
 use Rattle.std.proofs.Common.{◌≡◌, ◌+◌, ◌*◌, ◌<◌, ℕ, suc, List, [], ◌∷◌, length, refl, get_or, sym, ap, ◌∙◌, arith, Contains}
 use Rattle.std.specs.Global.{Vec}
 use Rattle.cool_syntax.specs.declared.file_tree.Feature.{Feature}

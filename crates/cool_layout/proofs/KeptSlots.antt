@@ -1,4 +1,5 @@
--- The slot that a layout keeps for a name is `slot` of `Members.antt`, and no class has more methods than the limit.
+-- The dispatch-table slot that a `Layout` stores for a method name is the one that the specification defines (`slot` of `Members.antt`), and no class has more
+-- methods than the compiler's limit.
 use Rattle.std.proofs.Common.{◌≡◌, ◌≢◌, ◌<◌, ◌≤◌, ℕ, List, [], ◌∷◌, ◌++◌, length, get_or, Some, is_some, Bool, true, false, ◌||◌, refl, sym, ap, ◌∙◌, subst, arith, true≢false, append_assoc}
 use Rattle.std.specs.Prelude.{bytes_eq, if◌then◌else◌}
 use Rattle.std.specs.List.{AllByRecursion}

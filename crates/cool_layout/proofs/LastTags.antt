@@ -1,4 +1,5 @@
--- The last tag of a class is one less than the tag of the next class that is not below it, or the greatest tag of all.
+-- The last tag of a class (the greatest tag among the class and those below it) is one less than the tag of the next class in preorder that is not below it. If
+-- there is none, it is the greatest tag of all.
 use Rattle.std.proofs.Common.{◌≡◌, ℕ, zero, suc, ◌+◌, ◌-◌, ◌<◌, ◌≤◌, List, [], ◌∷◌, ◌++◌, length, get_or, Option, Some, None, refl, sym, ap, ◌∙◌, subst, arith, length-append}
 use Rattle.std.specs.Prelude.{slice_get}
 use Rattle.std.proofs.lemmas.Option.{slice_get_within, get_or_from_slice_get}

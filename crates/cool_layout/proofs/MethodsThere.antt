@@ -1,4 +1,4 @@
--- The methods in a dispatch table are methods of the program.
+-- Each method in a dispatch table is a method that a class of the program or a basic class defines.
 use Rattle.std.proofs.Common.{ℕ, ◌<◌, List, [], ◌∷◌, length, Option, Some, None}
 use Rattle.std.specs.Prelude.{unwrap_or, IfSome}
 use Rattle.std.specs.List.{AllByRecursion}

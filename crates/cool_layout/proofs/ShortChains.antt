@@ -1,4 +1,5 @@
--- No chain has more classes than the table, so `chain` of `ClimbedChains.antt` returns the only chain of a class.
+-- No chain (a class with all its ancestors) has more classes than the class table, so `chain` of `ClimbedChains.antt`, which takes a bounded number of steps,
+-- returns the whole chain.
 use Rattle.std.proofs.Common.{◌≡◌, ℕ, zero, suc, ◌<◌, ◌≤◌, List, [], ◌∷◌, length, map, Option, Some, None, Bool, true, false, ◌||◌, eqb, refl, sym, ap, ◌∙◌, subst, arith, true≢false, Contains}
 use Rattle.std.specs.Prelude.{IfSome}
 use Rattle.std.specs.List.{AllByRecursion, IsDistinct, list_any}

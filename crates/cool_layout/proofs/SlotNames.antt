@@ -1,4 +1,4 @@
--- The names in the slots of a class are those of the methods on its chain, each once, with those of the parent first.
+-- The method names in the slots of a class's dispatch table are those of the methods of the class and its ancestors, each once, with those of the parent first.
 use Rattle.std.proofs.Common.{◌≡◌, ℕ, zero, suc, ◌+◌, ◌<◌, List, [], ◌∷◌, ◌++◌, length, map, flat_map, Option, Some, None, is_some, Bool, true, false, ◌||◌, cond, not, refl, sym, ap, ◌∙◌, arith, true≢false, append_assoc, Contains}
 use Rattle.std.specs.Prelude.{bytes_eq, nat_lt, position, option_map, if◌then◌else◌}
 use Rattle.std.specs.List.{position_or_len, list_any}

@@ -1,4 +1,4 @@
--- Lemmas for `add_own`: after it has added a method to a table of slots, `IsTableFor` of `SlotTables.antt` holds of the table with one method more.
+-- After `add_own` has added a method to a dispatch table, the table is right for one method more (`IsTableFor` of `SlotTables.antt`).
 use Rattle.std.proofs.Common.{◌≡◌, ◌≢◌, ℕ, zero, suc, ◌+◌, ◌<◌, List, [], ◌∷◌, ◌++◌, length, get_or, set, map, Option, Some, None, is_some, Bool, true, false, ◌||◌, cond, not, refl, sym, ap, ◌∙◌, subst, arith, true≢false, inl, inr, ◌⊎◌}
 use Rattle.std.specs.Prelude.{bytes_eq, unwrap_or, if◌then◌else◌}
 use Rattle.std.specs.Map.{lookup}

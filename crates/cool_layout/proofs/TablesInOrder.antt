@@ -1,4 +1,4 @@
--- Lemmas for the loop of `tables_of`: each step adds the table of the next class in preorder, and the tag of its parent is smaller.
+-- Each step of the loop of `tables_of` adds the dispatch table of the next class in preorder, and the tag of the parent of this class is smaller.
 use Rattle.std.proofs.Common.{◌≡◌, ◌≢◌, ℕ, suc, ◌+◌, ◌<◌, ◌≤◌, List, [], ◌∷◌, ◌++◌, length, get_or, Option, Some, None, refl, sym, ap, ◌∙◌, subst, arith, inl, inr, Contains}
 use Rattle.std.specs.Prelude.{IfSome}
 use Rattle.std.proofs.lemmas.List.{length_push, get_or_push, get_or_append_left}

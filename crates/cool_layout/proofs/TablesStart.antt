@@ -1,4 +1,4 @@
--- A table of slots starts with the methods of the parent's table, and in the end has the methods of its class.
+-- A dispatch table has the methods of the parent's table at first, and the methods of its own class in the end.
 use Rattle.std.proofs.Common.{◌≡◌, ℕ, ◌+◌, ◌<◌, List, [], ◌∷◌, length, map, Option, Some, None, Bool, true, false, refl, sym, ap, ◌∙◌, arith}
 use Rattle.std.specs.Prelude.{bytes_eq, nat_lt, unwrap_or, if◌then◌else◌, option_map}
 use Rattle.std.specs.Map.{lookup}

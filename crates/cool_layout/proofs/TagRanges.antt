@@ -1,4 +1,5 @@
--- The tags of a class and of the classes below it are a range, and the tags of all classes are the numbers below the number of classes.
+-- The tags of a class and of the classes below it are a range of numbers, and the tags of all classes are the numbers from 0 up to the number of classes less
+-- 1.
 use Rattle.std.proofs.Common.{◌≡◌, ℕ, zero, suc, ◌+◌, ◌<◌, ◌≤◌, List, [], ◌∷◌, ◌++◌, length, get_or, take, drop, flat_map, filter, Option, Some, None, Bool, true, false, cond, not, refl, sym, ap, ◌∙◌, subst, arith, Contains}
 use Rattle.std.specs.Prelude.{nat_eq}
 use Rattle.std.specs.List.{AllByRecursion, position_or_len}

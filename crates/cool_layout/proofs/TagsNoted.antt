@@ -1,4 +1,4 @@
--- Lemmas for the loop of `tags_of`: each step stores the position of the next class in preorder as its tag.
+-- Each step of the loop of `tags_of` stores the position of the next class in preorder as the tag of this class.
 use Rattle.std.proofs.Common.{◌≡◌, ◌≢◌, ℕ, ◌+◌, ◌<◌, List, length, get_or, set, sym, ap, ◌∙◌, subst, arith, inl, inr}
 use Rattle.std.proofs.lemmas.List.{get_or_read, get_or-set_same, get_or-set_other}
 use Rattle.std.proofs.lemmas.Bool.{cases_eq}

@@ -1,4 +1,4 @@
--- The invariant of the loop of `preorder`: the classes added so far, and then the families of the waiting classes, are all classes in preorder.
+-- The loop of `preorder` keeps its invariant: the classes added so far, followed by the subtrees of the classes on its stack, are all classes in preorder.
 use Rattle.std.proofs.Common.{◌≡◌, ℕ, suc, ◌+◌, ◌-◌, ◌<◌, List, [], ◌∷◌, ◌++◌, length, flat_map, get_or, Option, Some, None, refl, sym, ap, ◌∙◌, subst, arith, inl, inr, append_assoc}
 use Rattle.std.specs.Prelude.{reverse, slice_get}
 use Rattle.std.specs.List.{AllByRecursion}

@@ -1,4 +1,4 @@
--- The labels of classes and of their methods in assembly code, by the run-time conventions.
+-- The assembly labels of classes and of their methods, according to the conventions of the run-time system.
 use Rattle.std.specs.Prelude.{List, ◌++◌, codes, decimal, slice_get}
 use Rattle.mips_isa.specs.Lines.{Name}
 use Rattle.cool_classes.specs.declared.class_id.ClassId.{ClassId}

@@ -1,5 +1,5 @@
--- The lines of assembly of the layout: the names of the classes and their prototypes by tag, the dispatch tables, the prototypes, the default values, the
--- Strings of the names, and the texts that routines write.
+-- The lines of assembly for the data of classes: the tables of their names and prototypes by tag, the dispatch tables, the prototypes, the default values, the
+-- String objects of the names, and the messages of run-time routines.
 use Rattle.std.specs.Prelude.{ℕ, pos, ◌+◌, List, [], ◌∷◌, ◌++◌, length, map, flat_map, codes, bytes_eq, nat_eq, ◌||◌, if◌then◌else◌}
 use Rattle.mips_isa.specs.Lines.{Line, WordItem, Number, Address}
 use Rattle.cool_classes.specs.declared.class_id.ClassId.{ClassId}

@@ -1,4 +1,4 @@
--- `offset` is the offset of an attribute in the objects of a class, and `slot` the place of a method in its dispatch table. Those of the parent come first,
+-- `offset` is the offset of an attribute in the objects of a class, and `slot` the position of a method in its dispatch table. Those of the parent come first,
 -- then those of the class in textual order.
 use Rattle.std.specs.Prelude.{◌≡◌, ℕ, ◌+◌, ◌*◌, List, [], ◌∷◌, ◌++◌, map, flat_map, position, unwrap_or, Option, Some, None, Bool, ◌&&◌, nat_eq, nat_lt, if◌then◌else◌, codes, bytes_eq, refl}
 use Rattle.std.specs.List.{position_or_len, list_any}

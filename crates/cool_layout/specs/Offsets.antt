@@ -1,4 +1,5 @@
--- `AreOffsets` says that the code has, for each class, a list with the offset of each of its attributes at the number of the feature.
+-- `AreOffsets` says that the code has, for each class, a list with the offset of each of its attributes, at the index that the attribute has among the
+-- features.
 use Rattle.std.specs.Prelude.{◌≡◌, ℕ, ◌+◌, ◌*◌, ◌<◌, List, [], ◌∷◌, length, get_or, Option, Some, None}
 use Rattle.std.specs.Global.{Vec}
 use Rattle.cool_syntax.specs.declared.file_tree.Feature.{Feature}

@@ -1,4 +1,4 @@
--- The classes in preorder: each class before those that inherit from it, and the children of a class by their numbers.
+-- The preorder of the classes: each class comes before those that inherit from it, and the children of a class are in the order of their numbers.
 use Rattle.std.specs.Prelude.{◌≡◌, ℕ, zero, suc, ◌+◌, ◌-◌, List, [], ◌∷◌, length, filter, flat_map, Option, Some, None, Bool, false, nat_eq, codes, refl}
 use Rattle.std.specs.List.{position_or_len}
 use Rattle.cool_classes.specs.declared.class_id.ClassId.{ClassId}

@@ -1,4 +1,5 @@
--- `IsTableFor` says that the code's table for a class is right: the methods of the class by slot, and the slots of the class's own methods by name.
+-- `IsTableFor` says that the code's dispatch table for a class is right: it has the methods of the class by slot, and the slots of the class's own methods by
+-- name.
 use Rattle.std.specs.Prelude.{◌≡◌, ℕ, ◌+◌, ◌<◌, ◌≤◌, List, [], ◌∷◌, map, length, get_or, position, unwrap_or, Option, Some, None, true, false, nat_lt, bytes_eq, if◌then◌else◌, IfSome}
 use Rattle.std.specs.List.{list_any, position_or_len}
 use Rattle.std.specs.Map.{lookup}

@@ -1,4 +1,4 @@
-//! The attributes of classes with those that they inherit, class by class in preorder, so that each takes those of its parent.
+//! Functions that list the attributes of classes, inherited ones included, class by class in preorder, so that each class extends the list of its parent.
 
 ghost use Rattle.std.specs.Prelude.{◌≡◌, ◌<◌, ◌++◌, length, IfOk};
 ghost use Rattle.cool_classes.specs.Chains.{features_of};

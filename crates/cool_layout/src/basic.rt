@@ -1,4 +1,4 @@
-//! The methods of the basic classes, by slot (the Cool manual, section 8).
+//! The function `add_basic`: it adds the methods of a basic class to its dispatch table (the Cool manual, section 8).
 
 ghost use Rattle.std.specs.Prelude.{◌≡◌, [], ◌<◌, IfSome, OnOk, length};
 ghost use Rattle.cool_classes.specs.Features.{basic_methods};

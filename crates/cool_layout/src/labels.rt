@@ -1,4 +1,4 @@
-//! The labels of classes and methods, by the run-time conventions.
+//! Functions that make the assembly labels of classes and methods, according to the conventions of the run-time system.
 
 ghost use Rattle.std.specs.Prelude.{◌≡◌, ◌++◌, ◌<◌, length, codes, decimal, IfOk};
 ghost use Rattle.cool_classes.specs.Features.{HasMethod};

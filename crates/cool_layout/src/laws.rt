@@ -1,4 +1,4 @@
-//! A law of layouts: each class has its own tag, and the tags of a class and of the classes below it are a range.
+//! A theorem about layouts: each class has its own tag, and the tags of a class and of the classes below it are a range.
 
 ghost use Rattle.std.specs.Prelude.{List};
 ghost use Rattle.cool_classes.specs.Chains.{Class};

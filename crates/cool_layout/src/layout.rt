@@ -1,4 +1,5 @@
-//! The type `Layout`: the tags of classes, the offsets of attributes and the slots of methods, with look-ups and the lines of all that.
+//! The type `Layout`: the tags of classes, the offsets of attributes and the slots of methods, with functions that look them up and write them as lines of
+//! assembly.
 
 ghost use Rattle.std.specs.Prelude.{◌≡◌, ◌<◌, ◌↔◌, ℕ, List, length, map, get_or, IfOk, IfSome, IsNone, Some, None, Contains, is_some};
 ghost use Rattle.mips_isa.specs.Lines.{lines_of};

@@ -1,5 +1,5 @@
-//! The run-time layout of the classes of a program: their tags, the attributes in their objects, the methods in their dispatch tables, and the lines of
-//! all that in the data.
+//! The run-time layout of the classes of a program: their tags, the offsets of attributes in their objects, the methods in their dispatch tables, and the lines
+//! of assembly that define this data.
 //!
 //! Input: a class table. Output: the layout of its classes, and its lines (`specs/Preorder.antt`, `specs/Members.antt`,
 //! `specs/LinesOfLayout.antt`).

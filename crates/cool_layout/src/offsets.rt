@@ -1,4 +1,4 @@
-//! The offsets of attributes in the objects of classes.
+//! Functions that compute the offsets of attributes in the objects of classes.
 
 ghost use Rattle.std.specs.Prelude.{◌≡◌, ℕ, ◌+◌, ◌≤◌, ◌<◌, length, IfOk};
 ghost use Rattle.cool_classes.specs.Limits.{KeepsLimits};

@@ -1,5 +1,5 @@
-//! The lines of prototypes, of which new objects are copies, and of the values that attributes have at first (the Cool manual,
-//! section 5.1).
+//! Functions that write the lines of assembly of prototypes (the objects that `new` copies) and of the default values of attributes (the Cool manual, section
+//! 5.1).
 
 ghost use Rattle.std.specs.Prelude.{◌≡◌, ◌<◌, ◌++◌, map, flat_map, length, IfOk, OnOk};
 ghost use Rattle.std.specs.List.{AllByRecursion};

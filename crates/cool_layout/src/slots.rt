@@ -1,4 +1,4 @@
-//! The slots of methods in the dispatch tables of classes.
+//! Functions that build the dispatch tables of classes, which have a method in each slot, and look up the slot of a method name.
 
 ghost use Rattle.std.specs.Prelude.{◌≡◌, ℕ, ◌++◌, ◌∷◌, [], ◌<◌, List, Option as Maybe, length, position, bytes_eq, IfSome, IfOk, OnOk};
 ghost use Rattle.cool_classes.specs.declared.method.MethodRef.{MethodRef as AnyMethod};

@@ -1,4 +1,5 @@
-//! The lines of the tables of classes: their names, their prototypes and initializers, and their methods.
+//! Functions that write the lines of assembly of the tables of classes: the table of their names, that of their prototypes and initializers, and the dispatch
+//! tables.
 
 ghost use Rattle.std.specs.Prelude.{◌≡◌, ◌<◌, ◌++◌, ◌∷◌, [], map, flat_map, length, IfOk, OnOk};
 ghost use Rattle.std.specs.List.{AllByRecursion};

@@ -1,4 +1,4 @@
-//! The tags of classes: the position of each class in preorder, and the greatest tag below it.
+//! Functions that compute the tag of each class, which is its position in preorder, and the greatest tag among the class and those below it.
 
 ghost use Rattle.std.specs.Prelude.{◌≡◌, ◌<◌, ◌^◌, List, length, get_or, IfOk};
 ghost use Rattle.std.specs.List.{AllByRecursion};

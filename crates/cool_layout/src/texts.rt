@@ -1,4 +1,4 @@
-//! The lines of the names of classes, and of the messages that run-time routines print.
+//! Functions that write the lines of assembly of class names, and of the messages that run-time routines print.
 
 ghost use Rattle.std.specs.Prelude.{◌≡◌, ◌<◌, ◌++◌, flat_map, length, OnOk};
 ghost use Rattle.std.specs.List.{AllByRecursion};

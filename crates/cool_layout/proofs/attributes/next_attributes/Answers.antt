@@ -1,4 +1,4 @@
--- `next_attributes` returns the attributes of a class: those of its parent, which are known at the tag of the parent, and after them its own.
+-- `next_attributes` returns the attributes of a class: those of its parent, which are stored at the tag of the parent, followed by its own.
 use Rattle.std.proofs.Common.{◌≡◌, ℕ, List, ◌++◌, length, Some, None, sym, ap, ◌∙◌, subst}
 use Rattle.std.specs.Prelude.{IfOk}
 use Rattle.std.specs.Global.{Vec}

@@ -1,4 +1,4 @@
--- The loop of `add_basic` has added the methods of the basic class before the current one.
+-- The loop of `add_basic` has added the methods of the basic class that come before the current one to the dispatch table.
 use Rattle.std.proofs.Common.{◌≡◌, take}
 use Rattle.cool_classes.specs.BasicMethods.{named_methods}
 use Rattle.cool_layout.specs.SlotTables.{Has, basic_own}

@@ -1,5 +1,4 @@
--- `count_above` returns the number of attributes of the parent of a class, which is counted at the tag of the parent. It returns 0 for a class without a
--- parent.
+-- `count_above` returns the number of attributes of the parent of a class, which it reads at the tag of the parent. It returns 0 for a class without a parent.
 use Rattle.std.proofs.Common.{ℕ, ◌<◌, length, Some, None, sym, ◌∙◌, subst, arith}
 use Rattle.cool_layout.specs.Preorder.{tag}
 use Rattle.cool_layout.specs.SlotTables.{IsAbove}

@@ -1,5 +1,5 @@
--- `counts_of` returns the number of attributes of each class with the inherited ones, by tag. Each step of its loop adds up those of the parent and those
--- that the class defines.
+-- `counts_of` returns the number of attributes of each class, inherited ones included, as a list by tag. Each step of its loop adds up those of the parent and
+-- those that the class defines.
 use Rattle.std.proofs.Common.{◌≡◌, ◌+◌, ◌<◌, ◌≤◌, length, sym, ap, ◌∙◌, subst, arith}
 use Rattle.std.proofs.lemmas.List.{length_push}
 use Rattle.cool_classes.specs.declared.class_id.ClassId.{ClassId}

@@ -1,4 +1,4 @@
--- The loop of `counts_of` has added the counts of the classes with tags below the current one.
+-- The loop of `counts_of` has stored the numbers of attributes of the classes with tags below the current one.
 use Rattle.std.proofs.Common.{◌≡◌, length}
 use Rattle.cool_layout.specs.Offsets.{AreCounts}
 use Rattle.cool_layout.proofs.offsets.counts_of.Given as goal

@@ -1,5 +1,5 @@
--- `preorder` returns the classes in preorder, and for each the next class that is not below it. Each step of its loop adds one class, and the classes that
--- are left become fewer.
+-- `preorder` returns the classes in preorder, and for each class the next one that is not below it. Each step of its loop adds one class, and the classes that
+-- remain become fewer.
 use Rattle.std.proofs.Common.{◌≡◌, ◌<◌, List, ◌++◌, length, flat_map, sym, ap, ◌∙◌, subst}
 use Rattle.std.specs.Prelude.{reverse, slice_get, ◌-◌}
 use Rattle.cool_classes.specs.declared.class_id.ClassId.{ClassId}

@@ -1,4 +1,4 @@
--- The loop of `preorder` has added some classes: with the families of the waiting classes after them they are all classes in preorder.
+-- The loop of `preorder` has added some classes: followed by the subtrees of the classes on its stack, they are all classes in preorder.
 use Rattle.std.proofs.Common.{length, flat_map}
 use Rattle.std.specs.Prelude.{reverse}
 use Rattle.cool_layout.specs.Preorder.{family}

@@ -1,4 +1,4 @@
--- `add_defaults` appends the lines of the Int 0 and then those of the empty String, as `default_lines` of `LinesOfLayout.antt` lists them.
+-- `add_defaults` appends the lines of assembly of the Int object 0 and then those of the empty String, as `default_lines` of `LinesOfLayout.antt` lists them.
 use Rattle.std.proofs.Common.{ℕ, List, ap, ◌∙◌}
 use Rattle.mips_isa.specs.Lines.{Line, WordItem}
 use Rattle.cool_runtime.specs.Labels.{string_table}

@@ -1,5 +1,5 @@
--- `add_prototypes` appends the prototype of each class in preorder. Each step of its loop adds one class: its tag is its place in preorder, and the
--- attributes of its parent are known.
+-- `add_prototypes` appends the prototype (the object that `new` copies) of each class in preorder. Each step of its loop adds one class: its tag is its
+-- position in preorder, and the attributes of its parent are stored.
 use Rattle.std.proofs.Common.{◌≡◌, ℕ, ◌<◌, List, ◌++◌, length, take, get_or, flat_map, sym, ap, ◌∙◌, subst, arith}
 use Rattle.std.proofs.lemmas.List.{flat_map_more, length_push, take_more}
 use Rattle.mips_isa.specs.Lines.{Line, lines_of}

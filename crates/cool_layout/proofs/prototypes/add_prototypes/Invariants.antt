@@ -1,4 +1,5 @@
--- The loop of `add_prototypes` has appended the prototypes of the classes before the current one, and has stored the attributes of these classes.
+-- The loop of `add_prototypes` has appended the prototypes (the objects that `new` copies) of the classes before the current one, and has stored the attributes
+-- of these classes.
 use Rattle.std.proofs.Common.{◌≡◌, ◌++◌, flat_map, take, length}
 use Rattle.mips_isa.specs.Lines.{lines_of}
 use Rattle.cool_layout.specs.AttributeLists.{AreAttributes}

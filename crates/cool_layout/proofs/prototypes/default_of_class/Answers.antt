@@ -1,5 +1,5 @@
--- `default_of_class` returns 0 for a class other than Int, Bool and String: its name is none of theirs, so `default_value` of `LinesOfLayout.antt` is 0 for
--- it.
+-- `default_of_class` returns 0 (void) as default value for a class other than Int, Bool and String: its name is none of theirs, so `default_value` of
+-- `LinesOfLayout.antt` is 0, too.
 use Rattle.std.proofs.Common.{◌∙◌}
 use Rattle.cool_layout.proofs.BasicNames.{void_first}
 use Rattle.cool_layout.proofs.prototypes.default_of_class.Goals as goal

@@ -1,5 +1,5 @@
--- `new_fields` returns the fields of a new object of a class. The attributes of the class are attributes of the table (`HasAttribute` of `Features.antt`),
--- as `default_values` requires.
+-- `new_fields` returns the words of a new object of a class that follow its header. The attributes of the class exist in the class table (`HasAttribute` of
+-- `Features.antt`), as `default_values` requires.
 use Rattle.std.proofs.Common.{sym, subst}
 use Rattle.std.specs.List.{AllByRecursion}
 use Rattle.cool_classes.specs.Features.{HasAttribute}

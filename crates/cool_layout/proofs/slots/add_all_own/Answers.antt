@@ -1,4 +1,5 @@
--- `add_all_own` adds the methods that a class itself defines: `add_basic` adds those of a basic class, and `add_features` those of any other class.
+-- `add_all_own` adds the methods that a class itself defines to its dispatch table: `add_basic` adds those of a basic class, and `add_features` those of any
+-- other class.
 use Rattle.std.proofs.Common.{◌≡◌, Bool, true, false, sym, arith, OnOk, subst}
 use Rattle.std.specs.Prelude.{nat_lt, if◌then◌else◌}
 use Rattle.cool_classes.specs.Chains.{features_of}

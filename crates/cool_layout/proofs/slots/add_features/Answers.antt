@@ -1,4 +1,4 @@
--- `add_features` adds the methods among the features of a class to its table: each step of its loop adds one feature if it is a method.
+-- `add_features` adds the methods among the features of a class to its dispatch table: each step of its loop adds one feature if it is a method.
 use Rattle.std.proofs.Common.{◌≡◌, ℕ, ◌+◌, List, [], ◌∷◌, ◌++◌, take, sym, ap, ◌∙◌, subst, arith}
 use Rattle.std.proofs.lemmas.List.{take_all}
 use Rattle.cool_syntax.specs.declared.file_tree.Feature.{Feature}

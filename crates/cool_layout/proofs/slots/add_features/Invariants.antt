@@ -1,4 +1,4 @@
--- The loop of `add_features` has added the methods among the features before the current one.
+-- The loop of `add_features` has added the methods among the features before the current one to the dispatch table.
 use Rattle.std.proofs.Common.{◌≡◌, take}
 use Rattle.cool_layout.specs.SlotTables.{Has, user_own}
 use Rattle.cool_layout.proofs.slots.add_features.Given as goal

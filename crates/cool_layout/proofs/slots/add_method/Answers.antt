@@ -1,4 +1,5 @@
--- `add_method` looks up the slot that a class inherits for a name and adds the method with it. The inherited slot is in the table, as `add_own` requires.
+-- `add_method` looks up the slot that a class inherits for a method name, and adds the method to the dispatch table with this slot. The inherited slot is in
+-- the table, as `add_own` requires.
 use Rattle.std.proofs.Common.{ℕ, [], ◌∷◌, ◌++◌, length, Option, sym, subst}
 use Rattle.std.proofs.lemmas.Result.{on_ok_weaker}
 use Rattle.cool_layout.specs.SlotTables.{IsTableFor, slots_in, methods_in}

@@ -1,5 +1,5 @@
--- `add_own` puts a method into the slot of the inherited method of its name, or into a new slot if there is none. A table that has a method of its own with
--- this name stays as it is.
+-- `add_own` puts a method into the slot of the inherited method of its name, or into a new slot if there is none. If the class has added a method of this name
+-- before, its dispatch table stays as it is.
 use Rattle.std.proofs.Common.{◌≡◌, ℕ, ◌+◌, List, set, [], ◌∷◌, ◌++◌, length, Some, None, is_some, true, false, sym, ap, ◌∙◌, arith}
 use Rattle.std.specs.Prelude.{bytes_eq}
 use Rattle.std.specs.Map.{lookup}

@@ -1,4 +1,5 @@
--- `find_slot` returns the slot of a name in the nearest table that has the name, or none. Its loop goes from the table of a class to that of its parent.
+-- `find_slot` returns the slot of a method name in the dispatch table of the nearest class that has the name, or none. Its loop goes from the table of a class
+-- to that of its parent.
 use Rattle.std.proofs.Common.{◌≡◌, ◌<◌, List, Some, None, sym, ap, ◌∙◌, subst, arith}
 use Rattle.std.specs.Prelude.{bytes_eq, IfSome}
 use Rattle.std.specs.Map.{lookup}

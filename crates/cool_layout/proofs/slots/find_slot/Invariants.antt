@@ -1,4 +1,4 @@
--- The loop of `find_slot` has climbed to a class in which the name has the same slot as in the first class.
+-- The loop of `find_slot` has reached a class in whose dispatch table the method name has the same slot as in that of the first class.
 use Rattle.std.proofs.Common.{◌≡◌, ℕ, List, ◌<◌, length}
 use Rattle.cool_classes.specs.Chains.{Class}
 use Rattle.cool_layout.specs.Members.{slot}

@@ -1,4 +1,5 @@
--- `start_table` returns a table with the methods of the parent's table and none of the class's own. It has no method at all if the class has no parent.
+-- `start_table` returns a dispatch table with the methods of the parent's table, and none that the class defines. It has no method at all if the class has no
+-- parent.
 use Rattle.std.proofs.Common.{ℕ, ◌<◌, length, get_or, sym, ap, ◌∙◌, subst, arith}
 use Rattle.std.specs.Prelude.{IfSome}
 use Rattle.cool_layout.specs.declared.slots.Table.{Table}

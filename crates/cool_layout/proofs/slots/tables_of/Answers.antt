@@ -1,4 +1,4 @@
--- `tables_of` returns the tables of slots of all classes by tag: each step of its loop makes the table of one class from the table of its parent.
+-- `tables_of` returns the dispatch tables of all classes by tag: each step of its loop makes the table of one class from the table of its parent.
 use Rattle.std.proofs.Common.{◌≡◌, ℕ, ◌+◌, ◌<◌, length, Option, sym, ap, ◌∙◌, subst, arith}
 use Rattle.std.specs.Prelude.{IfSome}
 use Rattle.cool_classes.specs.declared.class_id.ClassId.{ClassId}

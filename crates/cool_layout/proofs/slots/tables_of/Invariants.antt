@@ -1,4 +1,4 @@
--- The loop of `tables_of` has added the tables of the classes with tags below the current one.
+-- The loop of `tables_of` has added the dispatch tables of the classes with tags below the current one.
 use Rattle.cool_layout.specs.SlotTables.{AreTables}
 use Rattle.cool_layout.proofs.slots.tables_of.Given as goal
 

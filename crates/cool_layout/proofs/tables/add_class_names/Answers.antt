@@ -1,5 +1,5 @@
--- `add_class_names` appends the label of the table of names and a line with the addresses of the names, as `class_names_lines` of `LinesOfLayout.antt` lists
--- them.
+-- `add_class_names` appends the label of the table of class names and a line with the addresses of the names, as `class_names_lines` of `LinesOfLayout.antt`
+-- lists them.
 use Rattle.std.proofs.Common.{ap, ◌∙◌}
 use Rattle.cool_runtime.specs.Labels.{name_table}
 use Rattle.cool_runtime.specs.LinesOfData.{words}

@@ -1,4 +1,5 @@
--- `add_class_objects` appends the label of the table and then a line for each class, with the addresses of its prototype and of its initializer.
+-- `add_class_objects` appends the label of the table of class objects, and then a line of assembly for each class, with the addresses of its prototype and of
+-- its initializer.
 use Rattle.std.proofs.Common.{◌≤◌, List, [], ◌∷◌, ◌++◌, length, map, take_all, ap, ◌∙◌, arith, append_assoc}
 use Rattle.mips_isa.specs.Lines.{Line, lines_of, Address}
 use Rattle.cool_runtime.specs.Instructions.{label}

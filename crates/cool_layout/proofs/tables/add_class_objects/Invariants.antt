@@ -1,4 +1,4 @@
--- The loop of `add_class_objects` has appended the lines of the classes before the current one.
+-- The loop of `add_class_objects` has appended the lines with the addresses of the prototypes and initializers of the classes before the current one.
 use Rattle.std.proofs.Common.{◌≡◌, [], ◌∷◌, ◌++◌, map, take}
 use Rattle.mips_isa.specs.Lines.{lines_of, Address}
 use Rattle.cool_runtime.specs.LinesOfData.{words}

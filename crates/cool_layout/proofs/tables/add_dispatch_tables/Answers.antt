@@ -1,4 +1,4 @@
--- `add_dispatch_tables` appends the dispatch table of each class in preorder: the table at a tag has the methods of the class at this place in preorder.
+-- `add_dispatch_tables` appends the dispatch table of each class in preorder: the table at a tag has the methods of the class at this position in preorder.
 use Rattle.std.proofs.Common.{◌<◌, length, ◌∙◌, arith}
 use Rattle.cool_layout.proofs.ClassesByTag.{tag_within, class_within, methods_by_tag}
 use Rattle.cool_layout.proofs.tables.add_dispatch_tables.Goals as goal

@@ -1,5 +1,5 @@
--- `last_tag` returns the greatest tag of a class and those below it. It is one less than the tag of the next class that is not below, or the greatest of all
--- tags if there is none.
+-- `last_tag` returns the greatest tag of a class and the classes below it. It is one less than the tag of the next class in preorder that is not below, or the
+-- greatest of all tags if there is none.
 use Rattle.std.proofs.Common.{◌-◌, sym, ap, ◌∙◌, arith}
 use Rattle.cool_layout.proofs.LastTags.{tag_low, read_next, some_next, none_next}
 use Rattle.cool_layout.proofs.tags.last_tag.Goals as goal

@@ -1,4 +1,4 @@
--- The loop of `lasts_of` has added the last tags of the classes before the current one.
+-- The loop of `lasts_of` has added the last tag of each class before the current one: the greatest tag of the class and those below it.
 use Rattle.std.proofs.Common.{◌≡◌, ◌<◌, length, get_or}
 use Rattle.cool_classes.specs.declared.class_id.ClassId.{ClassId}
 use Rattle.cool_layout.specs.Preorder.{last_tag}

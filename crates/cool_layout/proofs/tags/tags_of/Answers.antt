@@ -1,4 +1,4 @@
--- `tags_of` returns the tag of each class: its loop goes through the classes in preorder, and each step stores the place of one class as its tag.
+-- `tags_of` returns the tag of each class: its loop goes through the classes in preorder, and each step stores the position of one class as its tag.
 use Rattle.std.proofs.Common.{◌≡◌, ◌<◌, length, ap, ◌∙◌, arith}
 use Rattle.std.proofs.lemmas.List.{length-set}
 use Rattle.cool_layout.specs.Preorder.{preorder}

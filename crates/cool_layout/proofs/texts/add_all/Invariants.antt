@@ -1,4 +1,4 @@
--- The loop of `add_all` has appended the texts before the current one.
+-- The loop of `add_all` has appended the lines of the texts before the current one.
 use Rattle.std.proofs.Common.{◌≡◌, ◌++◌, flat_map, take}
 use Rattle.mips_isa.specs.Lines.{lines_of}
 use Rattle.cool_runtime.specs.LinesOfData.{text_lines}

@@ -1,4 +1,5 @@
--- `add_name` appends the String of the name of a class and the Int of its length, as `name_lines` of `LinesOfLayout.antt` lists them.
+-- `add_name` appends the lines of assembly of the String object with the name of a class and of the Int object with its length, as `name_lines` of
+-- `LinesOfLayout.antt` lists them.
 use Rattle.std.proofs.Common.{◌≡◌, ℕ, List, ap, ◌∙◌}
 use Rattle.mips_isa.specs.Lines.{Name, lines_of}
 use Rattle.cool_classes.specs.Chains.{name_of}

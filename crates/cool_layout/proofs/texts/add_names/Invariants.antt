@@ -1,4 +1,4 @@
--- The loop of `add_names` has appended the names of the classes before the current one.
+-- The loop of `add_names` has appended the lines of the String objects with the names of the classes before the current one.
 use Rattle.std.proofs.Common.{◌≡◌, ◌++◌, flat_map, take}
 use Rattle.mips_isa.specs.Lines.{lines_of}
 use Rattle.cool_layout.specs.LinesOfLayout.{name_lines}

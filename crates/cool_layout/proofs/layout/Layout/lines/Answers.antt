@@ -1,5 +1,5 @@
--- `Layout::lines` returns the lines of the layout of a table. The classes in preorder are classes of the table, as `add_class_objects` and `add_names`
--- require.
+-- `Layout::lines` returns the lines of assembly for the prototypes, dispatch tables and names of the classes of a class table. The classes in preorder are
+-- classes of the table, as `add_class_objects` and `add_names` require.
 use Rattle.std.proofs.Common.{◌<◌, List, length, sym, ◌∙◌, subst}
 use Rattle.std.specs.List.{AllByRecursion}
 use Rattle.cool_classes.specs.declared.class_id.ClassId.{ClassId}

@@ -1,4 +1,5 @@
--- `Layout::offset` returns the offset of an attribute in the objects of a class and of all classes below it: the layout keeps one offset for each attribute.
+-- `Layout::offset` returns the offset of an attribute, which is the same in the objects of its class and of all classes below it: the layout stores one offset
+-- for each attribute.
 use Rattle.std.proofs.Common.{◌∙◌, arith}
 use Rattle.std.proofs.lemmas.List.{get_or_read}
 use Rattle.cool_layout.proofs.KeptOffsets.{owner_kept, index_kept, offset_kept, same_offset}

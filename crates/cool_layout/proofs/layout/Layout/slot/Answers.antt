@@ -1,5 +1,5 @@
--- `Layout::slot` returns the slot of a name in the dispatch table of a class, or none if the class has no method of the name. Classes below it have the name
--- in the same slot.
+-- `Layout::slot` returns the slot of a method name in the dispatch table of a class, or none if the class has no method of the name. Classes below it have the
+-- name in the same slot.
 use Rattle.std.proofs.Common.{◌≡◌, ℕ, List, length, Some, is_some, sym, ap, ◌∙◌, subst, arith}
 use Rattle.cool_classes.specs.declared.class_id.ClassId.{ClassId}
 use Rattle.cool_classes.specs.Chains.{Class}
