@@ -1,4 +1,5 @@
--- Lemmas on `with_branch`, which inserts a branch after the branches of classes that are no less deep: one step of the search, and its end.
+-- `with_branch`, which inserts a branch of a `case` after the branches of classes that are no less deep, passes one branch in each step of its search, and ends
+-- before the first branch of a less deep class.
 use Rattle.std.proofs.Common.{◌≡◌, ℕ, zero, suc, ◌<◌, List, [], ◌∷◌, ◌++◌, map, take, drop, length, get_or, Bool, true, false, ap, sym, subst, ◌∙◌, refl, append_assoc, arith, drop-cons}
 use Rattle.std.proofs.Math.Seq.{take-suc}
 use Rattle.std.proofs.lemmas.List.{drop-map, get_or-map, length-map}

@@ -1,4 +1,5 @@
--- The code of the expression at a number follows from its node and the numbers of its parts: the lines, the constants after them, and the size.
+-- The code of the expression at a node number follows from its node and the numbers of the nodes of its subexpressions: the lines of assembly, the constant
+-- table after them, and the size.
 use Rattle.std.proofs.Common.{◌≡◌, ℕ, ◌+◌, List, [], ◌∷◌, ◌++◌, Some, length, map, refl, sym, ◌∙◌, ap, subst, arith}
 use Rattle.std.specs.Prelude.{slice_get, codes}
 use Rattle.std.proofs.lemmas.Option.{same_Some}

@@ -1,4 +1,4 @@
--- A table keeps the numbers of the constants of another one exactly if it extends it, as it does when one more is asked for.
+-- A constant table gives the constants of another table the same numbers exactly if it extends that table, and adding one constant to a table extends it.
 use Rattle.std.proofs.Common.{◌≡◌, ℕ, suc, ◌<◌, ◌≤◌, List, [], ◌∷◌, ◌++◌, length, refl, sym, ◌∙◌, ap, subst, arith, length-append}
 use Rattle.std.specs.Prelude.{slice_get}
 use Rattle.cool_consts.specs.Constants.{Constants, with_integer, with_string}

@@ -1,4 +1,4 @@
--- Lemmas on the feature at a number of a class of a program within the limits: there is only one, it is within the limits, and its expression is small.
+-- In an accepted program, each feature of a class is found by its number, it is within the compiler's limits, and its expression has few enough nodes.
 use Rattle.std.proofs.Common.{◌≡◌, ℕ, ◌≤◌, ◌<◌, List, length, get_or, Option, Some, ap, sym, subst, ◌∙◌, arith}
 use Rattle.std.specs.Prelude.{slice_get}
 use Rattle.std.proofs.lemmas.Option.{slice_get-get_or}

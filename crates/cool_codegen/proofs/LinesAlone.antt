@@ -1,4 +1,4 @@
--- If only lines are wanted, code generation notes no spans, and the lines are the same as if spans are wanted.
+-- If only lines of assembly are wanted, code generation records no spans (address ranges of expressions), and the lines are the same as if spans are wanted.
 use Rattle.std.proofs.Common.{◌≡◌, ℕ, ◌+◌, List, [], ◌∷◌, ◌++◌, Option, None, Some, length, map, ap, sym, refl, ◌∙◌}
 use Rattle.std.specs.Prelude.{codes, slice_get}
 use Rattle.std.specs.List.{AllByRecursion}

@@ -1,4 +1,4 @@
--- The number of lines of an expression's code does not depend on the table of constants.
+-- The number of lines of assembly of an expression does not depend on the constant table.
 use Rattle.std.proofs.Common.{◌≡◌, ℕ, ◌+◌, List, [], ◌∷◌, ◌++◌, length, Bool as Truth, true, false, refl, ap₂, arith}
 use Rattle.std.specs.Prelude.{if◌then◌else◌, nat_lt, codes}
 use Rattle.std.proofs.lemmas.List.{length-append}

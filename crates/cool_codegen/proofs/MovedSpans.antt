@@ -1,4 +1,4 @@
--- The spans of code that begins n lines later are those of the code, moved by n.
+-- If code begins n lines later, the spans (ranges of lines) of its expressions are the same, moved by n lines.
 use Rattle.std.proofs.Common.{◌≡◌, ℕ, ◌+◌, List, [], ◌∷◌, ◌++◌, map, refl, ap, ap₂, ◌∙◌, arith}
 use Rattle.std.specs.Prelude.{if◌then◌else◌, codes}
 use Rattle.std.specs.List.{AllByRecursion}

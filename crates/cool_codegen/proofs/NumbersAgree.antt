@@ -1,5 +1,5 @@
--- Code names constants by their numbers: an expression has the same code by two tables that give its constants the same numbers. A table with more
--- constants after its own keeps the numbers of those that were asked for.
+-- An expression has the same code for two constant tables that give its constants the same numbers, because code names constants by their numbers. A table that
+-- is extended by more constants keeps the numbers of those that it has.
 use Rattle.std.proofs.Common.{◌≡◌, ℕ, ◌+◌, List, [], ◌∷◌, ◌++◌, refl, sym, ◌∙◌, ap, append_assoc, append-nil}
 use Rattle.std.specs.Prelude.{codes, length, nat_eq, bytes_eq, if◌then◌else◌, Bool, true, false}
 use Rattle.std.specs.List.{AllByRecursion, position_or_len, list_any}

@@ -1,4 +1,4 @@
--- The number of a constant does not change if constants are added after it.
+-- The number of a constant in the constant table does not change if more constants are added after it.
 use Rattle.std.proofs.Common.{◌≡◌, List, [], ◌∷◌, ◌++◌, Bool, true, false, refl, arith}
 use Rattle.std.specs.Prelude.{if◌then◌else◌}
 use Rattle.std.specs.List.{position_or_len, list_any}

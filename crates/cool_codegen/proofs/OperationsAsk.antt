@@ -1,4 +1,5 @@
--- An operation asks for one constant, the name of its file, and a division asks for it twice.
+-- The code of an arithmetic operation adds one constant to the constant table, the name of its source file, and that of a division asks for this constant
+-- twice.
 use Rattle.std.proofs.Common.{◌≡◌, ℕ, List, []}
 use Rattle.std.specs.Prelude.{get_or}
 use Rattle.cool_syntax.specs.declared.place.Place.{Place}

@@ -1,4 +1,4 @@
--- Code that was added in a setting is the same in an equal one, with equal constants before it and equal names in scope.
+-- Code that was generated in one context is also the code for an equal context, with equal constant tables before it and equal variables in scope.
 use Rattle.std.proofs.Common.{◌≡◌, ℕ, List, length, subst}
 use Rattle.std.specs.Prelude.{Result}
 use Rattle.std.specs.Global.{Vec}

@@ -1,5 +1,5 @@
--- The variables of a feature have its names in scope as the rules have them there, so the types of the nodes of its expression are those
--- with the names of the variables in scope.
+-- The variables with which code generation begins a feature have the names and types that the typing rules have in scope there, so the types of the nodes of
+-- its expression are the same with both.
 use Rattle.std.proofs.Common.{◌≡◌, ℕ, ◌<◌, List, [], ◌∷◌, length, Some, refl, ap, sym, ◌∙◌}
 use Rattle.std.specs.Prelude.{slice_get}
 use Rattle.cool_syntax.specs.declared.file_tree.Feature.TheVariants.{Method}

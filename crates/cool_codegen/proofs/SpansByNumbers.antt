@@ -1,4 +1,5 @@
--- The spans of the expression at a number are those of its tree, and consist of its own span and those of its parts. They lie within its lines.
+-- The spans (ranges of lines) of the expression at a node number are the span of its own code and those of its subexpressions. All of them lie within the lines
+-- of the expression.
 use Rattle.std.proofs.Common.{◌≡◌, ℕ, ◌+◌, ◌≤◌, List, [], ◌∷◌, ◌++◌, Some, length, map, Bool as Truth, true, false, refl, sym, ◌∙◌, ap, arith}
 use Rattle.std.specs.Prelude.{if◌then◌else◌, nat_lt, slice_get, codes}
 use Rattle.std.specs.List.{AllByRecursion}

@@ -1,4 +1,5 @@
--- Lemmas on the list of spans while code is made: the replacement of one span by itself with another end, and spans of branches that are moved on.
+-- The list of spans (ranges of lines of expressions) changes only as intended during code generation: one span gets another end, or the spans of a branch are
+-- moved by a number of lines.
 use Rattle.std.proofs.Common.{◌≡◌, ℕ, ◌+◌, ◌<◌, ◌≤◌, ◌^◌, List, [], ◌∷◌, ◌++◌, Bool, true, false, length, map, get_or, ap, sym, refl, ◌∙◌, arith}
 use Rattle.std.specs.Prelude.{if◌then◌else◌, nat_lt, slice_set}
 use Rattle.std.specs.Global.{Vec}

@@ -1,4 +1,4 @@
--- Each span is the code of its tree. A property that lines from an address on have, and with them their parts, holds for the code of each span.
+-- A property that holds for the code of an expression, and passes from lines to their parts, holds for the code of each span (the lines of one subexpression).
 use Rattle.std.proofs.Common.{◌≡◌, ℕ, ◌+◌, List, [], ◌∷◌, ◌++◌, map as each, ap, refl, ◌∙◌, subst}
 use Rattle.std.specs.Prelude.{if◌then◌else◌, codes, flat_map, Option, Some, None}
 use Rattle.std.specs.List.{AllByRecursion}

@@ -1,4 +1,4 @@
--- The spans, counted in lines, are the same by each table of constants.
+-- The spans of an expression's code, counted in lines, are the same for each constant table.
 use Rattle.std.proofs.Common.{◌≡◌, ℕ, ◌+◌, List, [], ◌∷◌, ◌++◌, length, Bool as Truth, true, false, refl, ap₂, arith}
 use Rattle.std.specs.Prelude.{if◌then◌else◌, nat_lt, codes}
 use Rattle.cool_syntax.specs.Tree.{Tree, Trees, MaybeTree, Cases, Last, More, Without, With, NoCase, CaseOf, tree_size, maybe_size}

@@ -1,4 +1,5 @@
--- The code of the tree of each span is at the place that the span names: a line of a text, or an address in the text of a machine.
+-- The code of the subexpression of each span is at the position that the span names: a line of an assembly text, or an address in the text segment of a
+-- machine.
 use Rattle.std.proofs.Common.{ℕ, ◌+◌, List, ◌++◌, length, refl, sym, ap, ◌∙◌, subst, append_assoc, arith}
 use Rattle.std.specs.Prelude.{Contains}
 use Rattle.std.proofs.lemmas.List.{length-append}

@@ -1,4 +1,4 @@
--- A name in scope has the type of its variable, which is one of the table.
+-- A name in scope has the type of its variable, which is a type of the class table.
 use Rattle.std.proofs.Common.{◌≡◌, ℕ, List, [], ◌∷◌, Some, Bool, true, false, refl}
 use Rattle.std.specs.Prelude.{bytes_eq, if◌then◌else◌}
 use Rattle.std.specs.List.{AllByRecursion}

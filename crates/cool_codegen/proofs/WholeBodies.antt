@@ -1,4 +1,4 @@
--- The lemmas about the expression at a number, stated for a whole body, at its root.
+-- The size, the constants, the lines and the spans that are computed for the root node of a feature's expression are those of the whole expression.
 use Rattle.std.proofs.Common.{◌≡◌, ℕ, ◌+◌, List, [], ◌∷◌, length, map, ap, sym, subst, refl, ◌∙◌}
 use Rattle.cool_syntax.specs.declared.node.NodeId.{NodeId}
 use Rattle.cool_syntax.specs.Tree.{Tree, tree_size}

@@ -1,5 +1,5 @@
--- `IsReady` and `HasRoom` are the precondition for generating the code of a part of a body. `Adds` is the postcondition: the lines, spans and constants that
--- the code adds.
+-- `IsReady` and `HasRoom` are the precondition for generating the code of a subexpression. `Adds` is the postcondition: the lines, the spans (ranges of lines)
+-- and the constants that the code adds.
 use Rattle.std.specs.Prelude.{◌≡◌, ℕ, ◌+◌, ◌*◌, ◌-◌, ◌^◌, ◌<◌, ◌≤◌, List, ◌++◌, length, map, Result, IfOk, OnOk}
 use Rattle.std.specs.List.{AllByRecursion}
 use Rattle.mips_isa.specs.Lines.{Line, lines_of}

@@ -1,4 +1,4 @@
--- The branches of a case in the order in which they are tried: those of deeper classes first, and otherwise in the order of the text.
+-- The order in which the branches of a `case` are tried: those of deeper classes first, and otherwise in the order of the text.
 use Rattle.std.specs.Prelude.{ℕ, List, [], ◌∷◌, nat_lt, if◌then◌else◌, flat_map}
 use Rattle.mips_isa.specs.Lines.{Line, lines_of}
 use Rattle.cool_codegen.specs.declared.arm.Arm as declared_arm

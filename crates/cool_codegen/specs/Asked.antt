@@ -1,5 +1,5 @@
--- `integers_in` and `strings_in` list the constants that the code of an expression names, in the order in which it asks for their numbers. The strings are
--- those of the source, and the names of the files of places where a run may end.
+-- `integers_in` and `strings_in` list the constants that the code of an expression names, in the order in which it adds them to the constant table. The strings
+-- are those of the source, and the names of the files with a location at which a run may end with an error.
 use Rattle.std.specs.Prelude.{ℕ, ◌<◌, ◌≤◌, List, [], ◌∷◌, ◌++◌, ◌≡◌, get_or, length, slice_get}
 use Rattle.cool_syntax.specs.declared.place.Place.{Place}
 use Rattle.cool_syntax.specs.declared.operator.ArithOp.{ArithOp}

@@ -1,5 +1,5 @@
--- `code` lists the lines of assembly of an expression, as a function of its tree. The code leaves the address of the value in $a0, and the stack as it was:
--- as many words after the frame as its depth says. A node has its number in the list of the feature's nodes, and a constant is named by its number in a
+-- `code` lists the lines of assembly of an expression, as a function of its tree. The code leaves the address of the value in $a0, and the stack as it was: as
+-- many words after the frame as its depth says. A node is named by its number in the list of the feature's nodes, and a constant by its number in the constant
 -- table.
 use Rattle.std.specs.Prelude.{ℕ, zero, suc, ℤ, pos, negsuc, ◌+◌, ◌-◌, ◌*◌, List, [], ◌++◌, length, codes, get_or, if◌then◌else◌, Option, Some, None, unwrap_or, nat_eq, Bool as Truth, true, false}
 use Rattle.cool_syntax.specs.declared.place.Place.{Place}

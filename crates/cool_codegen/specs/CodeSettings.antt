@@ -1,4 +1,4 @@
--- `IsSound` is the precondition for generating the code of an expression: it is in a class of a whole table, and the layout is that of this table.
+-- `IsSound` is the precondition for generating the code of an expression: it is in a class of a complete class table, and the layout is that of this table.
 use Rattle.std.specs.Prelude.{◌≡◌, ◌<◌, List, length, map, string_bytes}
 use Rattle.std.specs.List.{AllByRecursion}
 use Rattle.cool_classes.specs.Chains.{Class}

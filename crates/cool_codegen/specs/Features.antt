@@ -1,4 +1,4 @@
--- `feature_code` is the code of a feature: a method under its label, or the part of an initializer that computes and stores an initial value.
+-- `feature_code` is the code of a feature: a method under its label, or the part of a class's initializer that computes and stores an initial value.
 use Rattle.std.specs.Prelude.{ℕ, pos, ◌+◌, ◌*◌, List, [], ◌∷◌, ◌++◌, length, Option, Some, None}
 use Rattle.cool_syntax.specs.declared.file_tree.Feature.{Feature}
 use Rattle.cool_syntax.specs.declared.file_tree.Feature.TheVariants.{Method, Attribute}

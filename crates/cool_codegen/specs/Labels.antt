@@ -1,4 +1,4 @@
--- `inner` is a label within a feature: its kind, and the numbers of the class, the feature and the node to which it belongs.
+-- `inner` is an assembly label within the code of a feature: its kind, and the numbers of the class, the feature and the node to which it belongs.
 use Rattle.std.specs.Prelude.{ℕ, List, ◌++◌, codes, decimal}
 use Rattle.mips_isa.specs.Lines.{Name}
 

@@ -1,5 +1,5 @@
--- Functions from the number of a node in a body to the size, the constants, the lines and the spans of its expression; the same for a node, from the numbers
--- of its parts. Lines name constants by the table after the expression.
+-- Functions from the number of a node in a feature's expression to the size, the constants, the lines and the spans (ranges of lines) of its code. Other
+-- functions give the same for a node, from the numbers of its parts. Lines name constants by the constant table after the expression.
 use Rattle.std.specs.Prelude.{ℕ, ◌+◌, ◌-◌, List, [], ◌∷◌, ◌++◌, length, map, codes, Option, Some, None, get_or}
 use Rattle.cool_syntax.specs.declared.place.Place.{Place}
 use Rattle.cool_syntax.specs.declared.operator.ArithOp.{ArithOp}

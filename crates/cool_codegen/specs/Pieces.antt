@@ -1,5 +1,5 @@
--- Pieces of the code of expressions, as lines of assembly. Between the pieces $a0 has the value of the expression that just ended, $s0 self, and $fp the
--- frame. $t0 to $t6 are free; $t8 and $t9 have the place of an error: the String of the file's name, and the line.
+-- Pieces of the code of expressions, as lines of assembly. Between the pieces $a0 has the value of the expression that just ended, $s0 self, and $fp the frame
+-- pointer. $t0 to $t6 are free; $t8 and $t9 have the source location of an error: the String of the file's name, and the line.
 use Rattle.std.specs.Prelude.{ℕ, ℤ, pos, List, [], ◌∷◌}
 use Rattle.mips_isa.specs.Lines.{Name, Line}
 use Rattle.mips_isa.specs.declared.register.TheConstants.{ZERO, A0, T0, T1, T2, T3, T4, T5, T6, S0, T8, T9, SP, FP, RA}

@@ -1,5 +1,5 @@
--- `Shown` is the data that a span of code shows: the place and the form of an expression, and its lines from the first up to the one after the last. It also
--- has the number of words pushed in the frame where the span begins, the number of names in scope there, and the name entered last.
+-- `Shown` is the debug information of the code of one expression: the source location and the kind of the expression, and its lines from the first up to the
+-- one after the last. It also has the number of words pushed in the frame where the code begins, the number of names in scope there, and the name entered last.
 use Rattle.std.specs.Prelude.{ℕ, ◌+◌, ◌≤◌, List, [], ◌∷◌, ◌++◌, length, map, slice_get, Option}
 use Rattle.std.specs.List.{AllByRecursion}
 use Rattle.std.specs.Global.{Vec}

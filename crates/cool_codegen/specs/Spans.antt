@@ -1,5 +1,5 @@
--- The spans of code: for each expression within a tree, where its code begins, and the names in scope there, the depth, and the number of nodes before it.
--- They are computed by the same recursion as the code. A place in the code is a line if it is counted by `length`, and an address if it is counted by
+-- The spans of code: for each subexpression of a tree, the position where its code begins, the names in scope there, the stack depth, and the number of nodes
+-- before it. They are computed by the same recursion as the code. A position is a line if it is counted by `length`, and an address if it is counted by
 -- `sizes`.
 use Rattle.std.specs.Prelude.{◌≡◌, refl, ℕ, ◌+◌, List, [], ◌∷◌, ◌++◌, length, codes, nat_lt, if◌then◌else◌, Option, Some, None}
 use Rattle.cool_syntax.specs.declared.place.Place.{Place}

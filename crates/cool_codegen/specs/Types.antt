@@ -1,4 +1,5 @@
--- Functions on names and lists that the code needs: whether a name is `self`, the class that a name means, and the number of arguments of a call.
+-- Functions on names and lists of trees that code generation needs: whether a name is `self`, the class that a name denotes, and the number of arguments of a
+-- call.
 use Rattle.std.specs.Prelude.{ℕ, ◌+◌, List, bytes_eq, codes, Bool as Truth}
 use Rattle.cool_syntax.specs.Tree.{Trees, Last, More}
 use Rattle.cool_classes.specs.declared.class_id.ClassId.{ClassId}

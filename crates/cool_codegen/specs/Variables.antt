@@ -1,5 +1,5 @@
--- `Named` is a name in scope with the word of memory that holds its value; lists of names have the latest first. A word is addressed from the frame ($fp) or
--- from self ($s0).
+-- `Named` is a name in scope with the word of memory that holds its value; lists of names have the latest first. A word is addressed from the frame pointer
+-- ($fp) or from self ($s0).
 use Rattle.std.specs.Prelude.{ℕ, ◌+◌, ◌*◌, negsuc, List, [], ◌∷◌}
 use Rattle.mips_isa.specs.declared.register.TheConstants.{FP, S0}
 use Rattle.cool_classes.specs.declared.class_id.Ty.{Ty}

@@ -1,4 +1,4 @@
-//! The branches of a case, in the order in which they are tried.
+//! The type `Arm`: the code of a branch of a `case`, and the function that inserts it so that branches of deeper classes are tried first.
 
 ghost use Rattle.std.specs.Prelude.{◌≡◌, ◌≤◌, ◌++◌, ◌∷◌, length, map, take, drop, OnOk};
 ghost use Rattle.cool_codegen.specs.Spans.{branch_of, with_branch, Branch};

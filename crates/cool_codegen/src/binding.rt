@@ -1,4 +1,4 @@
-//! The code of `let` and `case`.
+//! Functions that generate the code of `let` and `case` expressions.
 
 ghost use Rattle.std.specs.Prelude.{◌≡◌, ◌++◌, ◌+◌, ◌^◌, ◌<◌, ◌≤◌, [], length, map, IfSome, OnOk};
 ghost use Rattle.std.specs.List.{AllByRecursion};

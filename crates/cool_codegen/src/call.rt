@@ -1,4 +1,4 @@
-//! The code of dispatches.
+//! Functions that generate the code of dispatches, which are method calls.
 
 ghost use Rattle.std.specs.Prelude.{◌≡◌, ◌++◌, ◌+◌, ◌<◌, ◌≤◌, length, IfOk, OnOk};
 ghost use Rattle.mips_isa.specs.Lines.{lines_of};

@@ -1,4 +1,5 @@
-//! The state of code generation within a feature: the names in scope, and the constants, lines and spans so far.
+//! The type `Code`, the state of code generation within a feature: the names in scope, the constant table, and the lines and spans (ranges of lines of
+//! expressions) so far.
 
 ghost use Rattle.std.specs.Prelude.{◌≡◌, ◌<◌, [], ◌∷◌, ◌++◌, List, length, map, IfOk, OnOk};
 ghost use Rattle.mips_isa.specs.Lines.{lines_of};

@@ -1,4 +1,5 @@
-//! The constant context of code generation for one feature: classes with their layout, offsets and slots.
+//! The type `CodeSetting`, the constant context of code generation for one feature: its class and expression, the class table, and the layout with offsets and
+//! slots.
 
 ghost use Rattle.std.specs.Prelude.{◌≡◌, ◌<◌, ◌+◌, ◌-◌, ◌*◌, pos, length, unwrap_or, Contains};
 ghost use Rattle.cool_classes.specs.ClimbedChains.{above};

@@ -1,4 +1,4 @@
-//! The labels of integers, strings and names of files, each of which is in the table of constants once code names it.
+//! Functions that return the assembly labels of integers, strings and file names, and add each of these constants to the constant table.
 
 ghost use Rattle.std.specs.Prelude.{◌≡◌, ◌<◌, ◌-◌, ◌^◌, length, IfOk, OnOk};
 ghost use Rattle.cool_consts.specs.Constants.{Constants, with_integer, with_string};

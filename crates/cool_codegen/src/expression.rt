@@ -1,4 +1,5 @@
-//! The code of expressions: names, constants, new objects, conditionals, loops and blocks.
+//! Functions that generate the code of expressions: those of names, constants, new objects, conditionals, loops and blocks are here, and other modules have the
+//! other kinds.
 
 ghost use Rattle.std.specs.Prelude.{◌≡◌, ◌≤◌, List, [], ◌∷◌, ◌++◌, length};
 ghost use Rattle.mips_isa.specs.Lines.{Line, lines_of};

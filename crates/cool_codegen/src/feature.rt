@@ -1,4 +1,4 @@
-//! The code of methods, and of the initial values of attributes.
+//! Functions that generate the code of methods, and of the initial values of attributes.
 
 ghost use Rattle.std.specs.Prelude.{◌≡◌, ◌^◌, ◌<◌, ◌+◌, ◌*◌, ◌++◌, [], length, map, slice_get, string_bytes, vec_capacity, Contains, IfOk, OnOk, Some};
 ghost use Rattle.mips_isa.specs.Lines.{lines_of};

@@ -1,4 +1,4 @@
-//! The labels inside the code of a feature, such as the end of a loop.
+//! The function `inner_label`: it makes the assembly labels inside the code of a feature, such as the label of the end of a loop.
 
 ghost use Rattle.std.specs.Prelude.{◌≡◌, ◌++◌, codes, decimal, IfOk, OnOk};
 ghost use Rattle.cool_codegen.specs.Code.{label_at};

@@ -1,4 +1,4 @@
-//! The text of a label: a word, and numbers.
+//! Functions that build the text of an assembly label: a word, followed by numbers in decimal.
 
 ghost use Rattle.std.specs.Prelude.{◌≡◌, ◌++◌, decimal, IfOk, OnOk};
 

@@ -1,4 +1,4 @@
-//! Code generation for features.
+//! Code generation for features: it translates the methods and the initial values of attributes of a typed program to lines of MIPS assembly.
 //!
 //! Input: a feature of a typed program, the layout of its classes and the names of the files, and the constants so far. Output: the lines of a
 //! method, or those that compute and store an initial value, and the constants with those that the code asks for. `specs/Features.antt`, `specs/Code.antt`

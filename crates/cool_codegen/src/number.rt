@@ -1,4 +1,4 @@
-//! Numbers of words and bytes as signed offsets.
+//! Functions that convert numbers of words or bytes, which are below 2 ^ 31, to signed offsets.
 
 ghost use Rattle.std.specs.Prelude.{◌≡◌, ◌<◌, ◌^◌, pos};
 ghost use Rattle.cool_codegen.specs.Code.{minus};

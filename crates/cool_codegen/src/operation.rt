@@ -1,4 +1,4 @@
-//! The code of an operation after the code of its operands, and the code of names, default values and new objects.
+//! Functions that generate the code of an operation after the code of its operands, and the code of names, default values and new objects.
 
 ghost use Rattle.std.specs.Prelude.{◌≡◌, ◌<◌, ◌-◌, ◌^◌, ◌++◌, length, OnOk};
 ghost use Rattle.mips_isa.specs.Lines.{lines_of};

@@ -1,4 +1,4 @@
-//! The code of assignments and operators.
+//! Functions that generate the code of assignments and operators.
 
 ghost use Rattle.std.specs.Prelude.{◌≡◌, ◌++◌, ◌+◌, ◌<◌, ◌≤◌, length, OnOk};
 ghost use Rattle.mips_isa.specs.Lines.{lines_of};

@@ -1,4 +1,4 @@
-//! Pieces of the code of expressions, as drafts of their lines: `cool_runtime::draft::write` adds the lines.
+//! Functions that return pieces of the code of expressions as templates of assembly lines, which `cool_runtime::draft::write` appends to the code.
 
 ghost use Rattle.std.specs.Prelude.{◌≡◌, ◌<◌, map};
 ghost use Rattle.cool_runtime.specs.Drafts.{drafted};

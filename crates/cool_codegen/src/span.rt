@@ -1,4 +1,4 @@
-//! The span of an expression: the lines of its code, and the names in scope there.
+//! The type `Span`, the debug information of the code of one expression: the lines of its code, and the names in scope there.
 
 ghost use Rattle.std.specs.Prelude.{◌≡◌, List};
 ghost use Rattle.cool_syntax.specs.NodeLists.{made};

@@ -1,4 +1,4 @@
-//! The variables of code: for each name in scope, the register and the offset that address the word with its value.
+//! The type `Variable`: for a name in scope, the register and the offset that address the word with its value.
 
 ghost use Rattle.std.specs.Prelude.{◌≡◌, ◌<◌};
 ghost use Rattle.cool_codegen.specs.Variables.{register};

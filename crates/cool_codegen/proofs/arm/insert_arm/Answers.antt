@@ -1,4 +1,4 @@
--- `insert_arm` inserts a branch at the place that `place_among` returns, so the branches afterwards are `with_branch` of `Spans.antt`.
+-- `insert_arm` inserts a branch of a `case` at the position that `place_among` returns, so the branches afterwards are `with_branch` of `Spans.antt`.
 use Rattle.std.proofs.Common.{◌≡◌, List, ◌∷◌, ◌++◌, map, take, drop, ap, sym, subst, ◌∙◌, refl}
 use Rattle.cool_codegen.specs.declared.arm.Arm as declared_arm
 use Rattle.cool_codegen.specs.Spans.{branch_of, with_branch}

@@ -1,5 +1,5 @@
--- `place_among` returns the place at which `with_branch` of `Spans.antt` inserts a branch of this depth.
--- Both pass each branch whose class is no less deep and stop at the first one that is less deep.
+-- `place_among` returns the position at which `with_branch` of `Spans.antt` inserts a branch of a `case` whose class has a given depth. Both pass each branch
+-- whose class is no less deep and stop at the first one that is less deep.
 use Rattle.std.proofs.Common.{◌+◌, ◌<◌, map, length, ap, ◌∙◌, arith}
 use Rattle.std.specs.Prelude.{nat_lt}
 use Rattle.cool_codegen.specs.declared.arm.Arm as declared_arm

@@ -1,5 +1,5 @@
--- `add_arms` appends the lines of each branch, and its spans moved on by the number of lines before.
--- The line numbers of the moved spans are below 2 ^ 64, because each span lies within the lines of its branch.
+-- `add_arms` appends the lines of each branch of a `case`, and its spans (ranges of lines) moved by the number of lines before. The line numbers of the moved
+-- spans are below 2 ^ 64, because each span lies within the lines of its branch.
 use Rattle.std.proofs.Common.{◌+◌, ◌<◌, ◌^◌, ◌++◌, length, sym, subst, rules, arith}
 use Rattle.std.specs.List.{AllByRecursion}
 use Rattle.mips_isa.specs.Lines.{lines_of}

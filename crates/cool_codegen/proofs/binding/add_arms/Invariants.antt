@@ -1,4 +1,4 @@
--- The lines and spans that `add_arms` has so far, with those of the branches that are left, are those of all branches.
+-- The lines and spans (ranges of lines) that `add_arms` has so far, followed by those of the remaining branches, are those of all branches of the `case`.
 use Rattle.std.proofs.Common.{◌≡◌, ◌++◌, map}
 use Rattle.std.specs.List.{AllByRecursion}
 use Rattle.mips_isa.specs.Lines.{lines_of}

@@ -1,4 +1,4 @@
--- The spans that `add_moved` has so far, with those that are left, are all spans.
+-- The spans (ranges of lines) that `add_moved` has moved so far, followed by those that remain, are all moved spans.
 use Rattle.std.proofs.Common.{◌≡◌, ◌+◌, ◌<◌, ◌^◌, ◌++◌, map, drop}
 use Rattle.std.specs.List.{AllByRecursion}
 use Rattle.cool_codegen.specs.Shown.{later, shown_of}

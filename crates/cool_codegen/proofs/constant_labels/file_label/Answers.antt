@@ -1,4 +1,5 @@
--- `file_label` returns the label of the name of a place's file: the name at that number in the setting is `file_name` of its context.
+-- `file_label` returns the label of the constant that has the name of the file of a source location: the name that the code finds by the number of the file is
+-- `file_name` of the specification.
 use Rattle.std.proofs.Common.{◌≡◌, [], ap, sym, ◌∙◌}
 use Rattle.std.specs.Prelude.{string_bytes}
 use Rattle.std.proofs.lemmas.Result.{IfOk-weaker}

@@ -1,5 +1,5 @@
--- `int_label` returns the label that an integer has in the table of constants, and in each table that extends it (`Extends`).
--- The label stays the same because constants are only added at the end.
+-- `int_label` returns the label that an integer has in the constant table, and in each table that extends it (`Extends`). The label stays the same because
+-- constants are only added at the end.
 use Rattle.std.proofs.Common.{◌≡◌, ◌++◌, ap, sym, ◌∙◌}
 use Rattle.std.specs.Prelude.{nat_eq}
 use Rattle.std.specs.List.{position_or_len}

@@ -1,5 +1,5 @@
--- `string_label` returns the label that a string has in the table of constants, and in each table that extends it (`Extends`).
--- The label stays the same because constants are only added at the end.
+-- `string_label` returns the label that a string has in the constant table, and in each table that extends it (`Extends`). The label stays the same because
+-- constants are only added at the end.
 use Rattle.std.proofs.Common.{◌≡◌, ◌++◌, ap, sym, ◌∙◌}
 use Rattle.std.specs.Prelude.{bytes_eq}
 use Rattle.std.specs.List.{position_or_len}

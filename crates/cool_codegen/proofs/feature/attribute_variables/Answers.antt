@@ -1,4 +1,4 @@
--- The loop of `attribute_variables` enters the attributes of a class into the scope one by one. Before its first step all of them are left.
+-- `attribute_variables` returns a scope with all attributes of a class, inherited ones included: each step of its loop enters one attribute.
 use Rattle.std.proofs.Common.{◌∙◌, sym, subst, rules, arith, Contains}
 use Rattle.std.specs.List.{AllByRecursion}
 use Rattle.cool_classes.specs.ClimbedChains.{chain}

@@ -1,4 +1,4 @@
--- The variables that `attribute_variables` has so far, with those of the attributes that are left, are those of all attributes of the class.
+-- The variables that `attribute_variables` has entered so far, followed by those of the remaining attributes, are those of all attributes of the class.
 use Rattle.std.proofs.Common.{◌≡◌, Contains}
 use Rattle.std.specs.List.{AllByRecursion}
 use Rattle.cool_classes.specs.Features.{HasAttribute}

@@ -1,4 +1,4 @@
--- `body_code` appends the code of the whole body of a feature: it calls `expression` for the root of the body, whose tree is the whole tree.
+-- `body_code` appends the code of the whole expression of a feature: it calls `expression` for the root node, whose tree is the whole tree.
 use Rattle.std.proofs.Common.{◌++◌, length, map, ap, sym, subst, ◌∙◌, rules, arith}
 use Rattle.mips_isa.specs.Lines.{lines_of}
 use Rattle.cool_syntax.specs.TreesWithinLimits.{IsTreeWithin}

@@ -1,4 +1,4 @@
--- `declared_type` returns `type_meant` of the declared name of an attribute, since `attribute_type` returns the type that the name denotes.
+-- `declared_type` returns the type that the declared name of an attribute denotes (`type_meant`), because `attribute_type` does.
 use Rattle.cool_rules.proofs.RulesOfTables.{type_meant_is}
 use Rattle.cool_codegen.proofs.feature.declared_type.Goals as goal
 

@@ -1,4 +1,4 @@
--- The variables that `formal_variables` has so far, with those of the formals that are left, are those of all formals.
+-- The variables that `formal_variables` has entered so far, followed by those of the remaining formal parameters, are those of all formal parameters.
 use Rattle.std.proofs.Common.{◌≡◌, ◌<◌, ◌^◌, length, drop}
 use Rattle.cool_codegen.specs.Features.{with_formals}
 use Rattle.cool_codegen.specs.CodeSettings.{HaveTypes}

@@ -1,5 +1,5 @@
--- `initial_value_code` returns the code of an initial value, and after it the store into the attribute.
--- The spans of the initial value are counted from line 0, because no line comes before it.
+-- `initial_value_code` returns the code of an initial value, followed by the store into the attribute. The spans (ranges of lines) of the initial value are
+-- counted from line 0, because no line comes before it.
 use Rattle.std.proofs.Common.{length, map, ◌∙◌, rules}
 use Rattle.mips_isa.specs.Lines.{lines_of}
 use Rattle.cool_codegen.specs.CodeSettings.{context}

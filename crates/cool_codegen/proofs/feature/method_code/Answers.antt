@@ -1,5 +1,5 @@
--- `method_code` returns the label of a method, `enter_lines`, the code of the body and `leave_lines`.
--- The spans of the body are counted from the first line after `enter_lines`.
+-- `method_code` returns the label of a method, the lines that set up its frame (`enter_lines`), the code of its body and the lines that return (`leave_lines`).
+-- The spans (ranges of lines) of the body are counted from the first line after `enter_lines`.
 use Rattle.std.proofs.Common.{◌≡◌, ◌+◌, ◌*◌, ◌++◌, length, map, ap, ◌∙◌, append_assoc, rules, arith}
 use Rattle.std.specs.Prelude.{pos}
 use Rattle.std.proofs.lemmas.List.{length-append}

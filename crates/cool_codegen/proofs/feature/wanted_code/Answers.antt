@@ -1,5 +1,5 @@
--- `wanted_code` returns the code of the feature at this number in the class: that of a method, that of an initial value, or none.
--- The feature of the clause is the one that the code reads, since both are found by the same number.
+-- `wanted_code` returns the code of the feature at a number in a class: that of a method, that of an initial value, or none. The feature of the postcondition
+-- is the one that the code reads, because both are found by the same number.
 use Rattle.std.proofs.Common.{◌≡◌, ◌∙◌, ◌<◌, ◌++◌, List, [], length, map, Option, Some, ap, sym, subst, arith}
 use Rattle.std.specs.Prelude.{string_bytes, IfOk, OnOk}
 use Rattle.mips_isa.specs.Lines.{lines_of}

@@ -1,5 +1,5 @@
--- `make_int` appends `int_code` of `Code.antt`, which has the label of the file's name.
--- This label is the same in each table that extends the table of constants after the call (`Extends`).
+-- `make_int` appends the code that makes an Int object of a result (`int_code` of `Code.antt`), which has the label of the source file's name. This label is
+-- the same in each table that extends the constant table after the call (`Extends`).
 use Rattle.std.proofs.Common.{◌++◌, ap, ◌∙◌, append_assoc}
 use Rattle.std.specs.Prelude.{codes}
 use Rattle.mips_isa.specs.Lines.{lines_of}

@@ -1,5 +1,5 @@
--- `test_divisor` appends `divisor_code` of `Code.antt`, which has the label of the file's name.
--- This label is the same in each table that extends the table of constants after the call (`Extends`).
+-- `test_divisor` appends the code that tests whether a divisor is 0 (`divisor_code` of `Code.antt`), which has the label of the source file's name. This label
+-- is the same in each table that extends the constant table after the call (`Extends`).
 use Rattle.std.proofs.Common.{◌++◌, ap, ◌∙◌, append_assoc}
 use Rattle.std.specs.Prelude.{codes}
 use Rattle.mips_isa.specs.Lines.{lines_of}

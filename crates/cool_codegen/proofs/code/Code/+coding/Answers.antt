@@ -1,5 +1,6 @@
--- The functions of the group `coding` (`expression`, `control`, `unary`, `operands`, `arms`, `arm`) append the lines and spans that `Numbered.antt` defines.
--- Each step joins the lines, spans and constants that its parts add, and no part changes the setting or the scope.
+-- The mutually recursive functions that generate the code of an expression (`expression`, `control`, `unary`, `operands`, `arms`, `arm`) append the lines and
+-- spans (ranges of lines) that `Numbered.antt` defines. Each step joins the lines, spans and constants that its parts add, and no part changes the context or
+-- the scope.
 use Rattle.std.proofs.Common.{◌≡◌, ◌+◌, ◌<◌, List, [], ◌++◌, ◌∷◌, length, map, drop, ap, sym, subst, ◌∙◌, append_assoc, rules, arith}
 use Rattle.std.specs.Prelude.{codes}
 use Rattle.std.specs.List.{AllByRecursion}

@@ -1,5 +1,5 @@
--- Each call in the group `coding` is for a part with a smaller number. In each loop the setting and the scope stay the same,
--- and the lines so far, with those of the parts that are left, are the lines of the whole.
+-- The mutually recursive functions that generate the code of an expression call each other only for subexpressions, which have smaller node numbers. In each
+-- loop the context and the scope stay the same, and the lines so far, followed by those of the remaining parts, are the lines of the whole.
 use Rattle.std.proofs.Common.{◌≡◌, ◌+◌, ◌*◌, ◌<◌, ◌≤◌, ◌++◌, [], length, map, drop}
 use Rattle.std.specs.List.{AllByRecursion}
 use Rattle.mips_isa.specs.Lines.{lines_of}

@@ -1,5 +1,5 @@
--- `Code::begin_case` appends `case_begin_lines` of `Pieces.antt` with the label of the file's name.
--- The table of constants has this name after the call of `file_label`, and the label is the one in that table.
+-- `Code::begin_case` appends the lines that begin a `case` (`case_begin_lines` of `Pieces.antt`), with the label of the source file's name. The constant table
+-- has this name after the call of `file_label`, and the label is the one in that table.
 use Rattle.std.proofs.Common.{◌≡◌, ◌++◌, ap, ◌∙◌}
 use Rattle.mips_isa.specs.Lines.{lines_of}
 use Rattle.cool_consts.specs.Constants.{Constants}

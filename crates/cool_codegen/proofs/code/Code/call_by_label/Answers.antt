@@ -1,5 +1,5 @@
--- `Code::call_by_label` appends `static_code` of `Code.antt`: the call of a method by its label, with the label of the file's name.
--- The table of constants has this name after the call of `file_label`, and the label is the one in that table.
+-- `Code::call_by_label` appends the call of a method by its label (`static_code` of `Code.antt`), with the label of the source file's name. The constant table
+-- has this name after the call of `file_label`, and the label is the one in that table.
 use Rattle.std.proofs.Common.{◌≡◌, ◌++◌, ap, ◌∙◌}
 use Rattle.mips_isa.specs.Lines.{lines_of}
 use Rattle.cool_consts.specs.Constants.{Constants}

@@ -1,5 +1,5 @@
--- `Code::call_by_slot` appends `slot_code` of `Code.antt`: the call through the dispatch table, with the label of the file's name.
--- The table of constants has this name after the call of `file_label`, and the label is the one in that table.
+-- `Code::call_by_slot` appends the call of a method through the dispatch table (`slot_code` of `Code.antt`), with the label of the source file's name. The
+-- constant table has this name after the call of `file_label`, and the label is the one in that table.
 use Rattle.std.proofs.Common.{◌≡◌, ◌++◌, ap, ◌∙◌, rules, arith, w32}
 use Rattle.std.proofs.lemmas.Int.{to_z-of_z}
 use Rattle.mips_isa.specs.Lines.{lines_of}

@@ -1,5 +1,5 @@
--- `Code::compute` appends `operation_lines` of `Numbered.antt`: an operation of arithmetic on two operands, and the new Int.
--- Its labels are those of the table of constants after `make_int`, which only adds to the table that `operate` leaves.
+-- `Code::compute` appends the code of an arithmetic operation on two operands, and of the new Int object for its result (`operation_lines` of `Numbered.antt`).
+-- Its labels are those of the constant table after `make_int`, which only extends the table that `operate` leaves.
 use Rattle.std.proofs.Common.{◌≡◌, ◌++◌, [], ◌∷◌, ap, subst, ◌∙◌, append_assoc}
 use Rattle.mips_isa.specs.Lines.{lines_of}
 use Rattle.cool_consts.specs.Constants.{Constants, with_string}

@@ -1,4 +1,4 @@
--- If spans are wanted, `Code::end_span` sets the end of the span at this number to the number of lines so far.
+-- `Code::end_span` sets the end of the span (range of lines) at a number to the number of lines so far, if spans are wanted.
 use Rattle.std.proofs.Common.{◌∷◌, [], ◌++◌, length, ap, sym, ◌∙◌}
 use Rattle.mips_isa.specs.Lines.{lines_of}
 use Rattle.cool_codegen.specs.declared.code_setting.Wanted.{Wanted}

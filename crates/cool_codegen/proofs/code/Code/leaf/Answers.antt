@@ -1,5 +1,5 @@
--- `Code::leaf` appends `node_lines` of `Numbered.antt` for a name, a constant or a new object.
--- An integer or a string has the label that the table of constants gives after `int_label` or `string_label`.
+-- `Code::leaf` appends the lines of a name, a constant or a new object (`node_lines` of `Numbered.antt`). An integer or a string has the label that the
+-- constant table gives after `int_label` or `string_label`.
 use Rattle.std.proofs.Common.{◌≡◌, ◌++◌, map, ap, refl, sym, ◌∙◌, rules, arith}
 use Rattle.std.proofs.lemmas.Grind.{common_steps}
 use Rattle.std.proofs.lemmas.List.{append-nil}

@@ -1,5 +1,5 @@
--- `Code::node_of` returns the node at a number, and the size, lines, constants and spans of the expression there are those of this node.
--- They agree because the number is that of a part of the typed body (`IsPart`).
+-- `Code::node_of` returns the node at a number, and the size, lines, constants and spans of the expression there are those that are defined by this node. They
+-- agree because the number is that of a subexpression of the typed expression (`IsPart`).
 use Rattle.std.proofs.Common.{length, subst, rules}
 use Rattle.cool_syntax.proofs.TreesHaveNodes.{one_le_size}
 use Rattle.cool_syntax.specs.NodeLists.{tree_at}

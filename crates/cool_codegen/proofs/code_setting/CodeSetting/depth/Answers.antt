@@ -1,4 +1,4 @@
--- `CodeSetting::depth` returns the number of classes above a class: `chain` has these and the class itself, so the depth is its length less 1.
+-- `CodeSetting::depth` returns the number of ancestors of a class: the list `chain` has these and the class itself, so the depth is its length less 1.
 use Rattle.std.proofs.Common.{◌≡◌, ◌+◌, length, arith}
 use Rattle.cool_classes.specs.ClimbedChains.{chain}
 use Rattle.cool_classes.proofs.ChainsOfTables.{chain_is}

@@ -1,5 +1,5 @@
--- `CodeSetting::minus_tag` returns the tag of a class with the other sign.
--- The tag is below 2 ^ 31, as `negative` requires, because it is less than the number of classes, which is limited.
+-- `CodeSetting::minus_tag` returns the negated tag of a class. The tag is below 2 ^ 31, as `negative` requires, because it is less than the number of classes,
+-- which is limited.
 use Rattle.std.proofs.Common.{arith}
 use Rattle.cool_layout.proofs.TagRanges.{at_tag}
 use Rattle.cool_codegen.proofs.code_setting.CodeSetting.minus_tag.Goals as goal
