@@ -1,4 +1,4 @@
--- A whole table that keeps the rules of classes is a typed table exactly if checking finds no fault in it.
+-- A complete class table that keeps the rules of classes is well typed exactly if the type checker finds no fault (type error) in it.
 use Rattle.std.proofs.Common.{◌≡◌, ◌↔◌, ℕ, zero, suc, ◌+◌, ◌<◌, List, [], ◌∷◌, ◌++◌, length, get_or, Some, ap, refl, subst, sym, arith}
 use Rattle.std.specs.Prelude.{Ok, Err, slice_get}
 use Rattle.cool_syntax.specs.declared.file_tree.Feature.{Feature}

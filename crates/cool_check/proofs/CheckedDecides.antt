@@ -1,4 +1,5 @@
--- An expression has a type by the declarative rules exactly if checking it finds no fault, and it is the one that checking gives.
+-- An expression has a type by the declarative typing rules exactly if the type checker finds no fault (type error) in it, and the type is the one that the
+-- checker computes.
 use Rattle.std.proofs.Common.{◌≡◌, ◌≢◌, inl, inr, ℕ, ◌<◌, List, [], ◌∷◌, ◌++◌, length, Option, Some, None, Bool, true, false, not, ◌&&◌, ◌||◌, ap, sym, ◌∙◌, refl, subst, arith, true≢false, append-nil, append_assoc}
 use Rattle.std.specs.Option.{option_or}
 use Rattle.std.specs.Prelude.{Contains, Ok, Err, if◌then◌else◌, nat_eq, unwrap_or}

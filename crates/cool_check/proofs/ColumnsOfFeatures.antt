@@ -1,4 +1,4 @@
--- The types of the nodes of a feature's expression are the same in the scope that checking has and in that of the rules.
+-- The types of the nodes of a feature's expression are the same in the scope that the type checker builds and in the scope of the typing rules.
 use Rattle.std.proofs.Common.{◌≡◌, ◌<◌, ℕ, List, ◌++◌, length, Some}
 use Rattle.std.specs.Prelude.{slice_get}
 use Rattle.cool_syntax.specs.declared.file_tree.Feature.TheVariants.{Method}

@@ -1,4 +1,5 @@
--- The types of the nodes of an expression, of a `let` and of a branch are added part by part, each in its scope.
+-- The list of the types of the nodes of an expression, of a `let` or of a `case` branch is built by appending those of each part, computed in the scope of this
+-- part.
 use Rattle.std.proofs.Common.{◌≡◌, ℕ, List, [], ◌∷◌, ◌++◌, ap, sym, ◌∙◌, append_assoc}
 use Rattle.std.specs.Prelude.{Result, Ok, Err, OnOk}
 use Rattle.cool_syntax.specs.declared.place.Place.{Place}

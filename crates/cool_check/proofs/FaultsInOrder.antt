@@ -1,4 +1,4 @@
--- Faults that are sorted by file, byte, kind and line are in order.
+-- A list of faults (type errors) that is sorted by file, byte, kind and line is in the order that the specification demands.
 use Rattle.std.proofs.Common.{◌≡◌, inl, inr, ℕ, zero, suc, ◌<◌, ◌≤◌, false, List, [], ◌∷◌, length, get_or, sym, refl, arith}
 use Rattle.std.specs.Ordering.{MatchOrdering, is_lt, nat_cmp, ordering_then}
 use Rattle.std.specs.declared.cmp.Ordering.{Ordering}

@@ -1,4 +1,4 @@
--- If its names are different, a feature is typed by the rules exactly if checking it finds no fault.
+-- If the names that a feature declares are different, the typing rules accept the feature exactly if the type checker finds no fault (type error) in it.
 use Rattle.std.proofs.Common.{◌≡◌, ◌<◌, ℕ, List, [], ◌∷◌, ◌++◌, map, length, Option, Some, None, sym, refl, subst}
 use Rattle.std.specs.Prelude.{Ok}
 use Rattle.cool_syntax.specs.declared.file_tree.Feature.{Feature}

@@ -1,4 +1,4 @@
--- The search for the first argument that does not conform: if the argument at a position conforms, the search goes on at the next position.
+-- The search for the first argument that does not conform to its formal parameter passes each argument that conforms, and goes on at the next position.
 use Rattle.std.proofs.Common.{◌≡◌, ℕ, zero, suc, ◌+◌, ◌<◌, List, [], ◌∷◌, length, map, drop, get_or, Some, true, Bool, ap, sym, subst, arith}
 use Rattle.std.specs.Prelude.{if◌then◌else◌}
 use native.Mathlib.Numerals.{add-one}

@@ -1,4 +1,4 @@
--- An expression has one type at most by the rules, in a class of a whole table where all names in scope have types of the table.
+-- An expression has at most one type by the typing rules, if its class is in a complete class table and all names in scope have types of the table.
 use Rattle.std.proofs.Common.{◌≡◌, ◌<◌, List, [], length}
 use Rattle.cool_syntax.specs.Tree.{Tree}
 use Rattle.cool_classes.specs.declared.class_id.ClassId.{ClassId}

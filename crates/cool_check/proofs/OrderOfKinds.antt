@@ -1,4 +1,4 @@
--- The derived order of the kinds of faults is that of their ranks.
+-- The derived order (`Ord`) of the kinds of type errors is the order of the ranks that the specification gives them.
 use Rattle.std.proofs.Common.{◌≡◌, ℕ, zero, suc, Bool, true, List, [], ◌∷◌, Some, refl, subst}
 use Rattle.std.specs.Prelude.{◌==◌}
 use Rattle.std.specs.List.{AllByRecursion, list_all, slice_get}

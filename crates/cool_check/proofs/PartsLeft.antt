@@ -1,4 +1,4 @@
--- Formals and features from one position on: the one there, and those after it.
+-- In a loop over formal parameters or features, the result for those from one position on is that of the one there, followed by that of those after it.
 use Rattle.std.proofs.Common.{◌≡◌, ℕ, zero, suc, ◌+◌, ◌<◌, List, [], ◌∷◌, ◌++◌, length, map, drop, get_or, Option, Some, ap, sym, ◌∙◌, refl, subst, arith, append_assoc}
 use Rattle.std.specs.List.{AllByRecursion}
 use Rattle.cool_syntax.specs.declared.file_tree.Feature.{Feature}

@@ -1,4 +1,4 @@
--- If the places of some faults and of one more are in the files, so are the places of all of them.
+-- If the source locations of some faults (type errors) and of one more are in the files, the locations of all of them are.
 use Rattle.std.proofs.Common.{ℕ, List, [], ◌∷◌, ◌++◌}
 use Rattle.std.specs.List.{AllByRecursion}
 use Rattle.cool_syntax.specs.TokenFacts.{IsPlaced}

@@ -1,4 +1,4 @@
--- If the places of an expression are in the files, so are those of its parts.
+-- If the source locations in an expression are in the files, the locations in its subexpressions are, too.
 use Rattle.std.proofs.Common.{◌≡◌, ℕ, zero, suc, ◌<◌, List, [], ◌∷◌, length, map, get_or, subst, sym, arith}
 use Rattle.std.specs.List.{AllByRecursion}
 use Rattle.cool_syntax.specs.declared.node.NodeId.{NodeId}

@@ -1,4 +1,4 @@
--- The fault that checking finds names the rule that fails first: that of an expression without a type whose parts before the failing premise have types.
+-- Each fault (type error) names the typing rule that fails first: that of an expression without a type whose parts before the failing premise have types.
 use Rattle.std.proofs.Common.{◌≡◌, inl, inr, ℕ, ◌<◌, ◌⊎◌, List, [], ◌∷◌, ◌++◌, length, map, Option, Some, None, Bool, true, false, ap, sym, ◌∙◌, refl, subst, arith, append_assoc}
 use Rattle.std.specs.Option.{option_or}
 use Rattle.std.specs.Prelude.{Contains, Ok, Err, if◌then◌else◌, nat_eq, not, ◌&&◌, ◌||◌}

@@ -1,4 +1,4 @@
--- The results of checking are those of the rules as functions: the static type of an expression, and the types that declared names mean.
+-- The type that the type checker computes for an expression is its static type, and the types that it finds for declared names are those that the names denote.
 use Rattle.std.proofs.Common.{◌≡◌, ◌<◌, ℕ, List, ◌++◌, length, Option, Some, None, Bool, true, false, ap, subst, ◌∙◌, refl}
 use Rattle.std.specs.Prelude.{Ok, Err, if◌then◌else◌, unwrap_or}
 use Rattle.cool_syntax.specs.declared.place.Place.{Place}

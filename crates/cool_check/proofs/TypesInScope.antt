@@ -1,4 +1,4 @@
--- If all names in scope have types of the table, so has each name found there.
+-- If all names in scope have types of the class table, each name that is looked up there has a type of the class table.
 use Rattle.std.proofs.Common.{ℕ, List, [], ◌∷◌, Bool, true, false, Option, Some, None}
 use Rattle.std.specs.Prelude.{bytes_eq, if◌then◌else◌, IfSome}
 use Rattle.std.specs.Option.{option_or}

@@ -1,4 +1,4 @@
--- `called` counts the calls of a typer (a type checker): the number rises by one at each call, and stays at its greatest value.
+-- `called` counts the calls of a type checker (`Typer`): the number rises by one at each call, and stays at its greatest value once it has reached it.
 use Rattle.std.specs.Prelude.{ℕ, ◌+◌, min}
 
 -- the last value of the number

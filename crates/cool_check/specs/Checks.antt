@@ -1,5 +1,5 @@
--- `IsAnswer` is the result of a check of an expression, as the definition gives it: a value, the first fault, or out of memory. `nodes_typed` gives the types
--- of the nodes of an expression.
+-- `IsAnswer` says that the code's result of checking an expression is the specified one: a value, the first fault (type error), or out of memory. `nodes_typed`
+-- gives the types of the nodes of an expression.
 use Rattle.std.specs.Prelude.{◌≡◌, ℕ, ◌<◌, List, ◌++◌, length, Result, Ok, IfOk, IfErr}
 use Rattle.std.specs.List.{AllByRecursion}
 use Rattle.cool_syntax.specs.declared.file_tree.Feature.{Feature}

@@ -1,5 +1,5 @@
--- `Context` is the setting in which an expression is checked: a class of a table, with its attributes. `attribute_bindings` and `formal_bindings` give the
--- names in scope at the root of a feature.
+-- `Context` is the context in which an expression is checked: a class of a class table, with its attributes. `attribute_bindings` and `formal_bindings` give
+-- the names in scope at the root of a feature's expression.
 use Rattle.std.specs.Prelude.{List, [], map}
 use Rattle.cool_syntax.specs.declared.file_tree.Formal.{Formal}
 use Rattle.cool_classes.specs.declared.class_id.ClassId.{ClassId}

@@ -1,5 +1,5 @@
--- The typing rule that is not met: if an expression has no type, some part of it, or the expression itself, has none although each part that is checked
--- before has one. The rule of that part fails by a premise of its own (the Cool manual, section 12).
+-- `FeatureFails` says which typing rule is not met if a feature has a given type error: the rule of a subexpression that has no type, although each part that
+-- is checked before has one. This rule fails by a premise of its own (the Cool manual, section 12).
 use Rattle.std.specs.Prelude.{◌≡◌, ◌⊎◌, refl, List, [], ◌∷◌, ◌++◌, Contains, Option, Some, None, codes}
 use Rattle.std.specs.List.{AllByRecursion}
 use Rattle.cool_syntax.specs.declared.file_tree.Feature.{Feature}

@@ -1,4 +1,4 @@
--- The faults (compile-time errors) of typing: their order, and the files in which they stand.
+-- The order of faults (type errors), and the condition that their source locations are in the files.
 use Rattle.std.specs.Prelude.{◌≡◌, ◌≢◌, ℕ, ◌<◌, List, [], length}
 use Rattle.std.specs.List.{AllByRecursion}
 use Rattle.cool_syntax.specs.declared.place.Place.{Place}

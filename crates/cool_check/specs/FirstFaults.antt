@@ -1,5 +1,5 @@
--- The type of an expression or else its first fault: the parts and the checks of each form in their order, from left to right (the Cool
--- manual, sections 4, 7 and 12).
+-- The type of an expression, or else its first fault (type error): the subexpressions and the checks of each kind of expression come in order, from left to
+-- right (the Cool manual, sections 4, 7 and 12).
 use Rattle.std.specs.Prelude.{◌≡◌, ℕ, List, [], ◌∷◌, ◌++◌, length, Bool, not, ◌&&◌, ◌||◌, true, nat_eq, bytes_eq, if◌then◌else◌, Option, Some, None, unwrap_or, codes, refl}
 use Rattle.std.specs.Prelude.{Result, Ok, Err}
 use Rattle.std.specs.Option.{option_or}

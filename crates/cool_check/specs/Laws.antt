@@ -1,4 +1,4 @@
--- Laws on checking: its result agrees with the rules of types, and these give an expression one type.
+-- Theorems about type checking: its result agrees with the declarative typing rules, and these give an expression at most one type.
 use Rattle.std.specs.Prelude.{◌≡◌, ◌<◌, ◌↔◌, ℕ, List, [], length, slice_get, Some, Ok, Err}
 use Rattle.std.specs.List.{AllByRecursion}
 use Rattle.cool_syntax.specs.declared.file_tree.Feature.{Feature}

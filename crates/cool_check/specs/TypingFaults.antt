@@ -1,5 +1,5 @@
--- The typing faults of a program: the first one of each feature that has one, class by class in textual order (the Cool manual, section
--- 12).
+-- `typing_faults` lists the typing faults (type errors) of a program: the first one of each feature that has one, class by class in textual order (the Cool
+-- manual, section 12).
 use Rattle.std.specs.Prelude.{◌≢◌, ℕ, suc, List, [], ◌∷◌, ◌++◌, Option, Some, None, Ok, Err}
 use Rattle.std.specs.List.Sorted.{IsPermutation}
 use Rattle.cool_syntax.specs.declared.file_tree.Feature.{Feature}

@@ -1,5 +1,5 @@
--- `IsSound` says that the setting in which an expression is checked is well formed: it is a class of a whole table, where all names in scope have types of
--- the table.
+-- `IsSound` says that the context in which an expression is checked is well formed: its class is in a complete class table, and all names in scope have types
+-- of this table.
 use Rattle.std.specs.Prelude.{◌<◌, List, length}
 use Rattle.cool_classes.specs.declared.class_id.ClassId.{ClassId}
 use Rattle.cool_classes.specs.Chains.{Class}

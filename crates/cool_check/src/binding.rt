@@ -1,4 +1,4 @@
-//! The types of `let` and `case`.
+//! Functions that check `let` and `case` expressions and compute their types.
 
 ghost use Rattle.std.specs.Prelude.{◌≡◌, ◌≤◌, ◌+◌, ◌++◌, ◌<◌, [], None, length, IfSome, OnOk};
 ghost use Rattle.std.specs.List.{AllByRecursion};

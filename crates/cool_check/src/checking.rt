@@ -1,4 +1,4 @@
-//! Checking all features of a program.
+//! The function `check`: it type-checks all features of a program, and returns the typed program or the type errors.
 
 ghost use Rattle.std.specs.Prelude.{◌≡◌, ◌<◌, ℕ, List, [], ◌++◌, length, IfOk, IfErr, OnOk};
 ghost use Rattle.std.specs.List.{AllByRecursion};

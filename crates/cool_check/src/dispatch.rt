@@ -1,4 +1,4 @@
-//! The types of dispatches.
+//! Functions that check dispatches (method calls) and compute their types.
 
 ghost use Rattle.std.specs.Prelude.{◌≡◌, ◌≤◌, ◌+◌, ◌++◌, ◌<◌, ℕ, length, IfSome, OnOk};
 ghost use Rattle.cool_syntax.specs.Tree.{tree_size};

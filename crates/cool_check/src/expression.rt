@@ -1,4 +1,5 @@
-//! The types of expressions: names, constants, conditionals, loops and blocks.
+//! Functions that check expressions and compute their types: those for names, constants, conditionals, loops and blocks are here, and other modules have the
+//! other kinds.
 
 ghost use Rattle.std.specs.Prelude.{◌≡◌, ◌≤◌, ◌+◌, ◌<◌, ◌++◌, ℕ, [], Ok, true, false, length, IfOk, IfErr, OnOk};
 ghost use Rattle.std.specs.List.{AllByRecursion};

@@ -1,4 +1,4 @@
-//! Faults of typing (the Cool manual, sections 4 and 12).
+//! The kinds of type errors that the checker returns, each with its source location (the Cool manual, sections 4 and 12).
 
 ghost use Rattle.std.specs.Prelude.{◌≡◌, None, Some};
 ghost use Rattle.cool_classes.specs.declared.class_id.Ty.TheVariants.{Class as IsClass};

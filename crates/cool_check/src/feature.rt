@@ -1,4 +1,4 @@
-//! Checking one feature.
+//! The function `check_feature`, which type-checks one method or attribute of a class, and the functions that build its scope.
 
 ghost use Rattle.std.specs.Prelude.{◌≡◌, ◌<◌, ℕ, [], length, IfOk, IfErr, OnOk, Ok, Some};
 ghost use Rattle.std.specs.List.{AllByRecursion, slice_get};

@@ -1,4 +1,4 @@
-//! The types of assignments and operators.
+//! Functions that check assignments and operators and compute their types.
 
 ghost use Rattle.std.specs.Prelude.{◌≡◌, length, ◌≤◌, ◌+◌, ◌++◌, true, false, IfOk, IfErr, OnOk};
 ghost use Rattle.cool_syntax.specs.Tree.{tree_size};

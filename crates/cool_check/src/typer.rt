@@ -1,4 +1,4 @@
-//! The trait of type checkers of single features, which count how often they are called.
+//! The trait `Typer` of type checkers for single features, which count how often they are called.
 
 ghost use Rattle.std.specs.Prelude.{◌≡◌, ◌<◌, ℕ, length, IfErr, OnOk, Ok, Some};
 ghost use Rattle.std.specs.List.{AllByRecursion, slice_get};

@@ -1,4 +1,4 @@
-//! The constant context of type-checking one feature, with the typing rules in that context.
+//! The type `TypingSetting`, the constant context in which one feature is type-checked, and functions that apply typing rules in this context.
 
 ghost use Rattle.std.specs.Prelude.{◌≡◌, ◌<◌, [], length, get_or, IfSome};
 ghost use Rattle.cool_classes.specs.Features.{HasAttribute, HasMethod, attribute_type, formals_of, result_of};

@@ -1,4 +1,4 @@
--- The declaration that a look-up of a name finds in a scope is that of the variable that the definition finds.
+-- The code's look-up of a name in a scope finds the declaration of the variable that the specification's look-up finds.
 use Rattle.std.proofs.Common.{◌≡◌, ℕ, List, [], ◌∷◌, Bool, true, false, Some, refl}
 use Rattle.std.specs.Prelude.{bytes_eq, if◌then◌else◌, option_map}
 use Rattle.cool_rules.specs.Scopes.{Bound, found}

@@ -1,5 +1,5 @@
--- A mark stands at each name of a text, and at nothing else: trees are read from tokens by the forms of the grammar, and the marks of each form stand at
--- its names.
+-- There is a mark (a record of an occurrence of a name) at each identifier of a source text, and at nothing else. Trees are read from tokens by the rules of
+-- the grammar, and the marks of each kind of tree are at its identifiers.
 use Rattle.std.proofs.Common.{◌≡◌, ℕ, ◌+◌, ◌<◌, ◌≤◌, List, [], ◌∷◌, ◌++◌, map, Bool, true, false, ap, sym, ◌∙◌, refl, subst, append_assoc, append-nil, arith}
 use Rattle.std.proofs.lemmas.List.{map-append}
 use Rattle.std.proofs.lemmas.Bool.{eq-eqb, ne_eqb}

@@ -1,4 +1,4 @@
--- Lemmas for loops that add marks: the marks of one formal, feature or class come before those of the ones after it.
+-- In a loop that adds marks (records of occurrences of names), the marks of one formal parameter, feature or class come before those of the ones after it.
 use Rattle.std.proofs.Common.{◌≡◌, ℕ, ◌+◌, ◌<◌, List, ◌++◌, length, drop, get_or, ap, sym, ◌∙◌, append_assoc}
 use Rattle.cool_syntax.specs.declared.file_tree.ClassDef.{ClassDef}
 use Rattle.cool_syntax.specs.declared.file_tree.Feature.{Feature}

@@ -1,4 +1,5 @@
--- The marks of a program record the uses of names in its typed features, because the features of a definition are those of its class in the table.
+-- The marks of a program (records of the occurrences of names) record the uses of names in its typed features, because the features of a class definition are
+-- those of its class in the class table.
 use Rattle.std.proofs.Common.{◌≡◌, ℕ, zero, suc, ◌+◌, ◌<◌, List, [], ◌∷◌, ◌++◌, length, drop, get_or, slice_get, Option, Some, None, sym, refl, subst, arith}
 use native.Mathlib.Numerals.{add-one}
 use Rattle.std.specs.List.{AllByRecursion}

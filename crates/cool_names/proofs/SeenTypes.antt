@@ -1,4 +1,5 @@
--- If the rules give an expression a type, the type that `seen_type` finds at first sight is the same, or it finds none.
+-- If the typing rules give an expression a type, `seen_type`, which computes a type from the form of the expression without checking it, finds the same type or
+-- none.
 use Rattle.std.proofs.Common.{◌≡◌, ◌⊎◌, inl, inr, ℕ, ◌<◌, List, length, Option, Some, None, Bool, true, false, ap, ap₂, sym, ◌∙◌, refl, subst, arith}
 use Rattle.std.specs.Prelude.{bytes_eq, codes, if◌then◌else◌, unwrap_or}
 use Rattle.std.specs.Option.{option_or}

@@ -1,5 +1,5 @@
--- The marks of typed features record the types of variables and the methods of calls that the rules give. The variables with which `marks_of` comes to a
--- place agree with the names in scope there.
+-- The marks of typed features (records of the occurrences of names) name the types of variables and the methods of calls that the typing rules give. The
+-- variables with which `marks_of` reaches a subexpression agree with the names in scope there.
 use Rattle.std.proofs.Common.{◌≡◌, ◌⊎◌, inl, inr, ℕ, ◌<◌, List, [], ◌∷◌, ◌++◌, length, map, Option, Some, None, Bool, true, false, ap, sym, ◌∙◌, refl, subst}
 use Rattle.std.specs.Prelude.{bytes_eq, codes, if◌then◌else◌, option_map, slice_get}
 use Rattle.std.specs.List.{AllByRecursion}

@@ -1,4 +1,5 @@
--- `IsSeenRightly` and `IsDeclaredRightly` say that the types in the marks of names are those of the typing rules (Typing.antt of `cool_rules`).
+-- `IsSeenRightly` and `IsDeclaredRightly` say that the types that are recorded for occurrences of names are those of the typing rules (Typing.antt of
+-- `cool_rules`).
 use Rattle.std.specs.Prelude.{◌≡◌, ◌<◌, ◌⊎◌, List, length, Some, None}
 use Rattle.std.specs.Option.{option_or}
 use Rattle.std.specs.Prelude.{ℕ}

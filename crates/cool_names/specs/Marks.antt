@@ -1,5 +1,5 @@
--- `marks_of` lists the marks of an expression: each place where a name of the program stands, with its role and its meaning there, in the order of the text
--- (the Cool manual, sections 7 and 12).
+-- `marks_of` lists the marks of an expression: each occurrence of a name, with its source location, its role and the definition that it refers to, in the order
+-- of the text (the Cool manual, sections 7 and 12).
 use Rattle.std.specs.Prelude.{◌≡◌, refl, ℕ, List, [], ◌∷◌, ◌++◌, Bool, not, Option, Some, None, option_map, codes, bytes_eq, nat_eq, if◌then◌else◌}
 use Rattle.std.specs.Option.{option_or}
 use Rattle.cool_syntax.specs.declared.place.Place.{Place}

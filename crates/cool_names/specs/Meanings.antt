@@ -1,4 +1,4 @@
--- `Meaning` is the meaning of a name at its place in the text: the type that its definition declares, and the place of that definition (the Cool manual,
+-- `Meaning` describes the definition that an occurrence of a name refers to: the type that the definition declares, and its source location (the Cool manual,
 -- sections 3 to 8 and 12).
 use Rattle.std.specs.Prelude.{◌≡◌, refl, ℕ, ◌-◌, List, [], ◌∷◌, ◌++◌, map, get_or, slice_get, Option, Some, None, codes, bytes_eq, nat_lt, if◌then◌else◌}
 use Rattle.std.specs.Option.{option_or}

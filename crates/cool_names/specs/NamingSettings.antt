@@ -1,5 +1,5 @@
--- `IsSound` is the precondition for computing the marks of an expression: it is in a class of a whole table, whose classes are the basic ones and these
--- definitions.
+-- `IsSound` is the precondition for collecting the occurrences of names in an expression: it is in a class of a complete class table, whose classes are the
+-- basic ones and those of the given definitions.
 use Rattle.std.specs.Prelude.{◌≡◌, ℕ, ◌+◌, ◌<◌, List, length}
 use Rattle.cool_syntax.specs.declared.file_tree.ClassDef.{ClassDef}
 use Rattle.cool_syntax.specs.Tree.{tree_size}

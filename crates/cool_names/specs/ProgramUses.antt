@@ -1,5 +1,5 @@
--- `program_uses` lists the uses of names in a typed program, in the order of files and text. `AreProgramUsesTold` says that the marks of the program
--- (Programs.antt) give each use once, in this order.
+-- `program_uses` lists the uses of names in a typed program, in the order of files and text. `AreProgramUsesTold` says that the marks of the program (records
+-- of the occurrences of names, Programs.antt) give each use once, in this order.
 use Rattle.std.specs.Prelude.{ℕ, ◌+◌, List, [], ◌∷◌, ◌++◌, drop}
 use Rattle.std.specs.List.{AllByRecursion}
 use Rattle.cool_syntax.specs.declared.file_tree.ClassDef.{ClassDef}

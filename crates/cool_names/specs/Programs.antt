@@ -1,5 +1,5 @@
--- `program_marks` lists the marks of a program: each name that its classes write, with its role and its meaning, in the order of files and text (the Cool
--- manual, sections 3 to 6).
+-- `program_marks` lists the marks of a program: each occurrence of a name in its classes, with its role and the definition that it refers to, in the order of
+-- files and text (the Cool manual, sections 3 to 6).
 use Rattle.std.specs.Prelude.{ℕ, ◌+◌, List, [], ◌∷◌, ◌++◌, map, slice_get, Option, Some, None}
 use Rattle.cool_syntax.specs.declared.type_ref.TypeRef.{TypeRef}
 use Rattle.cool_syntax.specs.declared.file_tree.ClassDef.{ClassDef}

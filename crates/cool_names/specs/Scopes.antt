@@ -1,4 +1,4 @@
--- The variables in scope: the binding of each name, the latest first (the Cool manual, sections 5, 6, 7.8, 7.9 and 12).
+-- The variables in scope, as a list of bindings from names to variables with the latest first (the Cool manual, sections 5, 6, 7.8, 7.9 and 12).
 use Rattle.std.specs.Prelude.{◌≡◌, refl, ℕ, List, [], ◌∷◌, map, Some, codes}
 use Rattle.cool_syntax.specs.declared.place.Place.{Place}
 use Rattle.cool_rules.specs.Scopes.{Bound, found}

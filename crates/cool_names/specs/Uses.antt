@@ -1,6 +1,6 @@
--- The uses of names in a typed feature: each read and assignment of a variable, with the type that the rules give it there and the definition to which it
--- refers; and each call of a method, with the method that the rules find. A use is taken from the typing of the feature, and so has the scope that the typing
--- has at the place (`Typing.antt` of `cool_rules`).
+-- The uses of names in a typed feature: each read and assignment of a variable, with the type that the typing rules give it there and its definition; and each
+-- method call, with the method that the rules find. A use is taken from the typing derivation of the feature, and has the scope that the derivation has there
+-- (`Typing.antt` of `cool_rules`).
 use Rattle.std.specs.Prelude.{◌≡◌, ◌⊎◌, ℕ, ◌<◌, List, [], ◌∷◌, ◌++◌, length, Bool, true, false, Option, Some, None, map, slice_get, bytes_eq, if◌then◌else◌, codes, refl}
 use Rattle.cool_syntax.specs.declared.place.Place.{Place}
 use Rattle.cool_syntax.specs.declared.type_ref.TypeRef.{TypeRef}

@@ -1,5 +1,5 @@
--- `names_in` lists the names that a text writes: each identifier among its tokens, with its place (the Cool manual, section 10.1). `AreProgramNames` says
--- that a program has a mark at each of these names, in their order, and nowhere else.
+-- `names_in` lists the names that a source text contains: each identifier among its tokens, with its source location (the Cool manual, section 10.1).
+-- `AreProgramNames` says that a program has a mark at each of these names, in their order, and nowhere else.
 use Rattle.std.specs.Prelude.{◌≡◌, refl, ℕ, ◌+◌, List, [], ◌∷◌, ◌++◌, map, codes}
 use Rattle.cool_syntax.specs.declared.place.Place.{Place}
 use Rattle.cool_syntax.specs.declared.token.Token.{Token}

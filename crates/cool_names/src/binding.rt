@@ -1,4 +1,4 @@
-//! The marks of `let` and `case`.
+//! Functions that collect the occurrences of names in `let` and `case` expressions, each with its definition, as marks.
 
 ghost use Rattle.std.specs.Prelude.{◌≡◌, ◌<◌, ◌∷◌, ◌++◌, IfSome, OnOk};
 ghost use Rattle.std.specs.List.{AllByRecursion};

@@ -1,5 +1,5 @@
-//! A mark says for a name in the source what it means and where that is defined. This module makes the marks of calls. To find the method, it computes the type
-//! of the receiver from its form (`seen_type` of `Marks.antt`), because a source that is being edited may have no types yet.
+//! Functions that collect the occurrences of names in method calls, each with its definition, as marks. To find the method, they compute the type of the
+//! receiver from its form (`seen_type` of `Marks.antt`), because a source that is being edited may have no types yet.
 
 ghost use Rattle.std.specs.Prelude.{◌≡◌, ◌<◌, ◌++◌, IfSome, OnOk, [], if◌then◌else◌};
 ghost use Rattle.cool_syntax.specs.NodeGroups.{IsCall};

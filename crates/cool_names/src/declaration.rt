@@ -1,4 +1,4 @@
-//! The declaration of a variable in scope.
+//! The type `Declaration`, the declaration of a variable in scope: the name of its type, and the source location where it is declared.
 
 use cool_syntax::{Name, Place};
 

@@ -1,4 +1,5 @@
-//! The marks of expressions: names, new objects, conditionals, loops, blocks and operators.
+//! Functions that collect the occurrences of names in expressions, each with its definition, as marks: names, new objects, conditionals, loops, blocks and
+//! operators.
 
 ghost use Rattle.std.specs.Prelude.{◌≡◌, ◌<◌, ◌++◌, OnOk, IfSome};
 ghost use Rattle.std.specs.List.{AllByRecursion};

@@ -1,4 +1,4 @@
-//! The marks of features, and the variables that they have in scope.
+//! Functions that collect the occurrences of names in methods and attributes, each with its definition, and build the scope of their expressions.
 
 ghost use Rattle.std.specs.Prelude.{◌≡◌, ◌<◌, ◌++◌, [], length, IfOk, OnOk, Some, slice_get};
 ghost use Rattle.cool_syntax.specs.declared.file_tree.Feature.TheVariants as feature;

@@ -1,4 +1,5 @@
-//! Laws on marks: they stand at the names of the text, and the types that they tell are those of the rules.
+//! Theorems about marks (records of the occurrences of names): they are at the identifiers of the text, and the types that they record are those of the typing
+//! rules.
 
 ghost use Rattle.std.specs.Prelude.{List};
 ghost use Rattle.cool_classes.specs.Chains.{Class};

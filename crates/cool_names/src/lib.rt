@@ -1,4 +1,4 @@
-//! The names of a program: the place of each, its role there, and the definition that it means.
+//! The occurrences of names in a program: the source location of each, its role there, and the definition that it refers to.
 //!
 //! Input: the class table of a program and the definitions of its classes. Output: a mark for each name, in the order of the text. `specs/Marks.antt` and
 //! `specs/Programs.antt` define which marks there are, and `specs/Meanings.antt` the meaning of a name.

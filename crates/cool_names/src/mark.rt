@@ -1,4 +1,4 @@
-//! Marks: the places of names.
+//! The type `Mark`, an occurrence of a name in the source: its location, its role, and the definition that it refers to.
 
 use cool_syntax::{Bytes, Name, Place};
 

@@ -1,4 +1,4 @@
-//! The meanings of names.
+//! Functions that describe the definition that a name refers to: of `self`, a variable, a method, or no definition at all.
 
 ghost use Rattle.std.specs.Prelude.{◌≡◌, ◌<◌, map, IfOk, Some, option_map, unwrap_or, slice_get};
 ghost use Rattle.cool_syntax.specs.declared.file_tree.Feature.TheVariants as feature;

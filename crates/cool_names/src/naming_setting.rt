@@ -1,4 +1,4 @@
-//! The context in which an expression is walked through, and the meanings of its names there.
+//! The type `NamingSetting`, the context in which the names of an expression are resolved, and functions that find variables and methods there.
 
 ghost use Rattle.std.specs.Prelude.{◌≡◌, ◌<◌, [], ◌∷◌, ◌++◌, length, IfOk, IfSome, OnOk, option_map, bytes_eq, codes};
 ghost use Rattle.std.specs.Option.{option_or};

@@ -1,4 +1,4 @@
-//! A program: its class table and the definitions of its classes, and the marks of all of it.
+//! The function `program_marks`: it lists the occurrences of names in a program, from its class table and the definitions of its classes.
 
 ghost use Rattle.std.specs.Prelude.{◌≡◌, ◌+◌, ◌++◌, ◌<◌, length, IfOk, IfSome, OnOk};
 ghost use Rattle.cool_classes.specs.declared.class_id.ClassId as number;

@@ -1,5 +1,5 @@
--- `type_of` and the functions of its cycle add the static type of each node after those of its parts. A fault that a part returns is in one of the program's
--- files, as the part is.
+-- The mutually recursive functions around `type_of` append the static type of each node of an expression after those of its subexpressions. A type error that a
+-- subexpression returns is in one of the program's files, as the subexpression is.
 use Rattle.std.proofs.Common.{◌≡◌, ◌+◌, ◌<◌, ◌++◌, ◌∙◌, Err, drop, map, ap, sym, subst, rules, arith, List}
 use Rattle.std.proofs.lemmas.Grind.{common_steps, elements, moves, pieces}
 use Rattle.std.specs.Prelude.{IfErr, OnOk}

@@ -1,5 +1,5 @@
--- `type_of` and the functions of its cycle end, because parts have smaller numbers. In their loops, the scope is as before, and the types of the nodes of the
--- parts so far are added.
+-- The mutually recursive functions around `type_of` terminate, because subexpressions have smaller node numbers. In their loops, the scope is as before, and
+-- the types of the nodes of the subexpressions so far are added.
 use Rattle.std.proofs.Common.{◌≡◌, ◌+◌, ◌*◌, ◌<◌, ◌≤◌, [], ◌++◌, None, length, map, drop}
 use Rattle.std.specs.Prelude.{IfSome}
 use Rattle.std.specs.List.{AllByRecursion}

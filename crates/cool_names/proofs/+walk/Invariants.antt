@@ -1,5 +1,6 @@
--- The functions of the cycle `walk`, which call each other, terminate: a call goes to a part of the node, which has a smaller number, or stays at the node with
--- a smaller constant in the measure. The loops of `add_all` and `add_branches` have added the marks (`Marks.antt`) of the parts before the current one.
+-- The mutually recursive functions that collect the occurrences of names in an expression terminate: each call goes to a subexpression, which has a smaller
+-- node number, or stays at the node and decreases a second measure. The loops of `add_all` and `add_branches` have added the occurrences in the parts before
+-- the current one.
 use Rattle.std.proofs.Common.{◌≡◌, ◌+◌, ◌*◌, ◌<◌, ◌++◌, map, drop}
 use Rattle.std.specs.List.{AllByRecursion}
 use Rattle.cool_syntax.specs.Tree.{of_list, of_twigs}

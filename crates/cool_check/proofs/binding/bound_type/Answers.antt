@@ -1,5 +1,5 @@
--- `bound_type` makes the checks of a variable in the order of `bound_type` of `FirstFaults.antt`: first the name, then the declared type, then the initial
--- value.
+-- `bound_type` makes the checks of the variable of a `let` in the order of its specification in `FirstFaults.antt`: first the name, then the declared type,
+-- then the initial value.
 use Rattle.std.proofs.Common.{refl, sym, rules}
 use Rattle.cool_check.proofs.binding.bound_type.Goals as goal
 

@@ -1,5 +1,5 @@
--- `check` puts the faults in order and changes no place. If there is no fault, the table is well typed, and `check_classes` has returned the types of its
--- nodes.
+-- `check` returns all type errors of a program in order, or the typed program if there are none: the class table is well typed then, and `check_classes` has
+-- returned the types of its nodes.
 use Rattle.std.proofs.Common.{◌≡◌, ℕ, suc, List, [], ◌∷◌, length, true, ap, ◌∙◌, refl, subst, sym, arith}
 use Rattle.std.specs.Prelude.{◌==◌}
 use Rattle.std.specs.List.{AllByRecursion}

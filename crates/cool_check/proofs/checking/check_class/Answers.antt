@@ -1,4 +1,4 @@
--- Each step of the loop of `check_class` adds the result of one feature, a fault or the types of its nodes, before those of the features that are left.
+-- `check_class` returns the results of all features of a class: each step of its loop adds the result of one feature, a type error or the types of its nodes.
 use Rattle.std.proofs.Common.{◌≡◌, ◌++◌, ◌∷◌, [], ◌+◌, ◌∙◌, List, Ok, Err, drop, ap, subst, sym}
 use Rattle.std.specs.Global.{Vec}
 use Rattle.std.specs.List.{AllByRecursion}

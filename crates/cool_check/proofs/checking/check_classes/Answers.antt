@@ -1,4 +1,4 @@
--- Each step of the loop of `check_classes` adds the faults and the types of one class before those of the classes that are left.
+-- `check_classes` returns the type errors and the types of nodes of all classes: each step of its loop adds those of one class.
 use Rattle.std.proofs.Common.{◌++◌, ◌+◌, ◌∙◌, List, drop, ap, arith, sym}
 use Rattle.std.specs.Global.{Vec}
 use Rattle.lists.proofs.JoinedLists.{none_both}

@@ -1,5 +1,5 @@
--- In the loop of `check_classes`, the results so far, followed by those of the classes that are left, are all results. Each fault is in one of the files if
--- the features are.
+-- In the loop of `check_classes`, the results so far (type errors or types of nodes), followed by those of the remaining classes, are all results. Each type
+-- error is in one of the files if the features are.
 use Rattle.std.proofs.Common.{◌≡◌, ℕ, [], ◌++◌, drop}
 use Rattle.std.specs.List.{AllByRecursion}
 use Rattle.cool_syntax.specs.TokenFacts.{IsPlaced}

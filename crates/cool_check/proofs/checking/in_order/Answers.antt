@@ -1,4 +1,4 @@
--- `in_order` sorts faults by file, byte, kind and line. The sort only moves faults, so each fault has the place that it had.
+-- `in_order` sorts type errors by file, byte, kind and line. The sort only moves them, so each type error keeps its source location.
 use Rattle.std.proofs.Common.{◌≡◌, false, get_or, subst, rules, arith}
 use native.Mathlib.Numerals.{add-one}
 use Rattle.std.specs.Ordering.{is_lt}

@@ -1,5 +1,5 @@
--- Each step of the loop of `misfit` passes one argument that conforms to its formal. The place of the fault that `misfit` returns is that of an argument in
--- one of the files.
+-- `misfit` returns the type error of the first argument of a call that does not conform to its formal parameter: each step of its loop passes one argument that
+-- conforms. The location of the error is that of an argument in one of the files.
 use Rattle.std.proofs.Common.{ap, sym, subst, ◌∙◌, arith}
 use Rattle.cool_syntax.specs.Tree.{place_of}
 use Rattle.cool_syntax.specs.NodeLists.{all_trees}

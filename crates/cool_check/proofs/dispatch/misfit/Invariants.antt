@@ -1,4 +1,4 @@
--- In the loop of `misfit`, the first misfit among the arguments that are left is the first among all arguments.
+-- In the loop of `misfit`, the first of the remaining arguments that does not conform to its formal parameter is the first one among all arguments.
 use Rattle.std.proofs.Common.{◌≡◌, map, drop}
 use Rattle.cool_syntax.specs.Tree.{of_list}
 use Rattle.cool_syntax.specs.NodeLists.{all_trees, at_id}

@@ -1,4 +1,4 @@
--- `type_of_name` returns a type of the table: the scope of the variables and the scope of the attributes contain no others.
+-- `type_of_name` returns a type of the class table, because all variables and attributes in scope have types of the class table.
 use Rattle.std.proofs.Common.{◌≡◌, ◌∙◌, Some, subst, sym, ap₂, rules}
 use Rattle.std.specs.Prelude.{IfSome}
 use Rattle.std.specs.Option.{option_or}

@@ -1,5 +1,5 @@
--- `attribute_scope` enters the attributes of a class in the order of its chain. Each step of its loop enters one attribute with its type by `type_meant` of
--- `Rules.antt`.
+-- `attribute_scope` returns a scope with the attributes of a class and its ancestors, from Object down. Each step of its loop enters one attribute with the
+-- type that its declared name denotes (`type_meant`).
 use Rattle.std.proofs.Common.{◌≡◌, ◌∙◌, ◌∷◌, List, map, ap, subst, sym, rules}
 use Rattle.std.specs.List.{AllByRecursion}
 use Rattle.cool_classes.specs.declared.method.AttributeRef.{AttributeRef}

@@ -1,4 +1,4 @@
--- In the loop of `attribute_scope`, the names in scope have types of the table, and the attributes that are left complete the scope.
+-- In the loop of `attribute_scope`, the names in scope have types of the class table, and the remaining attributes complete the scope.
 use Rattle.std.proofs.Common.{◌≡◌, map}
 use Rattle.std.specs.List.{AllByRecursion}
 use Rattle.cool_classes.specs.Features.{HasAttribute}

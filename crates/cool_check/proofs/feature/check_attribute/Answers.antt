@@ -1,4 +1,4 @@
--- `check_attribute` returns the types of the nodes of the initial value: its column of types starts empty, and its scope gives each name the type that the
+-- `check_attribute` returns the types of the nodes of the initial value: its list of types starts empty, and its scope gives each name the type that the typing
 -- rules give.
 use Rattle.std.proofs.Common.{◌∙◌, ◌++◌, List, ap, sym, rules}
 use Rattle.std.specs.Prelude.{Option}

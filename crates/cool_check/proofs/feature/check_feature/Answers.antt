@@ -1,4 +1,4 @@
--- `check_feature` checks the feature of the given number. A fault in it is in one of the files, as all features of the class are.
+-- `check_feature` checks the feature of the given number. A type error in it is in one of the files, as all features of the class are.
 use Rattle.std.proofs.Common.{◌≡◌, ◌<◌, ◌∙◌, List, length, Err, Ok, subst, sym, rules}
 use Rattle.std.specs.Prelude.{IfErr, slice_get, Some}
 use Rattle.std.proofs.lemmas.Option.{get_or_from_slice_get}

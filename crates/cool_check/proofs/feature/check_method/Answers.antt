@@ -1,4 +1,5 @@
--- `check_method` returns the types of the nodes of the body: its column of types starts empty, and its scope gives each name the type that the rules give.
+-- `check_method` returns the types of the nodes of the method's body: its list of types starts empty, and its scope gives each name the type that the typing
+-- rules give.
 use Rattle.std.proofs.Common.{◌∙◌, ◌++◌, List, ap, rules}
 use Rattle.cool_syntax.specs.Tree.{Tree}
 use Rattle.cool_syntax.specs.NodeLists.{tree_at}

@@ -1,4 +1,5 @@
--- Each step of the loop of `formal_scope` enters the next formal with its type by `type_meant` of `Rules.antt`.
+-- `formal_scope` returns a scope with the formal parameters of a method: each step of its loop enters the next one with the type that its declared name denotes
+-- (`type_meant`).
 use Rattle.std.proofs.Common.{◌≡◌, ◌+◌, ◌<◌, ◌∙◌, ◌∷◌, List, length, map, drop, get_or, ap, subst, rules}
 use Rattle.std.specs.List.{slice_get}
 use Rattle.cool_syntax.specs.declared.file_tree.Formal.{Formal}

@@ -1,4 +1,4 @@
--- In the loop of `formal_scope`, the formals in scope have types of the table, and the formals that are left complete the scope.
+-- In the loop of `formal_scope`, the formal parameters in scope have types of the class table, and the remaining ones complete the scope.
 use Rattle.std.proofs.Common.{◌≡◌, map, drop}
 use Rattle.cool_rules.specs.Rules.{formal_binding}
 use Rattle.cool_rules.specs.Scopes.{AreTypes, entered}

@@ -1,4 +1,5 @@
--- `law_failing_rule` follows from `rules_named`, for each whole and lawful table.
+-- `law_failing_rule`, which says that each type error names the typing rule that fails, follows from `rules_named` for each complete class table that keeps the
+-- rules of classes.
 use Rattle.cool_check.proofs.RulesThatFail.{rules_named}
 use Rattle.cool_check.proofs.laws.law_failing_rule.Goals as goal
 

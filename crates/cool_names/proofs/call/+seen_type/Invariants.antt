@@ -1,4 +1,4 @@
--- `seen_type` calls itself only for parts of an expression, which have smaller numbers than the expression.
+-- `seen_type`, which computes the type of an expression from its form, calls itself only for subexpressions, which have smaller node numbers.
 use Rattle.cool_names.proofs.call.+seen_type.Given as goal
 
 abbrev pub decreases-seen_type : goal.decreases-seen_type

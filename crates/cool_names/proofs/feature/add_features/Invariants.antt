@@ -1,4 +1,4 @@
--- The loop of `add_features` has added the marks of the features before the current one.
+-- The loop of `add_features` has added the marks (records of the occurrences of names) in the features before the current one.
 use Rattle.std.proofs.Common.{◌≡◌, ◌++◌, drop}
 use Rattle.cool_names.specs.Programs.{class_context, features_marks}
 use Rattle.cool_names.proofs.feature.add_features.Given as goal

@@ -1,5 +1,5 @@
--- The loop of `add_formals` has added the marks of the formals before the current one (`Marks.antt`: the place, the role and the meaning of a name), and has
--- entered these formals into the scope.
+-- The loop of `add_formals` has added the marks of the formal parameters before the current one (`Marks.antt`: the source location, the role and the definition
+-- of a name), and has entered these formal parameters into the scope.
 use Rattle.std.proofs.Common.{◌≡◌, ◌++◌, drop, map}
 use Rattle.cool_names.specs.Programs.{formal_variable, formals_in_scope, formals_marks}
 use Rattle.cool_rules.specs.Scopes.{entered}

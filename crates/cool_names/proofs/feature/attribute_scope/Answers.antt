@@ -1,4 +1,4 @@
--- `attribute_scope` returns the attributes of a class with the inherited ones as a scope: each step of its loop enters one of them, from Object down.
+-- `attribute_scope` returns a scope with the attributes of a class, inherited ones included: each step of its loop enters one of them, from Object down.
 use Rattle.std.proofs.Common.{◌≡◌, ◌∙◌, ◌∷◌, List, map, ap, subst, sym, rules}
 use Rattle.std.specs.List.{AllByRecursion}
 use Rattle.cool_classes.specs.declared.method.AttributeRef.{AttributeRef}

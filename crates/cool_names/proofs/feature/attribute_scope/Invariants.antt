@@ -1,4 +1,4 @@
--- The loop of `attribute_scope` has entered the attributes before the current one; the others are attributes of the table.
+-- The loop of `attribute_scope` has entered the attributes before the current one into the scope, and the others are attributes of the class table.
 use Rattle.std.proofs.Common.{◌≡◌, map}
 use Rattle.std.specs.List.{AllByRecursion}
 use Rattle.cool_classes.specs.Features.{HasAttribute}

@@ -1,5 +1,5 @@
--- `law_program_uses_told` holds by `program_told` and `program_typed` of `ProgramUsesTold.antt`. The marks of a program with typed features record the uses
--- in these features, and an accepted program has typed features.
+-- `law_program_uses_told` holds by `program_told` and `program_typed` of `ProgramUsesTold.antt`. The marks of a program (records of the occurrences of names)
+-- record the uses in typed features, and all features of an accepted program are typed.
 use Rattle.cool_names.proofs.ProgramUsesTold.{program_told, program_typed}
 use Rattle.cool_names.proofs.laws.law_program_uses_told.Goals as goal
 

@@ -1,4 +1,5 @@
--- `law_seen_type` holds by `seen_rightly` of `SeenTypes.antt`: if the rules give an expression a type, `seen_type` of `Marks.antt` is this type or none.
+-- `law_seen_type` holds by `seen_rightly` of `SeenTypes.antt`: if the typing rules give an expression a type, the type that `seen_type` computes from its form
+-- is the same, or there is none.
 use Rattle.cool_names.proofs.SeenTypes.{seen_rightly}
 use Rattle.cool_names.proofs.laws.law_seen_type.Goals as goal
 

@@ -1,4 +1,4 @@
--- The loop of `signature` has written the types of the formals before the current one, with commas between them.
+-- The loop of `signature` has written the types of the formal parameters before the current one, with commas between them.
 use Rattle.std.proofs.Common.{◌≡◌, ◌++◌, [], drop, map}
 use Rattle.std.specs.Prelude.{codes}
 use Rattle.cool_names.specs.Meanings.{separated}

@@ -1,4 +1,5 @@
--- `program_marks` returns the marks of all classes in the order of their definitions: each step of its loop adds those of the next class.
+-- `program_marks` returns the marks (records of the occurrences of names) of all classes in the order of their definitions: each step of its loop adds those of
+-- the next class.
 use Rattle.std.proofs.Common.{◌≡◌, ℕ, ◌+◌, ◌++◌, ◌∙◌, List, drop, ap, arith}
 use Rattle.cool_names.specs.declared.mark.Mark.{Mark}
 use Rattle.cool_names.specs.Programs.{class_marks, marks_from}

@@ -1,4 +1,4 @@
--- The loop of `program_marks` has added the marks of the classes before the current one.
+-- The loop of `program_marks` has added the marks (records of the occurrences of names) of the classes before the current one.
 use Rattle.std.proofs.Common.{◌≡◌, ◌+◌, ◌++◌, drop}
 use Rattle.cool_names.specs.Programs.{marks_from, program_marks}
 use Rattle.cool_names.proofs.program.program_marks.Given as goal

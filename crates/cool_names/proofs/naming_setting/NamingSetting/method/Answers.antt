@@ -1,4 +1,5 @@
--- `NamingSetting::method` returns the method that the nearest class on the chain defines, which is `method_of` of `Rules.antt`.
+-- `NamingSetting::method` returns the method of a name that the nearest class, from the given class up to Object, defines, which is `method_of` of
+-- `Rules.antt`.
 use Rattle.std.proofs.Common.{◌≡◌, ◌<◌, length, sym, subst}
 use Rattle.cool_classes.specs.declared.class_id.ClassId.{ClassId}
 use Rattle.cool_rules.specs.Rules.{method_of}
