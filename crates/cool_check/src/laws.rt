@@ -1,5 +1,5 @@
-//! Theorems about checking: it finds no fault exactly if the typing rules type the table or the feature; each fault names the rule that fails; and the rules give
-//! an expression at most one type.
+//! Theorems about type checking: it finds no fault (type error) exactly if the typing rules accept the class table or the feature. Each fault names the rule
+//! that fails, and the rules give an expression at most one type.
 
 ghost use Rattle.std.specs.Prelude.{List};
 ghost use Rattle.cool_classes.specs.Chains.{Class};

@@ -1,4 +1,4 @@
--- The list of spans (ranges of lines of expressions) changes only as intended during code generation: one span gets another end, or the spans of a branch are
+-- Lemmas on two changes of the list of spans (ranges of lines of expressions) during code generation: one span gets another end, and the spans of a branch are
 -- moved by a number of lines.
 use Rattle.std.proofs.Common.{◌≡◌, ℕ, ◌+◌, ◌<◌, ◌≤◌, ◌^◌, List, [], ◌∷◌, ◌++◌, Bool, true, false, length, map, get_or, ap, sym, refl, ◌∙◌, arith}
 use Rattle.std.specs.Prelude.{if◌then◌else◌, nat_lt, slice_set}

@@ -1,4 +1,5 @@
--- Lemmas on the chains of a table: which class is below which, which methods and attributes a class inherits, and how long a chain is.
+-- The relation "inherits from or equals" between classes is transitive, the chain of an ancestor (the ancestor with its own ancestors) is the end of the chain
+-- of a class, and the attributes of an ancestor are the first attributes of the class.
 use Rattle.std.proofs.Common.{◌≡◌, inl, inr, ℕ, ◌<◌, List, [], ◌∷◌, ◌++◌, length, Option, Some, None, ap, sym, ◌∙◌, refl, subst, arith, append_assoc, append-nil}
 use Rattle.std.specs.Prelude.{Contains}
 use Rattle.cool_classes.specs.declared.class_id.ClassId.{ClassId}

@@ -1,4 +1,5 @@
--- `is_among` is true of a chain and a class exactly if the first class of the chain is below this class.
+-- The test `is_among` is true of the chain of a class (the list of the class and its ancestors) and another class exactly if the first class equals or inherits
+-- from the other.
 use Rattle.std.proofs.Common.{◌≡◌, zero, suc, ◌<◌, List, [], ◌∷◌, length, Bool, true, false, ap, sym, ◌∙◌, refl, arith}
 use Rattle.std.specs.Prelude.{Contains, nat_eq, ◌||◌}
 use Rattle.std.specs.List.{list_any}

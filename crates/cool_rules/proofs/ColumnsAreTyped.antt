@@ -1,4 +1,4 @@
--- Each type in the column of a typed expression is the one that the rules give the node at its position.
+-- Each type in the list of the types of a typed expression's nodes is the one that the typing rules give the node at this position.
 use Rattle.std.proofs.Common.{◌≡◌, ℕ, zero, suc, ◌<◌, List, [], ◌∷◌, ◌++◌, length, get_or, Option, Some, None, refl, sym, subst, arith}
 use Rattle.std.specs.Prelude.{slice_get}
 use Rattle.cool_syntax.specs.declared.file_tree.Feature.{Feature}

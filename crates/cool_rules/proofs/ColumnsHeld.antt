@@ -1,4 +1,4 @@
--- Lemmas for `TypedProgram::types`: there is a list of columns for each class, and a column in it for each feature of the class.
+-- The types that an accepted program stores are one list for each class, and in it one list of node types for each feature, as `TypedProgram::types` requires.
 use Rattle.std.proofs.Common.{◌≡◌, ℕ, zero, suc, ◌+◌, ◌<◌, List, [], ◌∷◌, length, get_or, Some, refl, ap, ◌∙◌, arith}
 use Rattle.std.specs.Prelude.{slice_get}
 use Rattle.std.specs.Global.{Vec}

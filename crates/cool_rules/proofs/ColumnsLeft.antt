@@ -1,4 +1,4 @@
--- Lemmas for loops that collect columns of types: the columns of one class come before those of the classes that are left.
+-- In a loop that collects the types of nodes, the lists of types of one class come before those of the remaining classes.
 use Rattle.std.proofs.Common.{◌≡◌, ℕ, zero, suc, ◌+◌, ◌<◌, List, [], ◌∷◌, ◌++◌, length, drop, refl, ap, sym, ◌∙◌, append_assoc, arith}
 use Rattle.std.specs.Global.{Vec}
 use Rattle.std.proofs.lemmas.List.{map-append}

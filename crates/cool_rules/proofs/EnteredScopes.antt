@@ -1,4 +1,5 @@
--- If different names are entered into a scope one after the other, each has the same type as in the scope of the rules, in which their order is another.
+-- If different names are entered into a scope one after the other, each has the same type as in the scope of the typing rules, where the names are in another
+-- order.
 use Rattle.std.proofs.Common.{◌≡◌, ◌≢◌, ℕ, ◌<◌, List, [], ◌∷◌, ◌++◌, map, length, Option, Some, None, Bool, true, false, cond, ap, sym, ◌∙◌, refl, subst}
 use Rattle.std.specs.Prelude.{bytes_eq}
 use Rattle.std.specs.List.{AllByRecursion}

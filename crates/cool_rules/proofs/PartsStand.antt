@@ -1,5 +1,5 @@
--- If the nodes of an expression are in a body and their types in its column, the number of its root gives the expression, its node and its type. The same
--- holds of its parts.
+-- If the nodes of an expression are among those of a feature's expression, and their types in the list of its types, the number of the root node gives the
+-- expression, its node and its type. The same holds of its subexpressions.
 use Rattle.std.proofs.Common.{◌≡◌, ℕ, ◌+◌, ◌-◌, ◌<◌, List, [], ◌∷◌, ◌++◌, Some, length, get_or, refl, sym, ◌∙◌, ap, subst, append_assoc, append-nil, length-append, arith}
 use Rattle.std.specs.Prelude.{slice_get}
 use Rattle.std.proofs.lemmas.List.{get_or-append_right}

@@ -1,5 +1,5 @@
--- In whole tables, the functions for the types of names and for joins return exactly what the rules allow. Two types that conform to each other are the
--- same.
+-- In a complete class table, the functions for the types of names and for joins (least common supertypes) return exactly what the typing rules allow. Two types
+-- that conform to each other are the same.
 use Rattle.std.proofs.Common.{◌≡◌, inl, inr, ◌<◌, ℕ, List, [], ◌∷◌, length, Option, Some, None, Bool, true, false, ap, sym, ◌∙◌, refl, subst, arith, true≢false}
 use Rattle.std.specs.Prelude.{Contains, if◌then◌else◌, bytes_eq, option_map}
 use Rattle.std.proofs.lemmas.Bool.{eqb-true, eq-eqb}

@@ -1,4 +1,5 @@
--- The rules of types as functions: in a whole table, the functions return exactly the results that satisfy the definitions of conformance, joins and names.
+-- In a complete class table, the functions that compute conformance, joins (least common supertypes) and the types of names return exactly the results that
+-- satisfy the definitions of these relations.
 use Rattle.std.proofs.Common.{◌≡◌, ℕ, zero, suc, ◌<◌, ◌≤◌, ◌⊎◌, inl, inr, List, [], ◌∷◌, length, Option, Some, None, Bool, true, false, ap, sym, ◌∙◌, refl, subst, arith}
 use Rattle.std.specs.Prelude.{Contains, IsTrue, ◌↔◌, if◌then◌else◌, option_map, unwrap_or}
 use Rattle.cool_classes.specs.declared.class_id.ClassId.{ClassId}

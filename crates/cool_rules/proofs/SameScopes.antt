@@ -1,4 +1,4 @@
--- Two scopes in which each name has the same type give the same types of expressions and of their nodes.
+-- Two scopes in which each name has the same type give each expression and each of its nodes the same static type.
 use Rattle.std.proofs.Common.{◌≡◌, List, [], ◌∷◌, ◌++◌, Option, Some, None, refl, ◌∙◌, ap}
 use Rattle.std.specs.Prelude.{if◌then◌else◌, bytes_eq, codes, unwrap_or}
 use Rattle.cool_syntax.specs.Tree.{Tree, Trees, MaybeTree, Cases, Last, More, Without, With, NoCase, CaseOf}

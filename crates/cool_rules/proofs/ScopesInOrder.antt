@@ -1,4 +1,5 @@
--- Lemmas for `Scope`, whose entries a contract sees with the latest first: adding one, removing one, and searching for a name from the end.
+-- If contracts see the entries of a `Scope` with the latest first, appending an entry puts it in front, removing the last one removes the front, and a search
+-- from the end finds the first entry of a name.
 use Rattle.std.proofs.Common.{◌≡◌, ℕ, suc, ◌-◌, ◌<◌, List, [], ◌∷◌, ◌++◌, length, take, get_or, Some, Bool, true, false, ap, sym, ◌∙◌, refl, arith}
 use Rattle.std.proofs.Math.Seq.{take-suc, take-length}
 use Rattle.std.proofs.lemmas.List.{length-append}

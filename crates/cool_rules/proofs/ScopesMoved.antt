@@ -1,4 +1,4 @@
--- Two scopes in which each name has the same type give the same typings.
+-- If an expression has a type by the typing rules in one scope, it has this type in each scope in which every name has the same type.
 use Rattle.std.proofs.Common.{◌≡◌, ℕ, List, [], ◌∷◌, Option, Some, ap, sym, ◌∙◌}
 use Rattle.std.specs.Prelude.{if◌then◌else◌, bytes_eq, codes}
 use Rattle.cool_syntax.specs.Tree.{Tree, Trees, MaybeTree, Cases, Last, More, Without, With, NoCase, CaseOf}

@@ -1,4 +1,4 @@
--- In whole tables, the static types of expressions and of their nodes are types of the table, and so are the types that names denote.
+-- In a complete class table, the static types of expressions and of their nodes are types of the class table, and so are the types that names denote.
 use Rattle.std.proofs.Common.{◌≡◌, ℕ, ◌<◌, List, [], ◌∷◌, ◌++◌, length, Option, Some, None, refl, arith}
 use Rattle.std.specs.Prelude.{unwrap_or}
 use Rattle.std.specs.List.{AllByRecursion}

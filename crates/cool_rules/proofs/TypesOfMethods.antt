@@ -1,4 +1,4 @@
--- In whole tables, the types that methods declare and the types of typed expressions are types of the table.
+-- In a complete class table, the types that methods declare and the types of typed expressions are types of the class table.
 use Rattle.std.proofs.Common.{◌≡◌, ℕ, ◌<◌, List, [], ◌∷◌, map, length, get_or, take, Option, Some, None, Bool, true, false, ap, sym, ◌∙◌, refl, subst, arith, length-take}
 use Rattle.std.specs.Prelude.{if◌then◌else◌, bytes_eq, codes, slice_get, cond}
 use Rattle.std.specs.List.{AllByRecursion}

@@ -1,5 +1,5 @@
--- `Conforms` says which type conforms to which in a class, and `IsJoinOfTypes` which type is the least to which two others conform (the Cool manual, section
--- 4).
+-- `Conforms` says which type conforms to which in a class, and `IsJoinOfTypes` which type is the join of two types: the least to which both conform (the Cool
+-- manual, section 4).
 use Rattle.std.specs.Prelude.{ℕ, ◌<◌, List, length, Option, Some, None}
 use Rattle.cool_classes.specs.declared.class_id.ClassId.{ClassId}
 use Rattle.cool_classes.specs.declared.class_id.Ty.{Ty}

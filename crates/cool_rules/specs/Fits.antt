@@ -1,4 +1,5 @@
--- `Fits` collects the limits that every accepted program keeps, and on which the code generator relies.
+-- `Fits` collects the compiler's limits that every accepted program keeps, such as those on classes, features, names and files. The code generator relies on
+-- them.
 use Rattle.std.specs.Prelude.{ℕ, ◌+◌, ◌≤◌, ◌<◌, List, [], ◌∷◌, length, drop}
 use Rattle.std.specs.List.{AllByRecursion}
 use Rattle.cool_syntax.specs.declared.TheConstants.{MOST_FILES, MOST_SOURCE_BYTES}

@@ -1,5 +1,5 @@
--- `method_in`, `type_of_call` and `joined` are the method that a name means, the type of a call, and the join of branches (the Cool manual, section 7). For
--- an expression that has no type, the first two return an arbitrary method or type.
+-- `method_in`, `type_of_call` and `joined` are the method that a name denotes in a class, the type of a call, and the join of the types of `case` branches (the
+-- Cool manual, section 7). If an expression has no type, the first two return an arbitrary method or type.
 use Rattle.std.specs.Prelude.{ℕ, List, Option, Some, None, unwrap_or}
 use Rattle.cool_classes.specs.declared.class_id.ClassId.{ClassId}
 use Rattle.cool_classes.specs.declared.class_id.Ty.{Ty}

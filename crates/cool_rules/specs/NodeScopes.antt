@@ -1,5 +1,5 @@
--- `node_scopes` lists the names in scope at each node of an expression, in the order of the nodes' numbers. `AreTypedColumns` says that the columns of types
--- (NodeTypes.antt) have, for each node, the type that the typing rules give its expression.
+-- `node_scopes` lists the names in scope at each node of an expression, in the order of the nodes' numbers. `AreTypedColumns` says that the stored lists of
+-- node types (NodeTypes.antt) have, for each node, the type that the typing rules give its expression.
 use Rattle.std.specs.Prelude.{◌≡◌, ℕ, ◌<◌, List, [], ◌∷◌, ◌++◌, length, Option, Some, slice_get, codes, refl}
 use Rattle.cool_syntax.specs.declared.place.Place.{Place}
 use Rattle.cool_syntax.specs.declared.type_ref.TypeRef.{TypeRef}

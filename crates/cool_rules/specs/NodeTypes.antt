@@ -1,5 +1,5 @@
--- `node_types` lists the types of the nodes of an expression, in the order of the nodes' numbers. An accepted program keeps this list, called a column, for
--- the expression of each feature (`table_types`).
+-- `node_types` lists the types of the nodes of an expression, in the order of the nodes' numbers. An accepted program stores this list for the expression of
+-- each feature (`table_types`).
 use Rattle.std.specs.Prelude.{◌≡◌, ℕ, suc, List, [], ◌∷◌, ◌++◌, Option, Some, None, map, codes, refl}
 use Rattle.std.specs.Global.{Vec}
 use Rattle.cool_syntax.specs.declared.place.Place.{Place}

@@ -1,5 +1,5 @@
--- The rules of types as functions of a table: conformance, joins, and the types and methods that names mean (the Cool manual, sections 4,
--- 7 and 12).
+-- The typing rules as functions of a class table: conformance, joins (least common supertypes), and the types and methods that names denote (the Cool manual,
+-- sections 4, 7 and 12).
 use Rattle.std.specs.Prelude.{ℕ, List, [], ◌∷◌, map, Bool, true, false, ◌||◌, nat_eq, bytes_eq, if◌then◌else◌, Option, Some, option_map, unwrap_or}
 use Rattle.cool_syntax.specs.declared.file_tree.Formal.{Formal}
 use Rattle.cool_classes.specs.declared.class_id.ClassId.{ClassId}

@@ -1,4 +1,4 @@
--- The names in scope: bindings of names to their types or to other values, the latest first (the Cool manual, section 12).
+-- The scope of an expression, as a list of bindings of names to their types or to other values, the latest first (the Cool manual, section 12).
 use Rattle.std.specs.Prelude.{◌≡◌, ℕ, List, [], ◌∷◌, ◌++◌, codes, bytes_eq, if◌then◌else◌, Option, Some, None, refl}
 use Rattle.std.specs.List.{AllByRecursion}
 use Rattle.cool_classes.specs.declared.class_id.Ty.{Ty}

@@ -1,5 +1,5 @@
--- `IsPart` says that a number in a body is the root of an expression, whose nodes and types stand at their numbers in the lists of the body. `HasParts` says
--- it of all parts of a node.
+-- `IsPart` says that a node number is the root of a subexpression, whose nodes and types are at their numbers in the lists that the code keeps for a feature's
+-- expression. `HasParts` says it of all children of a node.
 use Rattle.std.specs.Prelude.{◌≡◌, ℕ, List, [], ◌∷◌, ◌++◌, Option, Some, None, length}
 use Rattle.cool_syntax.specs.declared.node.Node.{Node}
 use Rattle.cool_syntax.specs.declared.node.Node.TheVariants as node

@@ -1,5 +1,5 @@
--- `IsTypedTable` says that a program is typed: its class table is whole and keeps the rules of classes, and each feature is typed (the Cool manual, sections
--- 3 to 6 and 12).
+-- `IsTypedTable` says that a program is well typed: its class table is complete and keeps the rules of classes, and each feature is typed (the Cool manual,
+-- sections 3 to 6 and 12).
 use Rattle.std.specs.Prelude.{◌≡◌, ℕ, ◌<◌, List, length, slice_get, Some}
 use Rattle.cool_syntax.specs.declared.file_tree.Feature.{Feature}
 use Rattle.cool_classes.specs.declared.class_id.ClassId.{ClassId}

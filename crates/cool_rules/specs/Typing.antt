@@ -1,5 +1,5 @@
--- `HasType` says which type an expression has in a class with these names in scope, and `IsTypedFeature` which features are typed (the Cool manual, section
--- 12).
+-- `HasType` is the typing relation: it says which type an expression has in a class, with given names in scope. `IsTypedFeature` says which features are well
+-- typed (the Cool manual, section 12).
 use Rattle.std.specs.Prelude.{◌≡◌, ◌⊎◌, ℕ, List, [], ◌∷◌, ◌++◌, map, Option, Some, None, Bool, false, ◌||◌, codes, bytes_eq, if◌then◌else◌}
 use Rattle.std.specs.List.{AllByRecursion}
 use Rattle.cool_syntax.specs.declared.operator.CompareOp.{CompareOp}

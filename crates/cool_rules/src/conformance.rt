@@ -1,4 +1,5 @@
-//! Conformance of types, and their joins (the Cool manual, section 4).
+//! Functions that decide whether a type conforms to another (is its subtype) in a class, and that compute the join of two types: the least type to which both
+//! conform (the Cool manual, section 4).
 
 ghost use Rattle.std.specs.Prelude.{◌≡◌, ◌<◌, ◌↔◌, IsTrue, length};
 ghost use Rattle.cool_rules.specs.Conformance.{IsType, Conforms, IsJoinOfTypes};

@@ -1,4 +1,5 @@
-//! Laws on typing: the type that a function of the expression gives is the one that the rules give, and so is each in a column of types.
+//! Theorems about typing: the static type that a function computes for an expression is the one that the typing rules give, and so is each stored type of a
+//! node.
 
 ghost use Rattle.std.specs.Prelude.{List};
 ghost use Rattle.cool_classes.specs.Chains.{Class};

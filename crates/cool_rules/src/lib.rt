@@ -1,5 +1,4 @@
-//! The rules of types in Cool: which type conforms to which, which names are in scope, and which programs are well typed (the Cool manual, sections 4 and
-//! 12).
+//! The typing rules of Cool: which type conforms to which, which names are in scope, and which programs are well typed (the Cool manual, sections 4 and 12).
 //!
 //! Input: a class table. Output: answers on types, and the program that the checker has accepted, with the types of the nodes of its expressions.
 //! `specs/Conformance.antt`, `specs/Scopes.antt`, `specs/Fits.antt` and `specs/NodeTypes.antt` define their meaning.

@@ -1,4 +1,5 @@
-//! The type and the method that a name means, as functions of a whole table: used if the name is known to mean something, or if any result will do.
+//! Functions that return the type and the method that a name denotes in a complete class table. If a name denotes none, they return Object and a method of
+//! Object, so they are used for names that are known to denote one, or if any result will do.
 
 ghost use Rattle.std.specs.Prelude.{◌≡◌, ◌<◌, length};
 ghost use Rattle.cool_classes.specs.Features.{HasMethod};

@@ -1,4 +1,4 @@
-//! The types of the nodes of an expression.
+//! The type `NodeTypes`: the list of the static types of an expression's nodes, in the order of the nodes' numbers.
 
 ghost use Rattle.std.specs.Prelude.{◌≡◌, ◌<◌, Some, length, slice_get};
 

@@ -1,4 +1,4 @@
-//! The names in scope, each with its value.
+//! The type `Scope`: a stack of the names in scope, each with its type or another value.
 
 ghost use Rattle.std.specs.Prelude.{◌≡◌, ◌≢◌, [], ◌∷◌, length, option_map, slice_get, if◌then◌else◌};
 ghost use Rattle.std.specs.Result.{is_ok};

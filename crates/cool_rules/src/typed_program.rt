@@ -1,4 +1,4 @@
-//! Programs that the checker has accepted.
+//! The type `TypedProgram`: a program that the type checker has accepted, with the types of the nodes of its expressions.
 
 ghost use Rattle.std.specs.Prelude.{◌≡◌, ◌<◌, Some, length, slice_get};
 ghost use Rattle.cool_syntax.specs.declared.TheConstants.{MOST_FILES};

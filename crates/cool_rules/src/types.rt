@@ -1,4 +1,4 @@
-//! Types by name, and the classes of types.
+//! Functions that find the type of a name, and the class that a type stands for, which is the current class for `SELF_TYPE`.
 
 ghost use Rattle.std.specs.Prelude.{◌≡◌, ◌<◌, length, IfSome};
 ghost use Rattle.cool_rules.specs.Conformance.{IsType, IsTypeNamed, class_of};

@@ -1,4 +1,5 @@
--- `method_meant` returns the method that the nearest class on the chain defines, or `abort` of Object if there is none, as `method_in` of `Meant.antt` does.
+-- `method_meant` returns the method of a name that the nearest class, from the given class up to Object, defines, or `abort` of Object if there is none, as
+-- `method_in` of `Meant.antt` does.
 use Rattle.std.proofs.Common.{ap}
 use Rattle.std.specs.Prelude.{unwrap_or}
 use Rattle.cool_classes.specs.declared.method.BasicMethod.TheVariants.{Abort}

@@ -1,4 +1,4 @@
--- `type_meant` returns the type that has a name, or Object if no type has it, as `type_meant` of `Rules.antt` does.
+-- `type_meant` returns the type that has a name, or Object if no type has this name, as `type_meant` of `Rules.antt` does.
 use Rattle.std.proofs.Common.{ap, Some, None}
 use Rattle.std.specs.Prelude.{unwrap_or}
 use Rattle.cool_classes.specs.declared.class_id.Ty.TheVariants.{Class as IsClass}

@@ -1,4 +1,4 @@
--- The loop of `Scope::find` has not found the name yet: the entries before position `index` give the same value as all of them.
+-- The loop of `Scope::find` has not found the name yet: searching only the entries before position `index` gives the same value as searching all of them.
 use Rattle.std.proofs.Common.{◌≡◌, take}
 use Rattle.cool_rules.specs.Scopes.{found, latest_first}
 use Rattle.cool_rules.proofs.scope.Scope.find.Given as goal
