@@ -1,5 +1,5 @@
--- `Class` is a class of a table as contracts see it, and `IsChain` says which classes lead from one up to Object (the Cool manual, sections 3.2 and 4).
--- `Below` says that a class is another or inherits from it, and `IsJoin` defines the least common ancestor.
+-- `Class` is a class of a class table as pre- and postconditions see it, and `IsChain` says which classes lead from one up to Object (the Cool manual, sections
+-- 3.2 and 4). `Below` says that a class is another or inherits from it, and `IsJoin` defines the least common ancestor.
 use Rattle.std.specs.Prelude.{◌≡◌, ℕ, List, [], ◌∷◌, get_or, Contains, Option, Some, None, codes, refl}
 use Rattle.cool_syntax.specs.declared.file_tree.Feature.{Feature}
 use Rattle.cool_classes.specs.declared.class_id.ClassId.{ClassId}

@@ -1,4 +1,4 @@
--- `first_named` is the class that a name means: the first with this name in the order of definitions. `self_type` is the name SELF_TYPE, which no class has.
+-- `first_named` is the class that a name denotes: the first with this name in the order of definitions. `self_type` is the name SELF_TYPE, which no class has.
 use Rattle.std.specs.Prelude.{◌≡◌, ℕ, List, [], ◌∷◌, Option, Some, codes, bytes_eq, refl}
 use Rattle.cool_classes.specs.declared.class_id.ClassId.{ClassId}
 use Rattle.cool_classes.specs.Chains.{class_number}

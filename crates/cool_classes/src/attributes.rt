@@ -1,4 +1,4 @@
-//! The attributes of a class with those that it inherits.
+//! Functions that list the attributes of a class with those that it inherits.
 
 ghost use Rattle.std.specs.Prelude.{◌≡◌, ◌<◌, ◌^◌, ◌++◌, List, length, IfOk, OnOk, Some};
 ghost use Rattle.cool_classes.specs.declared.class_id.ClassId as number;

@@ -1,4 +1,4 @@
-//! The methods of the basic classes: two tables, and functions that read them (the Cool manual, section 8).
+//! The methods of the basic classes: their names and signatures, and functions that look them up (the Cool manual, section 8).
 
 ghost use Rattle.std.specs.Prelude.{◌≡◌, ◌<◌, [], length, get_or};
 ghost use Rattle.cool_classes.specs.declared.class_id.Ty.TheVariants.{Class as IsClass};

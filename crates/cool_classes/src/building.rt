@@ -1,4 +1,5 @@
-//! The function `table`: it builds the class table from the trees of source files, or returns the faults of their classes and features.
+//! The function `table`: it builds the class table from the syntax trees of source files, or returns the faults (compile-time errors) of their classes and
+//! features.
 
 ghost use Rattle.std.specs.Prelude.{◌≡◌, ℕ, ◌<◌, [], map, IfOk, IfErr, OnOk, Some};
 ghost use Rattle.cool_syntax.specs.declared.file_tree.ClassDef as tree;

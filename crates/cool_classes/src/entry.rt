@@ -1,4 +1,4 @@
-//! The entry of one class in a class table: its name, parent, depth and features.
+//! The type `Entry`, the entry of one class in a class table: its name, its parent, the number of its ancestors, and its features.
 
 use crate::class_id::ClassId;
 use cool_syntax::{Feature, Listed, Name};

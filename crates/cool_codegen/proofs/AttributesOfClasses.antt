@@ -1,4 +1,4 @@
--- The attributes of a class are those of the class and its ancestors, from Object down, and they are at most 2,000.
+-- The attributes of a class are those that the class and its ancestors define, and they are at most 2,000.
 use Rattle.std.proofs.Common.{◌≡◌, ℕ, zero, suc, ◌+◌, ◌≤◌, List, [], ◌∷◌, length, Some, Bool, true, false, refl, arith, Contains}
 use Rattle.std.specs.List.{AllByRecursion, position_or_len}
 use Rattle.std.specs.Prelude.{slice_get}

@@ -1,4 +1,4 @@
--- `AreAttributes` says that a list has the attributes of the first classes in preorder.
+-- `AreAttributes` says that a list has, at each tag that is an index of it, the attributes of the class with this tag.
 use Rattle.std.specs.Prelude.{◌≡◌, ℕ, ◌<◌, List, length, get_or}
 use Rattle.std.specs.Global.{Vec}
 use Rattle.cool_classes.specs.declared.method.AttributeRef.{AttributeRef}

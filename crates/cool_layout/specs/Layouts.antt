@@ -1,5 +1,5 @@
 -- `IsLayoutOf` says that the code's layout of a class table is right: the preorder of the classes, their tags, the offsets of their attributes, and their
--- tables of methods.
+-- dispatch tables.
 use Rattle.std.specs.Prelude.{◌≡◌, List, length}
 use Rattle.cool_classes.specs.Chains.{Class}
 use Rattle.cool_classes.specs.Limits.{KeepsLimits}

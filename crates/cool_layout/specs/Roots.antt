@@ -1,4 +1,4 @@
--- `IsRooted` says that all classes of a table inherit from Object, directly or through others.
+-- `IsRooted` says that all classes of a class table inherit from Object, directly or through others.
 use Rattle.std.specs.Prelude.{◌≡◌, ◌<◌, List, length, Some, None}
 use Rattle.cool_classes.specs.declared.class_id.ClassId.{ClassId}
 use Rattle.cool_classes.specs.Chains.{Class, class_number, parent_of}

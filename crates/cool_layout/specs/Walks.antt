@@ -1,5 +1,5 @@
--- `IsWalk` says that the code's walk over the classes is in preorder. `AreTagsOf` and `AreLastsOf` say that it gives each class its tag and the last tag of
--- the classes below it.
+-- `IsWalk` says that the code's list of all classes is in preorder. `AreTagsOf` and `AreLastsOf` say that the code gives each class the right tag, and the
+-- right last tag of the classes below it.
 use Rattle.std.specs.Prelude.{◌≡◌, ℕ, ◌+◌, ◌<◌, List, length, filter, get_or, slice_get, Option, None}
 use Rattle.std.specs.Global.{Vec}
 use Rattle.cool_classes.specs.declared.class_id.ClassId.{ClassId}

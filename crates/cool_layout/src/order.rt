@@ -1,4 +1,4 @@
-//! The classes in preorder: each class before the classes that inherit from it.
+//! The function `preorder`: it lists the classes in preorder, so that each class comes before the classes that inherit from it.
 
 ghost use Rattle.std.specs.Prelude.{◌≡◌, ◌<◌, ◌++◌, reverse, length, OnOk, IfOk};
 ghost use Rattle.cool_layout.specs.Roots.{IsRooted};

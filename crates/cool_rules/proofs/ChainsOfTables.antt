@@ -1,5 +1,5 @@
--- The relation "inherits from or equals" between classes is transitive, the chain of an ancestor (the ancestor with its own ancestors) is the end of the chain
--- of a class, and the attributes of an ancestor are the first attributes of the class.
+-- The relation "inherits from or equals" between classes is transitive. The chain of an ancestor (the ancestor with its own ancestors) is the end of the chain
+-- of a class, and its attributes are the first attributes of the class.
 use Rattle.std.proofs.Common.{◌≡◌, inl, inr, ℕ, ◌<◌, List, [], ◌∷◌, ◌++◌, length, Option, Some, None, ap, sym, ◌∙◌, refl, subst, arith, append_assoc, append-nil}
 use Rattle.std.specs.Prelude.{Contains}
 use Rattle.cool_classes.specs.declared.class_id.ClassId.{ClassId}

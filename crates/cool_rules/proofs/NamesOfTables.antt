@@ -1,4 +1,4 @@
--- A look-up by name in a whole table finds the class that has the name.
+-- A look-up by name in a complete class table finds the class that has the name.
 use Rattle.std.proofs.Common.{◌≡◌, ℕ, zero, suc, ◌+◌, ◌<◌, List, [], ◌∷◌, map, length, get_or, Some, Bool, true, false, cond, ap, sym, ◌∙◌, refl, arith, true≢false}
 use Rattle.std.specs.Prelude.{bytes_eq}
 use Rattle.std.proofs.lemmas.Slice.Eq.{bytes_eq-Decides}

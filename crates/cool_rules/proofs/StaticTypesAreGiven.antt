@@ -1,4 +1,4 @@
--- If the rules give an expression a type, this is the static type of the expression.
+-- If the typing rules give an expression a type, this is the static type that the function `type_of` computes for the expression.
 use Rattle.std.proofs.Common.{◌≡◌, ℕ, ◌<◌, List, [], ◌∷◌, length, Option, Some, None, Bool as Truth, true, false, refl, sym, ap, ◌∙◌, subst}
 use Rattle.std.specs.Prelude.{unwrap_or, bytes_eq, codes, if◌then◌else◌}
 use Rattle.std.specs.List.{AllByRecursion}

@@ -1,4 +1,4 @@
--- `nearest_method` returns the method of the name in the first listed class that has one, or none. The method exists in the table (`HasMethod` of
+-- `nearest_method` returns the method of the name in the first listed class that has one, or none. The method exists in the class table (`HasMethod` of
 -- `Features.antt`).
 use Rattle.std.proofs.Common.{◌<◌, length, get_or, sym, ◌∙◌}
 use Rattle.cool_classes.specs.declared.class_id.ClassId.{ClassId}

@@ -1,4 +1,5 @@
--- The loop of `place_among` has so far passed only branches of classes that are no less deep, so `with_branch` passes them, too.
+-- The loop of `place_among`, which searches the position for a new branch of a `case`, has so far passed only branches of classes that are no less deep, as
+-- `with_branch` does.
 use Rattle.std.proofs.Common.{◌≡◌, ◌++◌, map, take, drop}
 use Rattle.cool_codegen.specs.Spans.{Branch, branch_of, with_branch}
 use Rattle.cool_codegen.proofs.arm.place_among.Given as goal

@@ -1,4 +1,4 @@
--- `TypingSetting::attribute` returns the type of an attribute as `type_meant` of `Rules.antt` defines it.
+-- `TypingSetting::attribute` returns the type of an attribute: the type that its declared type name denotes (`type_meant` of `Rules.antt`).
 use Rattle.cool_rules.proofs.RulesOfTables.{type_meant_is}
 use Rattle.cool_check.proofs.typing_setting.TypingSetting.attribute.Goals as goal
 

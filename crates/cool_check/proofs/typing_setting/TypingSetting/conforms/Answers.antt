@@ -1,4 +1,4 @@
--- `TypingSetting::conforms` decides whether one type conforms to another, as `do_conform` of `Rules.antt` defines it.
+-- `TypingSetting::conforms` decides whether one type conforms to another (is its subtype) in the class that is checked, as `do_conform` of `Rules.antt` does.
 use Rattle.cool_rules.proofs.RulesOfTables.{do_conform_is}
 use Rattle.cool_check.proofs.typing_setting.TypingSetting.conforms.Goals as goal
 

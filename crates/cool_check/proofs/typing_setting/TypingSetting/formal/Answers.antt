@@ -1,4 +1,4 @@
--- `TypingSetting::formal` returns the type of a formal as `type_meant` of `Rules.antt` defines it.
+-- `TypingSetting::formal` returns the type of a formal parameter: the type that its declared type name denotes (`type_meant` of `Rules.antt`).
 use Rattle.cool_rules.proofs.RulesOfTables.{type_meant_is}
 use Rattle.cool_check.proofs.typing_setting.TypingSetting.formal.Goals as goal
 

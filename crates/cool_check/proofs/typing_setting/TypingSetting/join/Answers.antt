@@ -1,4 +1,4 @@
--- `TypingSetting::join` returns the join of two types as `join_in` of `Rules.antt` defines it.
+-- `TypingSetting::join` returns the join of two types, which is the least type to which both conform, as `join_in` of `Rules.antt` does.
 use Rattle.cool_rules.proofs.RulesOfTables.{join_in_is}
 use Rattle.cool_check.proofs.typing_setting.TypingSetting.join.Goals as goal
 

@@ -1,4 +1,5 @@
--- `TypingSetting::method` returns the nearest method of a name on the chain of a class, as `method_of` of `Rules.antt` defines it.
+-- `TypingSetting::method` returns the method of a name in the nearest class, from the given class up to Object, that has one, as `method_of` of `Rules.antt`
+-- does.
 use Rattle.cool_rules.proofs.RulesOfTables.{method_of_is}
 use Rattle.cool_check.proofs.typing_setting.TypingSetting.method.Goals as goal
 

@@ -1,4 +1,4 @@
--- `TypingSetting::result` returns the type of the result of a method as `type_meant` of `Rules.antt` defines it.
+-- `TypingSetting::result` returns the type of a method's result: the type that its declared type name denotes (`type_meant` of `Rules.antt`).
 use Rattle.cool_rules.proofs.RulesOfTables.{type_meant_is}
 use Rattle.cool_check.proofs.typing_setting.TypingSetting.result.Goals as goal
 

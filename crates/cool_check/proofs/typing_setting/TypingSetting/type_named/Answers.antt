@@ -1,4 +1,4 @@
--- `TypingSetting::type_named` returns the type of a name as `type_of_name` of `Rules.antt` defines it.
+-- `TypingSetting::type_named` returns the type that has a name, or none, as `type_of_name` of `Rules.antt` does.
 use Rattle.cool_rules.proofs.RulesOfTables.{type_of_name_is}
 use Rattle.cool_check.proofs.typing_setting.TypingSetting.type_named.Goals as goal
 
