@@ -1,4 +1,5 @@
--- Lemmas on lists of lines to which one line, several lines, or the lines of several calls are appended.
+-- If assembly lines are appended in memory, the same lines are appended to the list that contracts see (`lines_of`): one line, several lines, or the lines of
+-- several calls.
 use Rattle.std.proofs.Common.{◌≡◌, List, [], ◌∷◌, ◌++◌, ap, ◌∙◌, append_assoc}
 use Rattle.std.specs.Prelude.{Result, Ok, Err, OnOk, is_ok, if◌then◌else◌}
 use Rattle.std.proofs.lemmas.List.{map_push, map-append}

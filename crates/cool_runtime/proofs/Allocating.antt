@@ -1,4 +1,5 @@
--- The code that pushes a word and the code that makes an Int have their effects, or the run exits by a limit of heap or stack.
+-- The code that pushes a word stores it on top of the stack, and the code that allocates an Int returns its address, or the run exits by the limit of stack or
+-- heap.
 use Rattle.std.proofs.Common.{◌≡◌, ℕ, ◌+◌, ◌-◌, ◌<◌, ◌≤◌, inl, inr, List, refl, sym, ◌∙◌, subst, arith, true, false}
 use Rattle.std.specs.Prelude.{◌==◌, nat_lt}
 use Rattle.mips_isa.specs.declared.register.TheConstants.{ZERO, T2}

@@ -1,4 +1,4 @@
--- The pieces of code that the routines that make a String share: its head, its last word, the copy of its bytes, and the return.
+-- The code that several routines share to make a String stores the Int of its length, its head and its last word, copies its bytes, and returns its address.
 use Rattle.std.proofs.Common.{◌≡◌, ℕ, zero, suc, ◌+◌, ◌*◌, ◌%◌, ◌<◌, ◌≤◌, List, refl, ap, ◌∙◌, arith}
 use Rattle.mips_isa.specs.declared.register.TheConstants.{T2}
 use Rattle.mips_isa.specs.Bytes.{Bytes, word, set_word, set_byte}

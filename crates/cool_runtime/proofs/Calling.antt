@@ -1,4 +1,4 @@
--- Calls: a frame is made and left, and a dispatch goes to the method of the receiver's table.
+-- The code on entry to a method makes a stack frame, the code of the return removes it, and a dispatch jumps to the method in the receiver's dispatch table.
 use Rattle.std.proofs.Common.{◌≡◌, ℕ, ◌+◌, ◌-◌, ◌*◌, ◌%◌, ◌<◌, ◌≤◌, List, [], ◌∷◌, refl, ◌∙◌, arith}
 use Rattle.std.specs.Prelude.{pos}
 use Rattle.mips_isa.specs.declared.register.TheConstants.{A0, T8, T9, FP}

@@ -1,4 +1,4 @@
--- The memory after an object was copied: the copy, and everything that stays.
+-- After an object is copied, memory has the copy at the next free heap address, and the memory below that address and on the stack is unchanged.
 use Rattle.std.proofs.Common.{◌≡◌, ℕ, zero, suc, ◌+◌, ◌-◌, ◌*◌, ◌/◌, ◌%◌, ◌<◌, ◌≤◌, ◌⊎◌, inl, inr, List, [], ◌∷◌, length, get_or, refl, sym, ap, ◌∙◌, subst, arith}
 use Rattle.mips_isa.specs.Bytes.{Bytes, word, set_word}
 use Rattle.cool_runtime.specs.Reaches.{World}

@@ -1,4 +1,4 @@
--- The routine that copies an object: its loop copies one word after another.
+-- The routine that copies an object copies one word after another in a loop and returns the address of the copy, or the run exits by the limit of the heap.
 use Rattle.std.proofs.Common.{◌≡◌, ℕ, zero, suc, ◌+◌, ◌*◌, ◌%◌, ◌<◌, ◌≤◌, List, [], ◌∷◌, ◌++◌, refl, ◌∙◌, arith, true, false}
 use Rattle.std.specs.Prelude.{◌==◌, not}
 use Rattle.mips_isa.specs.declared.register.TheConstants.{A0, T1, T2, T3}

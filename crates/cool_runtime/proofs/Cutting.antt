@@ -1,4 +1,4 @@
--- The routine that copies a part of a String has its effect, or ends by an error if the part does not lie within the String.
+-- The routine for `String.substr` returns a new String with the given part of a String. If the part does not lie within the String, the run ends by an error.
 use Rattle.std.proofs.Common.{◌≡◌, ℕ, zero, suc, ◌+◌, ◌-◌, ◌*◌, ◌/◌, ◌%◌, ◌<◌, ◌≤◌, inl, inr, List, [], ◌∷◌, ◌++◌, length, drop, refl, sym, ap, ◌∙◌, subst, arith}
 use Rattle.std.specs.Prelude.{take}
 use Rattle.std.proofs.lemmas.List.{get_or-take, get_or-drop, length-take-le, length-drop}

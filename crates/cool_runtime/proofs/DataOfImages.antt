@@ -1,4 +1,4 @@
--- The items of data of a program stand in its image.
+-- Each line of data in an assembly program without errors is in the data segment of its assembled image (its bytes in memory), at the address of its labels.
 use Rattle.std.proofs.Common.{◌≡◌, ℕ, suc, ◌+◌, ◌-◌, ◌*◌, ◌/◌, ◌%◌, ◌<◌, ◌≤◌, List, [], ◌∷◌, ◌++◌, length, replicate, get_or, refl, sym, ap, ◌∙◌, subst, arith, true, false, Some, None, append_assoc, length-append}
 use Rattle.std.specs.Prelude.{nat_lt}
 use Rattle.std.proofs.lemmas.List.{length-replicate, get_or-append-add, get_or_append_left}

@@ -1,4 +1,4 @@
--- The routines for run-time errors write their text with the place of the error, and exit with 3.
+-- Each routine for a run-time error writes the file, the line and the text of the error, and exits with status 3.
 use Rattle.std.proofs.Common.{◌≡◌, ℕ, ◌+◌, ◌<◌, inl, List, ◌++◌, ap, ◌∙◌, arith, append_assoc}
 use Rattle.std.specs.Prelude.{Some}
 use Rattle.std.specs.Fmt.{signed_decimal}

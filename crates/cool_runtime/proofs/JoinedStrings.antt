@@ -1,4 +1,4 @@
--- The object that the routine `concat` leaves in memory is the String of both texts, one after the other.
+-- After the stores of the routine for `String.concat`, memory has a String whose bytes are those of the first String followed by those of the second.
 use Rattle.std.proofs.Common.{◌≡◌, ℕ, ◌+◌, ◌-◌, ◌*◌, ◌/◌, ◌%◌, ◌<◌, ◌≤◌, ◌⊎◌, inl, inr, List, [], ◌∷◌, ◌++◌, length, get_or, refl, sym, ap, ◌∙◌, subst, arith, length-append}
 use Rattle.std.proofs.lemmas.List.{get_or_append_left, get_or-append_right}
 use Rattle.mips_isa.specs.Bytes.{Bytes}

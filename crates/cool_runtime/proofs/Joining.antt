@@ -1,4 +1,4 @@
--- The routine that joins two Strings leaves the joined String as its result, or the run exits by the limit of the heap.
+-- The routine for `String.concat` returns the concatenation of two Strings, or the run exits by the limit of the heap.
 use Rattle.std.proofs.Common.{◌≡◌, ℕ, ◌+◌, ◌*◌, ◌/◌, ◌<◌, ◌≤◌, List, ◌++◌, length, refl, ◌∙◌, arith}
 use Rattle.mips_isa.specs.declared.register.TheConstants.{T4}
 use Rattle.mips_isa.specs.Bytes.{Bytes, word}

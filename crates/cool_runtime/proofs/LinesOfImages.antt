@@ -1,4 +1,4 @@
--- The lines of a program stand in its image.
+-- The instructions of an assembly program without errors are in the text segment of its assembled image, each at the address that the assembler gives it.
 use Rattle.std.proofs.Common.{◌≡◌, ℕ, suc, ◌+◌, ◌-◌, ◌*◌, ◌/◌, ◌<◌, List, [], ◌∷◌, ◌++◌, length, map, get_or, refl, sym, ap, ◌∙◌, subst, arith, Bool, true, false, true≢false, Option, Some, None, append_assoc, length-append, lit<}
 use Rattle.std.specs.Prelude.{if◌then◌else◌, ◌||◌, ◌&&◌, not, bytes_eq}
 use Rattle.std.specs.List.{AllByRecursion}

@@ -1,4 +1,4 @@
--- The line that a call takes of the input: its first byte and the rest of it, its text, and the input that is left.
+-- A read of one line takes the input up to a newline or its end. The bytes of the line are not zero, and the input that is left is a suffix of the input.
 use Rattle.std.proofs.Common.{◌≡◌, zero, suc, ◌≢◌, ℕ, ◌<◌, List, [], ◌∷◌, ◌++◌, length, refl, ap, ◌∙◌, arith, Bool, true, false}
 use Rattle.std.specs.Prelude.{◌==◌, if◌then◌else◌}
 use Rattle.mips_isa.specs.Calls.{Taken, taken, asked_line}

@@ -1,4 +1,4 @@
--- Each routine does what `Means` requires of it.
+-- Each run-time routine has the effect that `Means` of `Meanings.antt` defines for it.
 use Rattle.cool_runtime.specs.Reaches.{World}
 use Rattle.cool_runtime.specs.Labels.{dispatch_abort, div_abort, substr_abort, heap_limit, stack_limit}
 use Rattle.cool_runtime.specs.RoutineLabels.{case_void, overflow_abort, dispatch_text, case_text, division_text, substring_text, overflow_text}

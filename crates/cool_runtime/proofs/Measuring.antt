@@ -1,4 +1,4 @@
--- The routine that gives a String's length leaves the Int of the length as its result.
+-- The routine for `String.length` returns the Int that a String holds as its length.
 use Rattle.std.proofs.Common.{◌≡◌, ℕ, ◌+◌, List, arith}
 use Rattle.mips_isa.specs.declared.register.TheConstants.{A0}
 use Rattle.mips_isa.specs.Bytes.{Bytes, word}

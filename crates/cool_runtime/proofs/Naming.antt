@@ -1,4 +1,5 @@
--- The routines that look up the name of a class: `type_name`, `abort`, and the end of a case without a branch.
+-- The routines that look up the name of a class return or print it: `type_name` returns it, and `abort` and a `case` without a matching branch print it and
+-- exit with status 3.
 use Rattle.std.proofs.Common.{◌≡◌, ℕ, ◌+◌, ◌*◌, ◌<◌, inl, List, [], ◌∷◌, ◌++◌, refl, ap, ◌∙◌, arith, append_assoc}
 use Rattle.std.specs.Prelude.{Some}
 use Rattle.std.specs.Fmt.{signed_decimal}

@@ -1,4 +1,4 @@
--- The memory after an object was made: the new object, and everything that stays.
+-- After an Int is made, memory has the new Int, and the memory of earlier objects and of the stack is unchanged.
 use Rattle.std.proofs.Common.{◌≡◌, ℕ, ◌+◌, ◌-◌, ◌*◌, ◌%◌, ◌<◌, ◌≤◌, ◌⊎◌, inl, inr, List, length, sym, ap, ◌∙◌, subst, arith}
 use Rattle.mips_isa.specs.Bytes.{Bytes, word, set_word}
 use Rattle.cool_runtime.specs.Reaches.{World}

@@ -1,4 +1,5 @@
--- Lemmas on lines that stand in the text of a machine: the front and the back of a list of lines, and runs over both.
+-- If a list of assembly lines is in the text segment, so are its front and its back, and a run over the front followed by a run over the back is a run over
+-- both.
 use Rattle.std.proofs.Common.{◌≡◌, ℕ, ◌+◌, ◌≤◌, List, [], ◌∷◌, ◌++◌, subst, arith}
 use Rattle.mips_isa.specs.Bytes.{Bytes}
 use Rattle.mips_isa.specs.Calls.{State}

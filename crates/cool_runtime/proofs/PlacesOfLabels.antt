@@ -1,4 +1,4 @@
--- The places of the labels of lines without a fault.
+-- In an assembly program without errors, the address of each label is that of the line that it labels, and has 32 bits.
 use Rattle.std.proofs.Common.{◌≡◌, ℕ, suc, ◌+◌, ◌*◌, ◌<◌, ◌≤◌, List, [], ◌∷◌, ◌++◌, refl, sym, ap, ◌∙◌, arith, Bool, true, false, true≢false, Option, Some, None}
 use Rattle.std.specs.Prelude.{if◌then◌else◌, ◌||◌, bytes_eq}
 use Rattle.std.proofs.lemmas.List.Folds.{list_any-append}

@@ -1,4 +1,4 @@
--- The routines that write: `out_int` and `out_string`.
+-- The routines `out_int` and `out_string` write an Int in decimal and the bytes of a String to the output, and return to their caller.
 use Rattle.std.proofs.Common.{◌≡◌, ℕ, ◌+◌, ◌≤◌, List, ◌++◌, ap, ◌∙◌, arith}
 use Rattle.std.specs.Prelude.{Some}
 use Rattle.std.specs.Fmt.{signed_decimal}

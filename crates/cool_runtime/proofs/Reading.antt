@@ -1,4 +1,4 @@
--- The routine `in_int`, which reads a line and makes an Int of the number at its front.
+-- The routine `in_int` reads a line and returns an Int with the number at the front of the line, or the run exits by the limit of the heap.
 use Rattle.std.proofs.Common.{◌≡◌, ℕ, ◌+◌, ◌-◌, ◌*◌, ◌<◌, ◌≤◌, List, [], ◌∷◌, ◌++◌, sym, ap, ◌∙◌, subst, arith, Bool, true, false}
 use Rattle.std.specs.Prelude.{◌==◌, if◌then◌else◌}
 use Rattle.mips_isa.specs.declared.register.TheConstants.{T2}

@@ -1,4 +1,4 @@
--- The routine `in_string`, which reads a line and makes a String of it.
+-- The routine `in_string` reads a line and returns a String with its bytes, or the run exits by the limit of the heap.
 use Rattle.std.proofs.Common.{◌≡◌, ◌≢◌, ℕ, zero, suc, ◌+◌, ◌-◌, ◌*◌, ◌/◌, ◌%◌, ◌<◌, ◌≤◌, ◌⊎◌, inl, inr, List, [], ◌∷◌, ◌++◌, length, refl, sym, ap, ◌∙◌, subst, arith, Bool, true, false}
 use Rattle.std.specs.Prelude.{nat_le, not, ◌==◌}
 use Rattle.mips_isa.specs.declared.register.TheConstants.{T1, T2, T3, T4, T5, T6, T7, S7}

@@ -1,4 +1,4 @@
--- Lemmas on `Reaches`, a run to a goal: one instruction more, two runs one after the other, and exits by limits.
+-- Runs of the machine to a goal (`Reaches`) can be extended by one instruction, composed one after the other, and may end by the limits of heap and stack.
 use Rattle.std.proofs.Common.{◌≡◌, ℕ, suc, ◌+◌, ◌-◌, ◌<◌, ◌≤◌, ◌⊎◌, inl, inr, refl, sym, ap, ◌∙◌, subst, arith}
 use Rattle.mips_isa.specs.Calls.{State, Outcome, Running, Exited, Trapped}
 use Rattle.mips_isa.specs.Run.{run, cycle, and_then}

@@ -1,4 +1,4 @@
--- The start of a program: Main is made, its `main` is called, the end text is written, and the run exits with 0.
+-- The start-up code of a compiled program makes an object of class Main, calls its `main`, writes the end text and exits with status 0.
 use Rattle.std.proofs.Common.{◌≡◌, ℕ, ◌+◌, ◌*◌, ◌<◌, ◌≤◌, inl, List, [], ◌∷◌, ◌++◌, refl, ap, ◌∙◌, arith}
 use Rattle.std.specs.Prelude.{Some}
 use Rattle.mips_isa.specs.Bytes.{Bytes, word}

@@ -1,4 +1,4 @@
--- The bytes of a String in memory, up to its zero, are the bytes that the machine's system call prints.
+-- The system call that prints a String prints the bytes of the String in memory, up to its terminating zero byte.
 use Rattle.std.proofs.Common.{◌≡◌, ℕ, zero, suc, ◌+◌, ◌-◌, ◌*◌, ◌<◌, ◌≤◌, ◌⊎◌, inl, inr, List, [], ◌∷◌, length, get_or, refl, sym, ap, ◌∙◌, arith, true, false, Some}
 use Rattle.std.specs.Prelude.{◌==◌, option_map}
 use Rattle.mips_isa.specs.declared.address_map.TheConstants.{TEXT_START, DATA_START, HEAP_START}

@@ -1,4 +1,4 @@
--- A run over lines that stand in the text reaches its goal if the condition computed from the lines holds.
+-- A run over assembly lines in the text segment reaches its goal if the precondition holds that `w_lines` of `Walk.antt` computes from these lines.
 use Rattle.std.proofs.Common.{◌≡◌, ℕ, zero, suc, ◌+◌, ◌-◌, ◌*◌, ◌/◌, ◌%◌, ◌<◌, ◌≤◌, ◌⊎◌, List, [], ◌∷◌, Option, Some, None, refl, sym, ap, ◌∙◌, subst, arith, Bool, true, false}
 use Rattle.std.specs.Prelude.{ℤ, pos, negsuc, bit_or, nat_le, ◌==◌, ◌||◌, if◌then◌else◌}
 use Rattle.std.proofs.Math.Path.{fun_ext}

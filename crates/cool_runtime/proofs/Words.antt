@@ -1,4 +1,4 @@
--- Lemmas on the words and bytes of memory after stores.
+-- After a store to memory, the stored word or byte is at its address, and the words and bytes at other addresses are unchanged.
 use Rattle.std.proofs.Common.{◌≡◌, ◌≢◌, ℕ, ◌+◌, ◌*◌, ◌/◌, ◌%◌, ◌<◌, ◌≤◌, ◌⊎◌, refl, ap, ◌∙◌, arith}
 use Rattle.mips_isa.specs.Bytes.{Bytes, word, set_byte, set_word}
 

@@ -1,5 +1,5 @@
--- The layout of objects in memory, by the run-time conventions. The word -1 is at -4, the tag at 0, the size in words at 4, the address of the dispatch table
--- at 8, and the attributes are from 12 on.
+-- The layout of objects in memory: the word -1 is at offset -4, the class tag at 0, the size in words at 4, the address of the dispatch table at 8, and the
+-- attributes are from 12 on.
 use Rattle.std.specs.Prelude.{ℕ, ◌+◌, ◌-◌, ◌*◌, ◌/◌, ◌%◌, ◌^◌, ◌<◌, ◌≤◌, ◌≡◌, ◌≢◌, List, length, get_or}
 use Rattle.std.specs.List.{AllByRecursion}
 use Rattle.mips_isa.specs.declared.address_map.TheConstants.{DATA_START, HEAP_START}

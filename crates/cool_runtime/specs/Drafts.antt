@@ -1,4 +1,4 @@
--- `drafted` gives the line of assembly of a `Draft`, which is a line that borrows its label.
+-- `drafted` converts a `Draft`, which is an assembly line that borrows its label, to the line that contracts see.
 use Rattle.std.specs.Prelude.{pos, [], ◌∷◌}
 use Rattle.mips_isa.specs.Lines.{Line, Empty, Plain, ToJump, La, Li, Move}
 use Rattle.mips_isa.specs.Assembly.{instruction_line}

@@ -1,4 +1,5 @@
--- `IsImageOf` says that the text of a machine is the image of these lines of assembly. Only proofs use it.
+-- `IsImageOf` says that the text segment of a machine has the instructions assembled from given lines, which have no error, and that each label has its
+-- assembled address. Only proofs use it.
 use Rattle.std.specs.Prelude.{◌≡◌, ◌+◌, ◌*◌, ◌<◌, List, [], ◌∷◌, length, None}
 use Rattle.mips_isa.specs.declared.address_map.TheConstants.{TEXT_START, MOST_TEXT_WORDS}
 use Rattle.mips_isa.specs.Lines.{Line, AreInRange}

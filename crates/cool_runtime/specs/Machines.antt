@@ -1,4 +1,5 @@
--- `At` describes the state of a machine between pieces of compiled code: its registers (`Pointers`), its memory, and its input and output (`Console`).
+-- `At` describes the state of a machine before and after a piece of compiled code: its registers (`Pointers`), its memory, and its input and output
+-- (`Console`).
 use Rattle.std.specs.Prelude.{ℕ, zero, suc, ◌*◌, ◌/◌, ◌+◌, ◌-◌, ◌%◌, ◌^◌, ◌<◌, ◌≤◌, ◌≡◌, List, [], ◌∷◌, ◌++◌, Bool, true, false, ◌==◌, if◌then◌else◌}
 use Rattle.mips_isa.specs.declared.address_map.TheConstants.{HEAP_START, STACK_END}
 use Rattle.mips_isa.specs.declared.register.TheConstants.{ZERO, A0, T1, T2, T3, T4, T5, T6, T7, S0, S6, S7, GP, SP, FP, RA}

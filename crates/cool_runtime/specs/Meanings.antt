@@ -1,5 +1,5 @@
--- `Means` defines the effect of each run-time routine, wherever its lines stand in a text. It leads from the contents at entry to those at exit, within so
--- many instructions, or to an exit by a limit.
+-- `Means` defines the effect of each run-time routine: a run of its code leads from the memory and registers at entry to those at exit, within a stated number
+-- of instructions, or exits by a limit of heap or stack.
 use Rattle.mips_isa.specs.declared.register.TheConstants.{T8, T9}
 use Rattle.cool_runtime.specs.Comparison.{Operands, ValueAt, Verdict, constant_place}
 use Rattle.cool_runtime.specs.Contents.{IntAt, StringAt, TextAt, Lies, Tagged, Prototypes, NameAt}

@@ -1,5 +1,4 @@
--- `Limits` is the assumption of the run-time routines about the text, besides their own lines: the routines for the limits of heap and stack stand under
--- their labels.
+-- `Limits` is an assumption of the proofs about run-time routines: the code that exits at the limits of heap and stack is in the text segment under its labels.
 use Rattle.cool_runtime.specs.Reaches.{World}
 use Rattle.cool_runtime.specs.Standing.{HasLines}
 use Rattle.cool_runtime.specs.Labels.{heap_limit, stack_limit}

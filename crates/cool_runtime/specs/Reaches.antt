@@ -1,5 +1,5 @@
--- `Reaches` says that a run of the machine leads from a state to a goal, within so many instructions, or to an exit by a limit of heap or stack. `World`
--- holds the fixed data of a run.
+-- `Reaches` says that a run of the machine leads from a state to a goal, within a stated number of instructions, or to an exit by a limit of heap or stack.
+-- `World` holds the fixed data of a run.
 use Rattle.std.specs.Prelude.{ℕ, ◌+◌, ◌-◌, ◌%◌, ◌^◌, ◌<◌, ◌≤◌, ◌≡◌, ◌⊎◌, List, ◌++◌}
 use Rattle.mips_isa.specs.declared.address_map.TheConstants.{DATA_START, HEAP_START, STACK_END}
 use Rattle.mips_isa.specs.Bytes.{Segments}

@@ -1,4 +1,4 @@
--- More names of labels in compiled programs, by the run-time conventions, such as those of error routines and of their texts. The others are in Labels.antt.
+-- The names of further labels in compiled programs, such as those of error routines and of their texts. The others are in Labels.antt.
 use Rattle.std.specs.Prelude.{codes}
 use Rattle.mips_isa.specs.Lines.{Name}
 

@@ -1,4 +1,4 @@
--- `routine_lines` gives the assembly lines of a run-time routine, and `all_routine_lines` those of all routines, in the order in which they stand in a
+-- `routine_lines` gives the assembly lines of a run-time routine, and `all_routine_lines` those of all routines, in the order in which they are in a compiled
 -- program.
 use Rattle.std.specs.Prelude.{List, ◌++◌}
 use Rattle.mips_isa.specs.Lines.{Line}

@@ -1,4 +1,5 @@
--- `HasLines` says that lines of assembly stand in the text of a machine from an address on, with their labels.
+-- `HasLines` says that the text segment of a machine has the instructions of given assembly lines from an address on, and that their labels have their
+-- addresses.
 use Rattle.std.specs.Prelude.{ℕ, ◌+◌, ◌*◌, ◌%◌, ◌^◌, ◌<◌, ◌≤◌, ◌≡◌, List, [], ◌∷◌, Some}
 use Rattle.mips_isa.specs.declared.address_map.TheConstants.{TEXT_START, DATA_START}
 use Rattle.mips_isa.specs.declared.instr.Instr.{Instr}

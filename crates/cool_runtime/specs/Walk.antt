@@ -1,4 +1,4 @@
--- `w_lines` computes, from a list of assembly lines, a condition under which a run from the first one reaches its goal. Only proofs use it.
+-- `w_lines` computes, from a list of assembly lines, a precondition under which a run that begins at the first line reaches its goal. Only proofs use it.
 use Rattle.std.specs.Prelude.{ℕ, zero, suc, ◌+◌, ◌*◌, ◌/◌, ◌%◌, ◌^◌, ◌<◌, ◌≤◌, ◌≡◌, ◌==◌, ℤ, pos, negsuc, Bool, true, false, List, [], ◌∷◌, ◌++◌, Option, Some, None}
 use Rattle.std.specs.Fmt.{signed_decimal}
 use Rattle.mips_isa.specs.declared.address_map.TheConstants.{DATA_START, HEAP_START, STACK_END}

@@ -1,4 +1,4 @@
-//! The lines of assembly of objects and texts in the data segment.
+//! Makes the assembly lines of objects and texts in the data segment.
 
 ghost use Rattle.std.specs.Prelude.{◌≡◌, ◌<◌, ◌^◌, map, IfOk};
 ghost use Rattle.mips_isa.specs.Lines.{lines_of, line_of, item_of, Asciiz};

@@ -1,4 +1,4 @@
-//! A draft, which is a line of assembly that borrows its label, and `write`, which appends the lines of drafts.
+//! The type `Draft`, an assembly line that borrows its label, constructors for its instructions, and `write`, which appends drafts to a list of owned lines.
 
 ghost use Rattle.std.specs.Prelude.{◌≡◌, ◌++◌, ◌<◌, length, map, take, IfOk, OnErr, OnOk};
 ghost use Rattle.mips_isa.specs.Lines.{line_of, lines_of, instruction_of, statement_of};

@@ -1,4 +1,4 @@
-//! The run-time routines of compiled programs, and the lines of which they and the code of expressions are made.
+//! The run-time routines of compiled programs in assembly, and the instructions and code pieces from which these routines and the code of expressions are made.
 //!
 //! Input: the name of a routine, or the contents of an object of data. Output: the lines of assembly. `specs/Routines` defines them, and
 //! `specs/Meanings` their effects, wherever they stand in a text.

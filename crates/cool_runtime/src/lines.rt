@@ -1,4 +1,4 @@
-//! The lines of each run-time routine, put together from its parts.
+//! Puts together the assembly lines of each run-time routine from its parts.
 
 ghost use Rattle.std.specs.Prelude.{◌≡◌, ◌++◌, ◌<◌, map, IfOk, OnOk};
 ghost use Rattle.mips_isa.specs.Lines.{lines_of};

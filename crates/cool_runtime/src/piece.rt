@@ -1,4 +1,4 @@
-//! Parts of code that several routines share, such as a push or a new Int, as drafts of their lines.
+//! Assembly code that several routines or code generators share, such as pushing a word or allocating an Int: one function returns each piece.
 
 ghost use Rattle.std.specs.Prelude.{◌≡◌, map};
 ghost use Rattle.cool_runtime.specs.CodeOfCalls.{enter_lines};

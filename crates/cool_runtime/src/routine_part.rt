@@ -1,4 +1,4 @@
-//! The parts of single run-time routines, as drafts of their lines: one function for each part.
+//! The parts of the run-time routines in assembly: one function returns the code of each part.
 
 ghost use Rattle.std.specs.Prelude.{◌≡◌, ◌<◌, map};
 ghost use Rattle.cool_runtime.specs.Drafts.{drafted};

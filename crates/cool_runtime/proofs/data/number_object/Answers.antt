@@ -1,4 +1,5 @@
--- `number_object` returns `number_lines` of `LinesOfData.antt`: it calls `object` with one field, the word of the number.
+-- `number_object` returns the assembly lines of an object that holds one number (`number_lines` of `LinesOfData.antt`), because it calls `object` with the
+-- number as the only field.
 use Rattle.std.proofs.Common.{◌≡◌, List, [], ◌∷◌, map, ap, ◌∙◌, subst}
 use Rattle.std.specs.Prelude.{IfOk}
 use Rattle.mips_isa.specs.Lines.{WordItem, lines_of, item_of}

@@ -1,4 +1,4 @@
--- The loop of `object_words` has so far the words of the head and those of the fields that it has passed.
+-- In the loop of `object_words`, the words so far are those of the object's head, followed by those of the fields before the current one.
 use Rattle.std.proofs.Common.{◌≡◌, map}
 use Rattle.mips_isa.specs.Lines.{item_of}
 use Rattle.cool_runtime.specs.LinesOfData.{object_words}

@@ -1,4 +1,5 @@
--- `string_head` returns `string_head_lines` of `LinesOfData.antt`: it calls `object` with one field, the address of the length.
+-- `string_head` returns the assembly lines of a String without its bytes (`string_head_lines` of `LinesOfData.antt`), because it calls `object` with the
+-- address of the length as the only field.
 use Rattle.std.proofs.Common.{◌≡◌, List, [], ◌∷◌, map, ap, ◌∙◌, subst}
 use Rattle.std.specs.Prelude.{IfOk}
 use Rattle.mips_isa.specs.Lines.{WordItem, lines_of, item_of}

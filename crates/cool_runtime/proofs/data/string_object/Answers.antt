@@ -1,5 +1,6 @@
--- `string_object` returns `string_lines` of `LinesOfData.antt`: the Int of the length, the head of the String, its bytes and `.align 2`.
--- The size that it passes, `length / 4 + 5`, is `4 + words_of_bytes length`: the words of the head, of the length and of the bytes.
+-- `string_object` returns the assembly lines of a String in the data segment (`string_lines` of `LinesOfData.antt`): the Int of the length, the head of the
+-- String, its bytes and `.align 2`. The size that it passes, `length / 4 + 5`, is `4 + words_of_bytes length`: the words of the head, of the length and of the
+-- bytes.
 use Rattle.std.proofs.Common.{◌≡◌, ℕ, ◌+◌, ◌/◌, List, [], ◌∷◌, ◌++◌, length, ap, ◌∙◌, arith}
 use Rattle.mips_isa.specs.Lines.{Line, Asciiz, Align, lines_of}
 use Rattle.mips_isa.specs.Assembly.{data_line, directive_line}

@@ -1,4 +1,5 @@
--- The loop of `add_lines` has so far appended the lines of the drafts that it has passed, and kept all lines before these.
+-- In the loop of `add_lines`, the assembly lines of the drafts (lines that borrow their labels) before the current one are appended, and the lines from before
+-- the call are kept.
 use Rattle.std.proofs.Common.{◌≡◌, ◌++◌, length, map, take}
 use Rattle.mips_isa.specs.Lines.{lines_of}
 use Rattle.cool_runtime.specs.Drafts.{drafted}

@@ -1,4 +1,5 @@
--- `add_routine` appends `routine_lines` of `RoutineLines.antt`: each arm of its `match` appends the lines of the routine that it matches.
+-- `add_routine` appends the assembly lines of a run-time routine (`routine_lines` of `RoutineLines.antt`): each arm of its `match` appends those of one
+-- routine.
 use Rattle.std.proofs.Common.{◌≡◌, ◌++◌, OnOk, ap, ◌∙◌, subst, sym}
 use Rattle.mips_isa.specs.Lines.{lines_of}
 use Rattle.cool_runtime.specs.Labels.{dispatch_abort, div_abort, heap_limit, stack_limit, substr_abort}

@@ -1,4 +1,5 @@
--- `concat` appends `concat_lines` of `Routines.antt`: its eight calls of `write` append the eight parts of that list in order.
+-- `concat` appends the assembly lines of the routine for `String.concat` (`concat_lines` of `Routines.antt`): its eight calls of `write` append their eight
+-- parts in order.
 use Rattle.std.proofs.Common.{◌≡◌, List, ◌++◌, ap, ◌∙◌}
 use Rattle.mips_isa.specs.Lines.{Line, lines_of}
 use Rattle.cool_runtime.specs.Labels.{concat_first, concat_second, concat_third, concat_end}

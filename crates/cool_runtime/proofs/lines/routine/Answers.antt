@@ -1,5 +1,5 @@
--- `routine` ensures `Means` of `Meanings.antt`, the effect of the routine in a text that has its lines, by `means` of `MeaningsMet.antt`.
--- This clause does not depend on the result of `routine`, so it holds also if memory runs out.
+-- Each run-time routine has the effect that `Means` of `Meanings.antt` defines, as the postcondition `meaning` of `routine` states. The fact does not depend on
+-- the result of `routine`, so it holds also if memory runs out.
 use Rattle.cool_runtime.proofs.MeaningsMet.{means}
 use Rattle.cool_runtime.proofs.lines.routine.Goals as goal
 

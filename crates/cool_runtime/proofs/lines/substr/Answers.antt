@@ -1,4 +1,5 @@
--- `substr` appends `substr_lines` of `Routines.antt`: its seven calls of `write` append the seven parts of that list in order.
+-- `substr` appends the assembly lines of the routine for `String.substr` (`substr_lines` of `Routines.antt`): its seven calls of `write` append their seven
+-- parts in order.
 use Rattle.std.proofs.Common.{◌≡◌, List, ◌++◌, ap, ◌∙◌}
 use Rattle.mips_isa.specs.Lines.{Line, lines_of}
 use Rattle.cool_runtime.specs.Labels.{substr_bytes, substr_end}

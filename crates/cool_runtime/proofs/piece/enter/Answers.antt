@@ -1,4 +1,4 @@
--- The drafts of `enter` are, line by line, `enter_lines` of `CodeOfCalls.antt`, the code that makes the frame of a call.
+-- `enter` returns exactly the assembly code that `enter_lines` of `CodeOfCalls.antt` defines, which makes the stack frame of a call.
 use Rattle.cool_runtime.specs.Labels.{stack_limit}
 use Rattle.cool_runtime.proofs.piece.enter.Goals as goal
 

@@ -1,4 +1,5 @@
--- The drafts of `error` are, line by line, `error_lines` of `Routines.antt`, the code that writes an error with its place and exits with 3.
+-- `error` returns exactly the assembly code that `error_lines` of `Routines.antt` defines, which writes a run-time error with its file and line, and exits with
+-- status 3.
 use Rattle.cool_runtime.specs.Labels.{colon_text}
 use Rattle.cool_runtime.proofs.piece.error.Goals as goal
 

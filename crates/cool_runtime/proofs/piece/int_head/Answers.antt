@@ -1,4 +1,5 @@
--- The drafts of `int_head` are, line by line, `int_head_lines` of `Routines.antt`, the code that stores an Int with the value of `$t5` at `$gp`.
+-- `int_head` returns exactly the assembly code that `int_head_lines` of `Routines.antt` defines, which stores an Int with the value of `$t5` at the next free
+-- heap address, `$gp`.
 use Rattle.cool_runtime.specs.Labels.{int_prototype}
 use Rattle.cool_runtime.proofs.piece.int_head.Goals as goal
 

@@ -1,4 +1,4 @@
--- The drafts of `push` are, line by line, `push_lines` of `Routines.antt`, the code that pushes `$a0`.
+-- `push` returns exactly the assembly code that `push_lines` of `Routines.antt` defines, which pushes `$a0` on the stack.
 use Rattle.cool_runtime.specs.Labels.{stack_limit}
 use Rattle.cool_runtime.proofs.piece.push.Goals as goal
 

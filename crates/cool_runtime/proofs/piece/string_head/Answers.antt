@@ -1,4 +1,4 @@
--- The drafts of `string_head` are, line by line, `string_head_lines` of `Routines.antt`, the code that stores the head of a String of `$t5` bytes.
+-- `string_head` returns exactly the assembly code that `string_head_lines` of `Routines.antt` defines, which stores the head of a String of `$t5` bytes.
 use Rattle.cool_runtime.specs.Labels.{string_prototype}
 use Rattle.cool_runtime.proofs.piece.string_head.Goals as goal
 

@@ -1,4 +1,4 @@
--- The drafts of `string_return` are, line by line, `string_return_lines` of `Routines.antt`, the code that returns the String after `$gp`.
+-- `string_return` returns exactly the assembly code that `string_return_lines` of `Routines.antt` defines, which returns the String after `$gp` from a routine.
 use Rattle.cool_runtime.proofs.piece.string_return.Goals as goal
 
 pub returns : goal.returns

@@ -1,4 +1,4 @@
--- The drafts of `abort` are, line by line, `abort_lines` of `Routines.antt`, the code that writes the name of a class and exits with 3.
+-- `abort` returns exactly the assembly code that `abort_lines` of `Routines.antt` defines, which writes the name of an object's class and exits with status 3.
 use Rattle.std.proofs.Common.{◌≡◌, map, [], ◌∷◌}
 use Rattle.cool_runtime.specs.Labels.{abort, abort_text, name_table, newline_text}
 use Rattle.cool_runtime.specs.Drafts.{drafted}

@@ -1,4 +1,5 @@
--- The drafts of `concat_begin` are, line by line, `concat_begin_lines` of `Routines.antt`, the code that reads two lengths and asks for room.
+-- `concat_begin` returns exactly the assembly code that `concat_begin_lines` of `Routines.antt` defines, which loads the lengths of two Strings and tests that
+-- the heap has room for their concatenation.
 use Rattle.cool_runtime.specs.Labels.{heap_limit, string_concat}
 use Rattle.cool_runtime.proofs.routine_part.concat_begin.Goals as goal
 

@@ -1,4 +1,5 @@
--- The drafts of `concat_turn` are, line by line, `concat_turn_lines` of `Routines.antt`, the code that turns to the second of two Strings.
+-- `concat_turn` returns exactly the assembly code that `concat_turn_lines` of `Routines.antt` defines, which sets the registers to copy the second of two
+-- Strings.
 use Rattle.cool_runtime.specs.Labels.{concat_second}
 use Rattle.cool_runtime.proofs.routine_part.concat_turn.Goals as goal
 

@@ -1,4 +1,5 @@
--- The drafts of `copy_first` are, line by line, `copy_first_lines` of `Routines.antt`, the code that asks for room for the copy of an object.
+-- `copy_first` returns exactly the assembly code that `copy_first_lines` of `Routines.antt` defines, which tests that the heap has room for the copy of an
+-- object.
 use Rattle.cool_runtime.specs.Labels.{copy, heap_limit}
 use Rattle.cool_runtime.proofs.routine_part.copy_first.Goals as goal
 

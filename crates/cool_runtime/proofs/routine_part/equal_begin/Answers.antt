@@ -1,4 +1,5 @@
--- The drafts of `equal_begin` are, line by line, `equal_begin_lines` of `Routines.antt`, the code that compares the addresses and tags of two objects.
+-- `equal_begin` returns exactly the assembly code that `equal_begin_lines` of `Routines.antt` defines, which compares the addresses and the class tags of two
+-- objects.
 use Rattle.std.proofs.Common.{◌≡◌, map, [], ◌∷◌}
 use Rattle.cool_runtime.specs.Labels.{bool_prototype, equal_false, equal_strings, equal_true, equal_values, equality, int_prototype, string_prototype}
 use Rattle.cool_runtime.specs.Drafts.{drafted}

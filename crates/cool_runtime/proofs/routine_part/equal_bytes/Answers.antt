@@ -1,4 +1,4 @@
--- The drafts of `equal_bytes` are, line by line, `equal_bytes_lines` of `Routines.antt`, the loop that compares the bytes of two Strings.
+-- `equal_bytes` returns exactly the assembly code that `equal_bytes_lines` of `Routines.antt` defines, which compares the bytes of two Strings in a loop.
 use Rattle.cool_runtime.specs.Labels.{equal_bytes, equal_false, equal_true}
 use Rattle.cool_runtime.proofs.routine_part.equal_bytes.Goals as goal
 

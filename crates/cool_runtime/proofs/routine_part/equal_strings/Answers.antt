@@ -1,4 +1,4 @@
--- The drafts of `equal_strings` are, line by line, `equal_strings_lines` of `Routines.antt`, the code that compares the lengths of two Strings.
+-- `equal_strings` returns exactly the assembly code that `equal_strings_lines` of `Routines.antt` defines, which compares the lengths of two Strings.
 use Rattle.cool_runtime.specs.Labels.{equal_false, equal_strings}
 use Rattle.cool_runtime.proofs.routine_part.equal_strings.Goals as goal
 

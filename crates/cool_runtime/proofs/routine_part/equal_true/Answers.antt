@@ -1,4 +1,4 @@
--- The drafts of `equal_true` are, line by line, `equal_true_lines` of `Routines.antt`, the code that returns the Bool true.
+-- `equal_true` returns exactly the assembly code that `equal_true_lines` of `Routines.antt` defines, which returns the Bool true.
 use Rattle.cool_runtime.specs.Labels.{equal_true, true_constant}
 use Rattle.cool_runtime.proofs.routine_part.equal_true.Goals as goal
 

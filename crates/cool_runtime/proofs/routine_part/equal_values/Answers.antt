@@ -1,4 +1,4 @@
--- The drafts of `equal_values` are, line by line, `equal_values_lines` of `Routines.antt`, the code that compares the values of two Ints or Bools.
+-- `equal_values` returns exactly the assembly code that `equal_values_lines` of `Routines.antt` defines, which compares the values of two Ints or Bools.
 use Rattle.cool_runtime.specs.Labels.{equal_false, equal_true, equal_values}
 use Rattle.cool_runtime.proofs.routine_part.equal_values.Goals as goal
 

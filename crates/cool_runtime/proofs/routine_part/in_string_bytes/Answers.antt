@@ -1,4 +1,4 @@
--- The drafts of `in_string_bytes` are, line by line, `in_string_bytes_lines` of `Routines.antt`, the loop that reads bytes up to a newline.
+-- `in_string_bytes` returns exactly the assembly code that `in_string_bytes_lines` of `Routines.antt` defines, which reads bytes up to a newline in a loop.
 use Rattle.std.proofs.Common.{◌≡◌, map, [], ◌∷◌}
 use Rattle.cool_runtime.specs.Labels.{heap_limit, in_string_bytes, in_string_end}
 use Rattle.cool_runtime.specs.Drafts.{drafted}

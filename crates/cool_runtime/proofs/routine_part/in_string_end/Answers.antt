@@ -1,4 +1,4 @@
--- The drafts of `in_string_end` are, line by line, `in_string_end_lines` of `Routines.antt`, the code that computes the length of a line.
+-- `in_string_end` returns exactly the assembly code that `in_string_end_lines` of `Routines.antt` defines, which computes the length of the line that was read.
 use Rattle.cool_runtime.specs.Labels.{in_string_end}
 use Rattle.cool_runtime.proofs.routine_part.in_string_end.Goals as goal
 

@@ -1,4 +1,5 @@
--- The drafts of `no_branch` are, line by line, `no_branch_lines` of `Routines.antt`, the code that ends a case in which no branch matches.
+-- `no_branch` returns exactly the assembly code that `no_branch_lines` of `Routines.antt` defines, which reports a `case` in which no branch matches, and exits
+-- with status 3.
 use Rattle.std.proofs.Common.{◌≡◌, map, [], ◌∷◌}
 use Rattle.cool_runtime.specs.Labels.{case_abort, colon_text, name_table, no_branch_text, stop_text}
 use Rattle.cool_runtime.specs.Drafts.{drafted}

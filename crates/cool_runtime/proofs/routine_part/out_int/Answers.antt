@@ -1,4 +1,4 @@
--- The drafts of `out_int` are, line by line, `out_int_lines` of `Routines.antt`, the code that writes the Int at `$sp`.
+-- `out_int` returns exactly the assembly code that `out_int_lines` of `Routines.antt` defines, which prints the Int on top of the stack.
 use Rattle.cool_runtime.specs.Labels.{out_int}
 use Rattle.cool_runtime.proofs.routine_part.out_int.Goals as goal
 

@@ -1,4 +1,4 @@
--- The drafts of `out_string` are, line by line, `out_string_lines` of `Routines.antt`, the code that writes the String at `$sp`.
+-- `out_string` returns exactly the assembly code that `out_string_lines` of `Routines.antt` defines, which prints the String on top of the stack.
 use Rattle.cool_runtime.specs.Labels.{out_string}
 use Rattle.cool_runtime.proofs.routine_part.out_string.Goals as goal
 

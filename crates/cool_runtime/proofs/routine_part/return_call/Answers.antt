@@ -1,4 +1,4 @@
--- The drafts of `return_call` are, line by line, `return_lines` of `Routines.antt`: the return from a call.
+-- `return_call` returns exactly the assembly code that `return_lines` of `Routines.antt` defines, which returns from a call.
 use Rattle.cool_runtime.proofs.routine_part.return_call.Goals as goal
 
 pub returns : goal.returns

@@ -1,4 +1,4 @@
--- The drafts of `substr_begin` are, line by line, `substr_begin_lines` of `Routines.antt`, the code that tests the range of a part of a String.
+-- `substr_begin` returns exactly the assembly code that `substr_begin_lines` of `Routines.antt` defines, which tests that a part lies within a String.
 use Rattle.cool_runtime.specs.Labels.{string_substr, substr_abort}
 use Rattle.cool_runtime.proofs.routine_part.substr_begin.Goals as goal
 
