@@ -1,4 +1,4 @@
--- The classes above a class are the chain of its parent.
+-- The proper ancestors of a class are its parent and the ancestors of its parent.
 use Rattle.std.proofs.Common.{◌≡◌, ◌<◌, List, [], length, Option, Some, None, Bool, sym, ap, ◌∙◌, subst}
 use Rattle.std.specs.Prelude.{IsTrue, ◌↔◌}
 use Rattle.cool_classes.specs.declared.class_id.ClassId.{ClassId}

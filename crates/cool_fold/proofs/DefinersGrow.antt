@@ -1,4 +1,4 @@
--- Lemmas on the classes that define a method of a name: `add` adds one more class to them, and `is_redefined` searches them.
+-- Lemmas on the map from each method name to the classes that define a method of this name: `add` adds one class to it, and `is_redefined` searches it.
 use Rattle.std.proofs.Common.{cond, ◌≡◌, ℕ, zero, suc, ◌+◌, ◌<◌, ◌≤◌, List, [], ◌∷◌, ◌++◌, length, get_or, Option, Some, None, Bool as Truth, true, false, true≢false, refl, ap, sym, ◌∙◌, arith}
 use Rattle.std.specs.Prelude.{Result, OnOk, Ok, Err, ◌&&◌, ◌||◌, not, bytes_eq, is_some, option_map, if◌then◌else◌}
 use Rattle.std.specs.Borrow.{Bor}

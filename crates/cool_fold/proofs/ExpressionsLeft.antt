@@ -1,4 +1,5 @@
--- Lemmas for the loops of `add_folded` and `folded_expressions`: the expressions of one feature or class come before those that are left.
+-- Lemmas for the loops of `add_folded` and `folded_expressions`: the expressions of one feature or class come before those of the features or classes that are
+-- left.
 use Rattle.std.proofs.Common.{◌≡◌, ℕ, zero, suc, ◌+◌, ◌≤◌, ◌<◌, List, [], ◌∷◌, ◌++◌, length, drop, Option, Some, ap, sym, ◌∙◌, refl, subst, append_assoc, arith}
 use Rattle.std.specs.Prelude.{slice_get, option_map, unwrap_or}
 use Rattle.std.proofs.Math.ListN.{drop_of_length-le}

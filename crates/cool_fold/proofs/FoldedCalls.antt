@@ -1,4 +1,5 @@
--- If calls have the same results in two tables of the same shape (`SameTables`), so have new objects, dispatches, loops and branches.
+-- If method calls have the same results in two class tables with the same chains, methods and attributes (`SameTables`), so have new objects, dispatches, loops
+-- and branches.
 use Rattle.std.proofs.Common.{◌≡◌, ◌+◌, ℕ, zero, suc, ◌<◌, ◌≤◌, pos, List, [], ◌∷◌, map, length, Option, Some, None, Bool, true, false, ap, sym, ◌∙◌, refl, subst, arith}
 use Rattle.std.specs.Prelude.{Contains, if◌then◌else◌, ◌==◌, slice_get}
 use Rattle.std.specs.List.{AllByRecursion}

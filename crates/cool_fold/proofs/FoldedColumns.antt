@@ -1,4 +1,4 @@
--- The nodes of folded expressions have the same types by the folded table as by the original one. Lemmas for the loops that collect these types.
+-- Each node of a folded expression has the same static type in the folded class table as in the original one. Lemmas for the loops that collect these types.
 use Rattle.std.proofs.Common.{◌≡◌, ℕ, ◌+◌, ◌≤◌, ◌<◌, List, [], ◌∷◌, ◌++◌, map, length, drop, Option, Some, None, refl, ap, sym, ◌∙◌, append_assoc, arith}
 use Rattle.std.specs.Prelude.{slice_get, option_map}
 use Rattle.std.proofs.Math.ListN.{drop_of_length-le}

@@ -1,4 +1,4 @@
--- A conditional with a decided test is folded to the part that the test takes, if this part has the type of the whole.
+-- A conditional whose test is a constant is folded to the branch that the test takes, if this branch has the type of the conditional.
 use Rattle.std.proofs.Common.{◌≡◌, ℕ, ◌+◌, ◌<◌, ◌≤◌, ◌⊎◌, inl, inr, List, ◌++◌, length, take, Option, Some, None, Bool as Truth, true, false, Ok, Err, refl, sym, ap, ◌∙◌, subst, length-take, arith}
 use Rattle.std.proofs.Math.Seq.{take-append_seam}
 use Rattle.std.specs.Prelude.{OnOk, Result, if◌then◌else◌, slice_get, unwrap_or}

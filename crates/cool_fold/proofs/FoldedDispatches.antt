@@ -1,4 +1,5 @@
--- A folded dispatch has the same result as the dispatch, and no meter is greater, also if it became a static dispatch to the only method.
+-- A folded dispatch has the same result as the original one, and no cost counter (meter) is greater, also if folding made it a static dispatch to the only
+-- possible method.
 use Rattle.std.proofs.Common.{◌≡◌, ℕ, ◌<◌, List, map, length, Option, Some, Bool, true, false, sym, ◌∙◌, refl, subst, arith}
 use Rattle.std.specs.Prelude.{if◌then◌else◌}
 use Rattle.cool_syntax.specs.declared.place.Place.{Place}

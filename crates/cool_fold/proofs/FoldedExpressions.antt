@@ -1,4 +1,4 @@
--- A folded expression has the same result as the expression, and no meter is greater, if this holds of calls.
+-- A folded expression has the same result as the original one, and no cost counter (meter) is greater, if this holds for the calls that it makes.
 use Rattle.std.proofs.Common.{◌≡◌, ◌*◌, ◌≢◌, ℕ, suc, ◌<◌, List, [], ◌∷◌, map, length, Option, Some, Bool, true, false, ap, sym, ◌∙◌, refl, subst, neg_ℤ, not}
 use Rattle.std.specs.Prelude.{if◌then◌else◌, bytes_eq, slice_get}
 use Rattle.std.proofs.lemmas.Slice.Eq.{bytes_eq-Decides}

@@ -1,4 +1,4 @@
--- The expression of each folded feature of a typed table conforms to the declared type, and nothing is left to fold in it.
+-- The expression of each folded feature of a class table without type errors conforms to the declared type, and nothing is left to fold in it.
 use Rattle.std.proofs.Common.{◌≡◌, ◌++◌, ℕ, ◌<◌, List, [], length, Option, Some, None, ap, sym, subst}
 use Rattle.std.specs.Prelude.{slice_get}
 use Rattle.cool_syntax.specs.declared.file_tree.Feature.{Feature}

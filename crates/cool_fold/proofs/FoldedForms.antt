@@ -1,4 +1,4 @@
--- Lemmas for `place_unary` and `place_binary`: the node that they append after the nodes of the folded operands makes the folded expression.
+-- The node that `place_unary` or `place_binary` appends after the nodes of the folded operands completes the nodes of the folded expression.
 use Rattle.std.proofs.Common.{◌≡◌, ℕ, ℤ, ◌+◌, List, [], ◌∷◌, ◌++◌, length, Option, Some, None, Bool as Truth, true, false, Ok, refl, sym, ap, ◌∙◌, subst, append_assoc}
 use Rattle.std.specs.Prelude.{Result, IfOk, OnOk, neg_ℤ, ◌+ℤ◌, ◌-ℤ◌, ◌*ℤ◌, int_div, not, if◌then◌else◌}
 use Rattle.std.specs.Option.{option_map}

@@ -1,4 +1,4 @@
--- A folded program runs as the program does: with the same end, output and remaining input, and with no meter greater.
+-- A folded program runs as the original program does: with the same end, output and remaining input, and with no cost counter (meter) greater.
 use Rattle.std.proofs.Common.{◌≡◌, ◌++◌, ℕ, ◌≤◌, List, [], ◌∷◌, map, length, Option, Some, ap, sym, ◌∙◌, refl, subst, arith}
 use Rattle.std.specs.Prelude.{codes}
 use Rattle.cool_classes.specs.declared.class_id.ClassId.{ClassId}

@@ -1,4 +1,4 @@
--- If a node is placed after the nodes of its folded parts, or a constant in their place, the result is the folded tree.
+-- If a node is appended after the nodes of its folded parts, or a constant replaces these nodes, the result is the nodes of the folded expression.
 use Rattle.std.proofs.Common.{◌≡◌, ℕ, ℤ, ◌+◌, List, [], ◌∷◌, ◌++◌, length, take, Option, Some, None, Bool as Truth, true, Ok, Err, refl, sym, ap, ◌∙◌, append_assoc, length-append, arith}
 use Rattle.std.proofs.Math.Seq.{take-append_seam}
 use Rattle.std.specs.Prelude.{Result, IfOk, OnOk}

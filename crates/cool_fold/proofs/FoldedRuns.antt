@@ -1,4 +1,4 @@
--- Calls in a folded program have the same results as in the program, and so have its runs, with no meter greater.
+-- Calls and whole runs have the same results in a folded program as in the original program, and no cost counter (meter) is greater.
 use Rattle.std.proofs.Common.{◌≡◌, ◌++◌, ℕ, zero, suc, ◌<◌, List, [], ◌∷◌, map, length, Option, Some, None, ap, sym, ◌∙◌, refl, subst, arith}
 use Rattle.std.specs.Prelude.{option_map, Contains, slice_get}
 use Rattle.std.specs.List.{AllByRecursion}

@@ -1,4 +1,4 @@
--- A folded expression has no more nodes and no more branches than the expression, and its string constants have no more bytes.
+-- A folded expression has no more nodes and no more branches than the original one, and its string constants have no more bytes.
 use Rattle.std.proofs.Common.{◌≡◌, ℕ, ◌+◌, ◌≤◌, ℤ, neg_ℤ, List, Option, Some, None, Bool as Truth, true, false, refl, sym, subst, arith}
 use Rattle.std.specs.Prelude.{int_lt, int_le, if◌then◌else◌}
 use Rattle.cool_syntax.specs.declared.place.Place.{Place}

@@ -1,4 +1,4 @@
--- The folded table of a typed table is typed, and nothing is left to fold in it.
+-- If a class table has no type errors, the folded table has none, and nothing is left to fold in it.
 use Rattle.std.proofs.Common.{◌≡◌, ℕ, List, [], ◌∷◌, ◌++◌, map, Option, Some, None, refl, sym, ap, ◌∙◌, subst}
 use Rattle.std.specs.Prelude.{slice_get, option_map, unwrap_or, IfSome}
 use Rattle.std.specs.List.{AllByRecursion}

@@ -1,4 +1,4 @@
--- The folded table has the same classes, chains, methods and attributes as the table, with each feature folded.
+-- The folded class table has the same classes, chains, methods and attributes as the original table, and each feature is folded.
 use Rattle.std.proofs.Common.{◌≡◌, ℕ, zero, suc, ◌+◌, List, [], ◌∷◌, map, get_or, refl, sym, ap, ◌∙◌, arith}
 use Rattle.std.specs.Prelude.{slice_get, option_map}
 use Rattle.cool_syntax.specs.declared.file_tree.Feature.{Feature}

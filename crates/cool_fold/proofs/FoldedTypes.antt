@@ -1,4 +1,4 @@
--- A folded expression has the type that the expression has.
+-- A folded expression has the same static type as the original expression.
 use Rattle.std.proofs.Common.{◌≡◌, ℕ, ℤ, ◌<◌, List, [], ◌∷◌, length, Option, Some, None, Bool as Truth, true, false, refl, sym, ap, ◌∙◌, subst, neg_ℤ}
 use Rattle.std.specs.Prelude.{int_lt, int_le, if◌then◌else◌}
 use Rattle.cool_syntax.specs.declared.place.Place.{Place}

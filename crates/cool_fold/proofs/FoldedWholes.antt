@@ -1,4 +1,4 @@
--- Lemmas for the functions of `place_form.rt`: the node that each appends after the nodes of the folded parts makes the folded expression.
+-- The node that a function of `place_form.rt`, such as `place_if`, appends after the nodes of the folded parts completes the nodes of the folded expression.
 use Rattle.std.proofs.Common.{◌≡◌, ℕ, ◌+◌, List, [], ◌∷◌, ◌++◌, length, Option, Some, None, Bool as Truth, true, false, Ok, refl, sym, ap, ◌∙◌, append_assoc, length-append}
 use Rattle.std.specs.Prelude.{Result, IfOk, OnOk, if◌then◌else◌, unwrap_or}
 use Rattle.std.specs.Global.{Vec}

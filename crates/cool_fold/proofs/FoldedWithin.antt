@@ -1,5 +1,5 @@
--- A folded expression keeps the limits: its places stand in the files, its names are identifiers, and its constants are words and strings of
--- the source.
+-- A folded expression is within the limits: its source locations are in the files, its names are identifiers, its numbers have 32 bits, and its strings are
+-- strings of the source.
 use Rattle.std.proofs.Common.{◌≡◌, ℕ, ◌<◌, ◌^◌, ℤ, pos, negsuc, neg_ℤ, List, [], ◌∷◌, length, Option, Some, None, Bool as Truth, true, false, refl, sym, subst, arith}
 use Rattle.std.specs.Prelude.{int_lt, int_le, int_div, ◌+ℤ◌, ◌-ℤ◌, ◌*ℤ◌, if◌then◌else◌}
 use Rattle.cool_syntax.specs.declared.place.Place.{Place}

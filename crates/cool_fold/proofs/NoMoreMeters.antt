@@ -1,4 +1,5 @@
--- Lemmas on two computations with the same results and with no meter greater in the second, from every store that fits its world.
+-- If computations are replaced by others with the same results and no greater cost counters (meters), this also holds for the computations composed of them,
+-- from every store whose values fit the classes of their locations.
 use Rattle.std.proofs.Common.{◌≡◌, ℕ, zero, suc, ◌<◌, ◌≤◌, Bool as Truth, true, false, List, refl, sym, ◌∙◌, subst, arith}
 use Rattle.std.specs.Prelude.{if◌then◌else◌}
 use Rattle.cool_classes.specs.Chains.{Class}

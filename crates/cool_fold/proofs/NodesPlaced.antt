@@ -1,4 +1,4 @@
--- Lemmas on the nodes of a tree that are appended to other nodes: the last one is the root, and they are as many as the tree has.
+-- If the nodes of a tree are appended to a list of nodes, the last node of the list is the root, and the list is longer by the number of nodes of the tree.
 use Rattle.std.proofs.Common.{◌≡◌, ℕ, ◌+◌, ◌-◌, ℤ, List, [], ◌∷◌, ◌++◌, Option, Some, None, Bool as Truth, length, sym, ap, ◌∙◌, append_assoc, length-append, arith}
 use Rattle.std.proofs.Math.Seq.{take-append_seam}
 use Rattle.cool_syntax.specs.declared.node.Node.{Node}

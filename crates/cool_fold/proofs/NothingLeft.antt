@@ -1,4 +1,4 @@
--- Nothing is left to fold in a folded expression.
+-- A folded expression has no node that can be folded further.
 use Rattle.std.proofs.Common.{◌≡◌, ℕ, ℤ, ◌<◌, List, [], ◌∷◌, length, Option, Some, None, Bool as Truth, true, false, refl, sym, ap, ◌∙◌, subst, neg_ℤ}
 use Rattle.std.specs.Prelude.{int_lt, int_le, if◌then◌else◌}
 use Rattle.cool_syntax.specs.declared.place.Place.{Place}

@@ -1,4 +1,4 @@
--- If no class properly below a class defines a method, every class below it has the method that it has itself.
+-- If no proper subclass of a class defines a method of a name, all subclasses have the method that the class itself has.
 use Rattle.std.proofs.Common.{◌≡◌, ◌⊎◌, inl, inr, ℕ, zero, suc, ◌+◌, ◌<◌, ◌≤◌, List, [], ◌∷◌, length, Option, Some, None, Bool as Truth, true, false, refl, sym, ap, ◌∙◌, subst, arith}
 use Rattle.std.specs.Prelude.{Contains, is_some, ◌&&◌, ◌||◌}
 use Rattle.std.specs.List.{list_any}

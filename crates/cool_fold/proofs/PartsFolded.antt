@@ -1,4 +1,5 @@
--- The invariants of the loops of `fold_all` and `fold_branches`: the parts before the current one are folded, and the others are left.
+-- In the loops of `fold_all` and `fold_branches`, the folded parts before the current one, followed by those that are left, are all folded parts; so it is with
+-- their nodes and types.
 use Rattle.std.proofs.Common.{◌≡◌, List, [], ◌∷◌, ◌++◌, length, Ok, refl, ◌∙◌}
 use Rattle.cool_syntax.specs.declared.node.NodeBranch.{NodeBranch}
 use Rattle.cool_syntax.specs.declared.node.NodeId.{NodeId}

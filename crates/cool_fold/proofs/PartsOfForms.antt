@@ -1,4 +1,4 @@
--- Lemmas for `fold_unary` and `fold_binary`: the operands of an operator have smaller numbers, and have the same names in scope as the operator.
+-- The operands of an operator in a body have smaller node numbers than the operator, and the same names in scope.
 use Rattle.std.proofs.Common.{◌≡◌, ℕ, ◌+◌, ◌<◌, List, refl, sym, subst}
 use Rattle.cool_syntax.specs.declared.node.Node.{Node}
 use Rattle.cool_syntax.specs.declared.node.Node.TheVariants.{Assign, IsVoid, Arith, Neg, Compare, Not}

@@ -1,4 +1,5 @@
--- The nodes of several parts are those of the first part and then those of the others, and so are the numbers of their roots.
+-- The appended nodes of several expressions are those of the first expression followed by those of the others, and the numbers of their roots are in the same
+-- order.
 use Rattle.std.proofs.Common.{◌≡◌, ℕ, ◌+◌, List, [], ◌∷◌, ◌++◌, length, ◌∙◌, append_assoc}
 use Rattle.cool_syntax.specs.declared.node.Node.{Node}
 use Rattle.cool_syntax.specs.declared.node.NodeId.{NodeId}

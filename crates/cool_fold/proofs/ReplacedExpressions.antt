@@ -1,4 +1,4 @@
--- A table in which the expressions of the folded table replace all expressions is the folded table.
+-- If the expressions of a class table are replaced by those of the folded table, the result is the folded table.
 use Rattle.std.proofs.Common.{◌≡◌, ℕ, zero, suc, ◌+◌, ◌<◌, List, [], ◌∷◌, ◌++◌, map, length, Option, Some, None, ap, sym, ◌∙◌, refl, subst, append_assoc, arith}
 use Rattle.std.specs.Prelude.{slice_get, option_map, IsSome}
 use Rattle.std.specs.List.{AllByRecursion}

@@ -1,4 +1,4 @@
--- An operator on constants and the constant that folding puts in its place have the same result, and no meter is greater.
+-- An operator on constants and the constant that folding puts in its place have the same result, and no cost counter (meter) is greater for the constant.
 use Rattle.std.proofs.Common.{◌≡◌, ℕ, ◌-◌, ◌%◌, ◌<◌, ◌≤◌, ℤ, pos, negsuc, Bool as Truth, true, false, not, List, Option, Some, None, refl, sym, ap, ◌∙◌, subst, arith}
 use Rattle.std.specs.Prelude.{if◌then◌else◌, nat_lt, ◌+ℤ◌, ◌-ℤ◌, ◌*ℤ◌, neg_ℤ, int_div, int_lt, int_le}
 use Rattle.cool_syntax.specs.declared.place.Place.{Place}

@@ -1,4 +1,5 @@
--- If look-ups find the same in two tables (`FindSame`), chains, scopes, types of names, joins and methods are the same in both.
+-- If look-ups in two class tables have the same results (`FindSame`), the tables agree on ancestors of classes, names in scope, types of names, least common
+-- ancestors and methods.
 use Rattle.std.proofs.Common.{◌≡◌, ℕ, zero, suc, List, [], ◌∷◌, map, length, Option, Some, None, Bool as Truth, refl, ap, ◌∙◌, arith}
 use Rattle.std.specs.Prelude.{bytes_eq, unwrap_or, option_map, is_some, if◌then◌else◌, ◌&&◌, ◌||◌}
 use Rattle.std.specs.List.{list_any}

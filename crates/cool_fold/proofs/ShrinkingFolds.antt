@@ -1,4 +1,4 @@
--- If an expression is typed, `shrunk` of `Shrinking.antt`, which the code computes, is the folded expression of `Folding.antt`.
+-- The folded expression that the code computes (`shrunk` of `Shrinking.antt`) is that of `Folding.antt` if the original expression has no type errors.
 use Rattle.std.proofs.Common.{◌≡◌, ℤ, ◌<◌, List, [], ◌∷◌, length, Option, Some, None, Bool as Truth, true, false, refl, sym, ◌∙◌, subst}
 use Rattle.std.specs.Prelude.{int_lt, int_le, not, if◌then◌else◌, unwrap_or}
 use Rattle.std.specs.Option.{option_map}

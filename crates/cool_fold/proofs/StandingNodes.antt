@@ -1,4 +1,5 @@
--- A node of a body has the type of its entry in the column, and facts about the node hold of the expression at its number.
+-- The static type of a node in a body is the entry at its number in the array of types (the column), and facts about the node hold of the expression of which
+-- it is the root.
 use Rattle.std.proofs.Common.{◌≡◌, List, Some, ap, sym, ◌∙◌, subst}
 use Rattle.std.specs.Prelude.{Result, slice_get}
 use Rattle.std.proofs.lemmas.Option.{same_Some}

@@ -1,5 +1,5 @@
--- An expression has the same static type in two tables of the same shape (`FindSame`). If nothing is left to fold in it by one table, nothing is left by the
--- other.
+-- If look-ups in two class tables have the same results (`FindSame`), an expression has the same static type in both. If nothing is left to fold in it by one
+-- table, nothing is left by the other.
 use Rattle.std.proofs.Common.{◌≡◌, ℕ, List, Option, Some, None, Bool as Truth, refl, sym, ap, ◌∙◌, subst}
 use Rattle.std.specs.Prelude.{unwrap_or}
 use Rattle.cool_syntax.specs.Tree.{Tree, Trees, MaybeTree, Cases, Last, More, Without, With, NoCase, CaseOf}

@@ -1,4 +1,4 @@
--- Each appended node has one type in the column, and the types of several parts are in the order of the parts.
+-- Each appended node has one entry in the array of types (the column), and the types of several expressions are in the order of the expressions.
 use Rattle.std.proofs.Common.{◌≡◌, List, ◌++◌, length, Ok, Option, ap, sym, ◌∙◌, append_assoc, length-append, arith}
 use Rattle.cool_syntax.specs.declared.node.Node.{Node}
 use Rattle.cool_syntax.specs.declared.node.NodeId.{NodeId}

@@ -1,4 +1,5 @@
--- In two tables of the same shape (`FindSame` of `AlikeTables.antt`), the same expressions are typed, with the same types.
+-- If look-ups in two class tables have the same results (`FindSame` of `AlikeTables.antt`), an expression without type errors in one table has none in the
+-- other, and has the same type.
 use Rattle.std.proofs.Common.{◌≡◌, ℕ, List, [], ◌∷◌, ◌++◌, Some, sym, ◌∙◌, subst}
 use Rattle.std.specs.List.{AllByRecursion}
 use Rattle.cool_syntax.specs.Tree.{Tree, Trees, MaybeTree, Cases, Last, More, Without, With, NoCase, CaseOf}

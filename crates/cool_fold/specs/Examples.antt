@@ -1,4 +1,4 @@
--- Worked examples of folding: the result of each row, and expressions that are left as they are.
+-- Worked examples of folding: the result for each kind of expression that folding changes, and expressions that are left as they are.
 use Rattle.std.specs.Prelude.{◌≡◌, refl, ℕ, true, false, List, [], ◌∷◌, ◌++◌, Some, codes}
 use Rattle.cool_syntax.specs.declared.type_ref.TypeRef.{TypeRef}
 use Rattle.cool_syntax.specs.declared.file_tree.Feature.{Feature}

@@ -1,4 +1,4 @@
--- `Folds` is the postcondition of folding an expression: the nodes of the folded tree are added after those already placed, with their types.
+-- `Folds` is the postcondition of folding an expression: the nodes of the folded expression are appended after those that were there, with their types.
 use Rattle.std.specs.Prelude.{◌≡◌, ℕ, ℤ, Bool as Truth, List, [], ◌∷◌, ◌++◌, length, take, Option, Some, None, Result, IfOk, OnOk}
 use Rattle.std.specs.Global.{Vec}
 use Rattle.cool_syntax.specs.declared.node.Node.{Node}

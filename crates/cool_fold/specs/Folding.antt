@@ -1,5 +1,5 @@
--- `fold` is the result of constant folding for each form of expression, bottom up; Examples.antt has an example of each row. A constant is a number, a string
--- or a truth of the source. An expression that has no value by the rules of running is left as it is, with its place.
+-- `fold` is the result of constant folding for each form of expression, bottom up; Examples.antt has examples. A constant is a number, a string or a Boolean of
+-- the source. An operator whose evaluation would be a run-time error is left as it is, with its source location.
 use Rattle.std.specs.Prelude.{ℕ, zero, suc, ◌+◌, ℤ, ◌+ℤ◌, ◌-ℤ◌, ◌*ℤ◌, neg_ℤ, int_div, int_lt, int_le, Bool as Truth, true, false, not, ◌&&◌, if◌then◌else◌, List, [], ◌∷◌, ◌++◌, map, length, Option, Some, None, is_some}
 use Rattle.std.specs.List.{list_any}
 use Rattle.cool_syntax.specs.declared.place.Place.{Place}

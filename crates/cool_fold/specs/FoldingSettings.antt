@@ -1,5 +1,5 @@
--- `IsSound` is the precondition for folding an expression: it is in a class of a whole table, and there is a type of the table for each of its nodes.
--- `IsStanding` says that a node has a number in the body: its parts are parts of the body, and its type is that of the rules.
+-- `IsSound` is the precondition for folding an expression: its class is in a complete class table, and each of its nodes has a type of this table. `IsStanding`
+-- says that a node has a number in the body: its parts are parts of the body, and its type is the static type.
 use Rattle.std.specs.Prelude.{◌≡◌, ◌<◌, List, length, slice_get, Some}
 use Rattle.std.specs.List.{AllByRecursion}
 use Rattle.cool_syntax.specs.declared.node.Node.{Node}

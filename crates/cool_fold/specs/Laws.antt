@@ -1,4 +1,5 @@
--- `NoMoreRun` says that the run of a folded program ends, writes and reads as the run of the program does, and that no meter is greater.
+-- `NoMoreRun` says that the run of a folded program ends, writes and reads as the run of the original program does, and that no cost counter (meter) is
+-- greater.
 use Rattle.std.specs.Prelude.{◌≡◌, ◌≤◌}
 use Rattle.cool_meaning.specs.SourceRun.{Run}
 

@@ -1,5 +1,5 @@
--- Postconditions, one for each form, of placing a node after the nodes of its parts: if the parts were folded one after the other, and the node's type is
--- right, then the form is folded. They say nothing about nodes of other forms.
+-- Postconditions of appending a node after the nodes of its folded parts, one for each form of expression: if the node's type is right, the nodes are those of
+-- the folded expression. They say nothing about nodes of other forms.
 use Rattle.std.specs.Prelude.{◌≡◌, ℕ, List, length, Option, None, Ok, Result}
 use Rattle.std.specs.Global.{Vec}
 use Rattle.std.specs.declared.alloc.AllocError.{AllocError}

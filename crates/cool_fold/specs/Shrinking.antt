@@ -1,5 +1,5 @@
--- `shrunk` is folding as the code does it: it replaces a conditional by the part that the test takes if the types before folding allow it. For a typed
--- expression `shrunk` is `fold`, because a folded part keeps its type.
+-- `shrunk` defines folding as the code does it: a conditional is replaced by the branch that its test takes if the types before folding allow it. If an
+-- expression has no type errors, `shrunk` is `fold`, because a folded part keeps its type.
 use Rattle.std.specs.Prelude.{ℤ, neg_ℤ, int_lt, int_le, Bool as Truth, true, false, not, if◌then◌else◌, List, Option, Some, None, unwrap_or}
 use Rattle.std.specs.Option.{option_map}
 use Rattle.cool_syntax.specs.declared.place.Place.{Place}

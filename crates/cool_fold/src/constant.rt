@@ -1,4 +1,4 @@
-//! Constants, and the results of operators on them.
+//! Constants, and the results of operators on constants.
 
 ghost use Rattle.std.specs.Prelude.{◌≡◌, not};
 ghost use Rattle.std.specs.Option.{option_map};

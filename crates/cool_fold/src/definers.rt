@@ -1,4 +1,4 @@
-//! The classes that define a method of a name themselves, by the name of the method.
+//! A map from each method name to the classes that define a method of this name themselves.
 
 ghost use Rattle.std.specs.Prelude.{◌≡◌, ◌<◌, ◌++◌, ◌∷◌, [], ℕ, List, length, is_some, if◌then◌else◌, bytes_eq, IfOk, OnOk};
 ghost use Rattle.std.specs.List.{list_any};

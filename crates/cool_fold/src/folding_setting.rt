@@ -1,4 +1,4 @@
-//! The constant context of folding the expression of a feature, and whether a class below a class redefines a method.
+//! The constant context of folding an expression, and a test whether a proper subclass of a class redefines a method.
 
 ghost use Rattle.std.specs.Prelude.{◌≡◌, ◌<◌, length};
 ghost use Rattle.cool_classes.specs.ClimbedChains.{above};

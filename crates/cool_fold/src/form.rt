@@ -1,4 +1,4 @@
-//! The operands of operators and assignments.
+//! Returns the operands of operators and assignments.
 
 ghost use Rattle.std.specs.Prelude.{◌≡◌};
 ghost use Rattle.cool_syntax.specs.NodeGroups.{IsBinary, IsUnary};

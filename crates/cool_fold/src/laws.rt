@@ -1,4 +1,4 @@
-//! Laws on folded programs: they run as the programs do, are typed and keep the limits, and nothing is left to fold in them.
+//! Theorems on folded programs: they run as the original programs do, have no type errors, are within the limits of size, and have nothing left to fold.
 
 ghost use Rattle.std.specs.Prelude.{ℕ, List};
 ghost use Rattle.cool_classes.specs.Chains.{Class};

@@ -1,4 +1,5 @@
-//! Folding: constants are computed, tests on constants decided, and a dispatch that can go to only one method is called directly.
+//! Constant folding: operators on constants are computed, conditionals with constant tests decided, and a dispatch that can go to only one method becomes a
+//! direct call.
 //!
 //! Input: an accepted program. Output: the folded program. `specs/Folding.antt` defines the result for each form of expression and for a table, over the
 //! static types of `cool_rules`; `specs/Foldable.antt` defines when nothing is left to fold. The functions `law_*` state the properties of a folded

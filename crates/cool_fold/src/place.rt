@@ -1,4 +1,4 @@
-//! Appending the nodes of folded expressions, and the results of folding: the constant that an expression is, and the number of its node.
+//! Appends nodes of folded expressions or constants in their place, and returns the constant value, if there is one, with the number of the root.
 
 ghost use Rattle.std.specs.Prelude.{◌≡◌, ◌∷◌, ◌++◌, ◌-◌, ◌+◌, ◌<◌, ◌≤◌, ◌^◌, [], None, length, take, IfOk, OnOk};
 ghost use Rattle.cool_rules.specs.Typing.{bool_type, int_type};

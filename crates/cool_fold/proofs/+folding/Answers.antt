@@ -1,5 +1,5 @@
--- The functions of the group `folding`, such as `fold` and `fold_if`, append the nodes of a folded expression. Each folds the parts of a form first and then
--- places the form, or the part that a decided conditional takes.
+-- The functions that fold an expression recursively, such as `fold` and `fold_if`, append the nodes of the folded expression. Each folds the parts of an
+-- expression first and then appends the node of the expression itself, or keeps only the branch that a constant test takes.
 use Rattle.std.proofs.Common.{◌≡◌, ◌+◌, ◌-◌, ◌^◌, ◌<◌, ◌≤◌, List, ◌∷◌, length, drop, get_or, Ok, None, refl, sym, subst, ◌∙◌, ap, arith}
 use Rattle.std.proofs.lemmas.List.{drop_more}
 use Rattle.std.specs.List.{AllByRecursion}

@@ -1,5 +1,5 @@
--- The functions of the group `folding` end: from a node they go to its parts, which have smaller numbers. The loops of `fold_all` and `fold_branches` have
--- folded the parts before the current one.
+-- The functions that fold an expression recursively terminate: they go from a node to its parts, which have smaller numbers. The loops of `fold_all` and
+-- `fold_branches` have folded the parts before the current one.
 use Rattle.std.proofs.Common.{◌+◌, ◌*◌, ◌<◌, ◌≤◌, List, length, drop}
 use Rattle.std.specs.List.{AllByRecursion}
 use Rattle.cool_syntax.specs.Tree.{trees_size, cases_size}

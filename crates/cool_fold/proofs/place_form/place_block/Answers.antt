@@ -1,4 +1,4 @@
--- `place_block` appends the node of a block to the nodes of its folded items: together they are the nodes of the folded block.
+-- `place_block` appends the node of a block to the nodes of its folded expressions: together they are the nodes of the folded block.
 use Rattle.std.proofs.Common.{sym, subst}
 use Rattle.cool_syntax.specs.NodeLists.{trees_of}
 use Rattle.cool_fold.specs.PlacedForms.{PlacesBlock}

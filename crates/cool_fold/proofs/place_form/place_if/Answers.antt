@@ -1,5 +1,5 @@
--- `place_if` appends the node of a conditional to the nodes of its folded test and parts, if no part replaces the whole. Together they are the nodes of the
--- folded conditional.
+-- `place_if` appends the node of a conditional to the nodes of its folded test and branches, unless one branch replaces the conditional. Together they are the
+-- nodes of the folded conditional.
 use Rattle.std.proofs.Common.{refl, sym, subst}
 use Rattle.cool_syntax.specs.NodeLists.{tree_at}
 use Rattle.cool_fold.specs.PlacedForms.{PlacesConditional}

@@ -1,4 +1,4 @@
--- The loop of `fold` has put folded expressions into the table: with those that are left in their places it is the folded table.
+-- In the loop of `fold`, the class table has some folded expressions: with the others in their places, it is the folded table.
 use Rattle.std.proofs.Common.{length}
 use Rattle.cool_fold.specs.Folding.{fold_table}
 use Rattle.cool_fold.proofs.ReplacedExpressions.{Becomes}
