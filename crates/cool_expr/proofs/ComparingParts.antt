@@ -1,4 +1,4 @@
--- The parts of two expressions, which are lists of trees and of branches, compared element by element.
+-- Two lists of expressions or of `case` branches differ only in source locations exactly if their elements, compared one by one, differ only in these.
 use Rattle.std.proofs.Common.{◌≡◌, ◌↔◌, List, [], ◌∷◌, map, refl, sym, ◌∙◌, ap}
 use Rattle.cool_expr.specs.declared.expr.Expr.{Expr}
 use Rattle.cool_expr.specs.declared.expr.Branch.{Branch}

@@ -1,4 +1,4 @@
--- Trees parse to themselves from the tokens that they are written as.
+-- If a syntax tree is written as tokens, the grammar parses these tokens as the same tree.
 use Rattle.std.proofs.Common.{◌≡◌, ℕ, true, false, cond, List, [], ◌∷◌, ◌++◌, Option, Some, None, refl, ap, sym, ◌∙◌, append_assoc, append-nil}
 use Rattle.std.specs.List.{AllByRecursion}
 use Rattle.cool_syntax.specs.declared.place.Place.{Place}

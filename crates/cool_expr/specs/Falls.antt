@@ -1,4 +1,4 @@
--- Each part of an expression has fewer nodes than the expression.
+-- Each part of an expression in memory has fewer nodes than the expression, so that recursion over the parts terminates.
 use Rattle.std.specs.Prelude.{◌≤◌, ◌+◌, max, List, [], ◌∷◌, map, Some, None}
 use Rattle.std.proofs.Common.{arith}
 use denote.Param.Weighed.{most}

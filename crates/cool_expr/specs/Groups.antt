@@ -1,5 +1,5 @@
--- Groups of expressions: calls, bindings, control, unary, binary and leaf expressions. A function over all forms can thus be divided into one function for
--- each group.
+-- Groups of expressions: calls, bindings, control, unary, binary and leaf expressions. A function over all kinds of expressions can thus be divided into one
+-- function for each group.
 use Rattle.cool_expr.specs.declared.expr.Expr.{Expr}
 use Rattle.cool_expr.specs.declared.expr.Expr.TheVariants.{Assign, Dispatch, StaticDispatch, If, While, Block, Let, Case, New, IsVoid, Arith, Neg, Compare, Not, Id, Int, Str, Bool}
 

@@ -1,4 +1,4 @@
--- `tree` is the tree (Tree.antt of `cool_syntax`) of an expression in memory.
+-- `tree` converts an expression in memory to the syntax tree that contracts see (Tree.antt of `cool_syntax`).
 use Rattle.cool_expr.specs.declared.expr.Expr.{Expr}
 use Rattle.cool_expr.specs.declared.expr.Expr.TheVariants as variants
 use Rattle.cool_expr.specs.declared.expr.Branch.{Branch}

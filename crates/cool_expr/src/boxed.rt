@@ -1,4 +1,4 @@
-//! Trees of a pool as expressions in memory.
+//! Converts an expression stored in a pool (an arena of nodes) to an expression tree in memory.
 
 ghost use Rattle.std.specs.Prelude.{◌≡◌, ◌<◌, [], length, map, IfOk, IfSome};
 ghost use Rattle.std.specs.List.{AllByRecursion};

@@ -1,4 +1,4 @@
-//! Comparison of expressions, ignoring places.
+//! Compares two expressions, ignoring source locations.
 
 ghost use Rattle.std.specs.Prelude.{◌≡◌, ◌↔◌, IsTrue};
 ghost use Rattle.cool_syntax.specs.Tree.{of_list, of_option, of_twigs};

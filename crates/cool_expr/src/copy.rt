@@ -1,4 +1,4 @@
-//! Copies of expressions.
+//! Copies expressions.
 
 ghost use Rattle.std.specs.Prelude.{◌≡◌, IfOk};
 ghost use Rattle.cool_expr.specs.View.{tree, twig};

@@ -1,4 +1,4 @@
-//! Expressions as trees in memory.
+//! The type of expressions as trees in memory, with one variant for each form of expression.
 
 use crate::parts::{Branches, Child, Exprs};
 use cool_syntax::{ArithOp, Bytes, CompareOp, Name, Place, TypeRef};

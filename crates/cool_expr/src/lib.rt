@@ -1,5 +1,5 @@
-//! Expressions in boxes, apart from the lists of nodes that the commands work with: made of the nodes of a pool, copied and compared; and trees written as
-//! tokens. No command calls these.
+//! Expression trees in memory, which are made of the nodes of a pool, copied and compared, and the conversion of syntax trees back to tokens. No command calls
+//! these.
 //!
 //! Input: a pool, an expression, or the tree of a file. Output: an expression, the answer whether two are the same, or the tokens of a file.
 #![tactic(auto)]

@@ -1,4 +1,4 @@
-//! The parts of an expression, which contracts see as trees: no address and no capacity is part of them.
+//! The parts of an expression, which are boxed expressions and lists: contracts see only their trees, and no address or capacity.
 
 ghost use Rattle.std.specs.Prelude.{◌≡◌, [], ◌∷◌, ◌++◌, map, IfOk, if◌then◌else◌};
 ghost use Rattle.std.specs.Result.{is_ok};

@@ -1,4 +1,4 @@
-//! Tokens in the order in which they are written.
+//! A list of tokens to which a writer of expressions appends.
 
 ghost use Rattle.std.specs.Prelude.{◌≡◌, [], ◌∷◌, ◌++◌, OnOk};
 ghost use Rattle.cool_syntax.specs.Readings.{word, symbol, object, type};

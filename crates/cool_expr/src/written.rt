@@ -1,4 +1,4 @@
-//! The tokens that an expression is written as.
+//! Writes an expression as a list of tokens.
 
 ghost use Rattle.std.specs.Prelude.{◌≡◌, ◌<◌, List, ◌++◌, map, IfSome, OnOk};
 ghost use Rattle.std.specs.List.{AllByRecursion};

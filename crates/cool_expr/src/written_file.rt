@@ -1,4 +1,4 @@
-//! The tokens that a file is written as.
+//! Writes the syntax tree of a source file as a list of tokens.
 
 ghost use Rattle.std.specs.Prelude.{◌≡◌, ◌++◌, IfOk, OnOk};
 ghost use Rattle.cool_syntax.specs.declared.file_tree.Feature.TheVariants.{Method as AMethod, Attribute as AnAttribute};

@@ -1,4 +1,4 @@
--- The invariant of typed runs: each location was made for a class, and its value fits that class. Locations once made stay.
+-- In the run of a program without type errors, the value at each store location fits the class for which the location was made, and no location is removed.
 use Rattle.std.proofs.Common.{◌≡◌, ℕ, zero, suc, ◌<◌, List, [], ◌∷◌, ◌++◌, map, length, Some, Bool, true, false, cond, ap, sym, ◌∙◌, refl, subst, arith, append_assoc, append-nil}
 use Rattle.std.specs.Prelude.{bytes_eq, slice_get, slice_set}
 use Rattle.cool_classes.specs.declared.class_id.ClassId.{ClassId}

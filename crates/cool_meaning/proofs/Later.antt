@@ -1,4 +1,4 @@
--- States that come later: the output so far stays, and the input taken is gone.
+-- In each later state of an evaluation, the output begins with the output so far, and the input is what is left of the input so far.
 use Rattle.std.proofs.Common.{◌≡◌, ℕ, List, [], ◌++◌, ap, sym, ◌∙◌, append_assoc, append-nil}
 use Rattle.cool_meaning.specs.Values.{State}
 use Rattle.cool_meaning.specs.Meters.{Outcome, Val, Stop, On, Stuck, Computation, seq_of}

@@ -1,5 +1,5 @@
--- The result of a call does not depend on its limit of steps if at most that many are left: so an evaluation with enough steps is one with the calls of its
--- own level.
+-- The result of a call by `calls_within`, which has a limit of steps, is the same for all limits greater than the number of steps left. So an evaluation with
+-- enough steps is one with calls of the same limit.
 use Rattle.std.proofs.Common.{◌≡◌, ℕ, zero, suc, ◌+◌, ◌<◌, ◌≤◌, Bool, true, false, List, ap, sym, ◌∙◌, refl, subst, arith}
 use Rattle.std.specs.Prelude.{Option, Some, None, if◌then◌else◌, slice_get}
 use Rattle.cool_syntax.specs.Tree.{Tree}

@@ -1,4 +1,4 @@
--- An evaluation with more steps extends one with fewer.
+-- An evaluation with more steps has the same result if the evaluation with fewer steps ended, and otherwise goes on from where that one stopped.
 use Rattle.std.proofs.Common.{◌≡◌, ℕ, zero, suc, ◌+◌, List, arith}
 use Rattle.std.specs.Prelude.{if◌then◌else◌}
 use Rattle.cool_syntax.specs.Tree.{Tree}

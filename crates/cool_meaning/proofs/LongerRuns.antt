@@ -1,4 +1,4 @@
--- A run with more steps extends one with fewer.
+-- A run with more steps extends one with fewer steps: it is the same if the shorter run ended, and otherwise it writes and reads at least as much.
 use Rattle.std.proofs.Common.{◌≡◌, ◌≢◌, ℕ, ◌+◌, ◌≤◌, List, [], ◌++◌, ap, sym, ◌∙◌, refl, subst, append_assoc, append-nil, arith}
 use Rattle.cool_classes.specs.Chains.{Class}
 use Rattle.cool_meaning.specs.Values.{Value, Void, State, start}

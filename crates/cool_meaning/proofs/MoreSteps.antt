@@ -1,4 +1,5 @@
--- Computations with more steps: the result is the same if the one with fewer steps ended, and if not they go on from where it stood.
+-- If computations with more steps have the same result as those with fewer, or go on from where those stopped, this also holds for the computations composed of
+-- them.
 use Rattle.std.proofs.Common.{◌≡◌, ℕ, zero, suc, ◌+◌, ◌≤◌, max, Bool, true, false, List, [], ◌∷◌, ◌++◌, length, ap, sym, refl, subst, arith, append-nil}
 use Rattle.std.specs.Prelude.{Option, Some, None, if◌then◌else◌, ◌==◌}
 use Rattle.cool_meaning.specs.Values.{Value, State}

@@ -1,5 +1,5 @@
--- Two evaluations are related if their calls are, by every relation that the combinators of computations keep. So a fact about all forms of expression need
--- be shown only of those combinators.
+-- Each relation that the combinators of computations preserve holds between two evaluations of an expression if it holds between the calls that they make. So a
+-- fact about all forms of expression need be shown only of those combinators.
 use Rattle.std.proofs.Common.{ℕ, ◌+◌, ◌/◌, ℤ, pos, neg_ℤ, Bool, true, false, not, List, [], ◌∷◌, ◌++◌, length}
 use Rattle.std.specs.Prelude.{Option, Some, None, if◌then◌else◌, ◌==◌, bytes_eq, codes, int_div, ◌+ℤ◌, ◌-ℤ◌, ◌*ℤ◌}
 use Rattle.std.specs.Fmt.{signed_decimal}

@@ -1,5 +1,5 @@
--- Computations that are never stuck: from a store that fits its world the result is a value with the stated property, in a store that fits a larger world,
--- or an error, or no step is left.
+-- Lemmas on computations that are never stuck: from a store whose values fit the classes of their locations, the result is a value with the stated property and
+-- such a store, or an error, or no step is left.
 use Rattle.std.proofs.Common.{◌≡◌, ℕ, zero, suc, ◌<◌, ◌≤◌, Bool, true, false, List, [], ◌∷◌, ◌++◌, Option, Some, sym, refl, subst, arith}
 use Rattle.std.specs.Prelude.{if◌then◌else◌, slice_get, slice_set}
 use Rattle.cool_classes.specs.declared.class_id.ClassId.{ClassId}

@@ -1,4 +1,4 @@
--- A typed expression is never stuck, and its value fits its type.
+-- The evaluation of an expression without type errors is never stuck, and its value fits the static type of the expression.
 use Rattle.std.proofs.Common.{◌≡◌, ◌≢◌, ℕ, ◌<◌, neg_ℤ, List, [], ◌∷◌, map, length, Option, Some, Bool, true, false, not, ap, sym, ◌∙◌, refl, subst, arith}
 use Rattle.std.specs.Prelude.{if◌then◌else◌, bytes_eq, codes, slice_get}
 use Rattle.std.specs.List.{AllByRecursion}

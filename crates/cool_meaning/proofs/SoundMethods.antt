@@ -1,4 +1,4 @@
--- The methods of the basic classes are never stuck, and their values fit their declared results.
+-- The methods of the basic classes are never stuck, and their values fit their declared return types.
 use Rattle.std.proofs.Common.{◌≡◌, ◌≢◌, ℕ, ◌+◌, ◌/◌, ℤ, Bool, List, [], ◌∷◌, ◌++◌, map, length, Option, Some, None, ap, sym, refl, subst, arith}
 use Rattle.std.specs.Prelude.{codes}
 use Rattle.std.specs.Fmt.{signed_decimal}

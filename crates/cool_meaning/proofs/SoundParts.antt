@@ -1,4 +1,4 @@
--- The parts of evaluation that make calls, or bind names, are never stuck where the calls are not.
+-- The parts of evaluation that make calls or bind names, such as dispatches and new objects, are never stuck if the calls are never stuck.
 use Rattle.std.proofs.Common.{◌≡◌, ◌≢◌, ℕ, zero, suc, ◌<◌, ◌≤◌, ℤ, pos, List, [], ◌∷◌, map, length, Option, Some, None, Bool, true, false, ap, sym, ◌∙◌, refl, subst, arith, true≢false}
 use Rattle.std.specs.Prelude.{Contains, if◌then◌else◌, ◌==◌, bytes_eq, codes, slice_get, int_div, int_lt, int_le, ◌+ℤ◌, ◌-ℤ◌, ◌*ℤ◌}
 use Rattle.std.specs.List.{AllByRecursion}

@@ -1,4 +1,4 @@
--- Worked examples: runs of whole programs, by their class tables.
+-- Worked examples of the semantics: the runs of whole programs, each given by its class table.
 use Rattle.std.specs.Prelude.{◌≡◌, refl, ℕ, List, [], ◌∷◌, ◌++◌, Some, codes}
 use Rattle.cool_syntax.specs.declared.type_ref.TypeRef.{TypeRef}
 use Rattle.cool_syntax.specs.declared.file_tree.Feature.TheVariants.{Method}

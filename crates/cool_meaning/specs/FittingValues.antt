@@ -1,5 +1,5 @@
--- `Fits` says that a value fits a class, by a `World` that lists the class for which each location was made. `Scene` is the setting in which an expression is
--- evaluated: an object, and a location for each name in scope that was made for its type.
+-- `Fits` says that a value has a given class or a subclass, or is void where void is allowed. A `World` lists the class for which each store location was made.
+-- `Scene` is the setting in which an expression is evaluated: an object, and a location for each name in scope that was made for its type.
 use Rattle.std.specs.Prelude.{◌≡◌, ℕ, ◌<◌, List, [], ◌∷◌, map, length, slice_get, Some}
 use Rattle.cool_classes.specs.declared.class_id.ClassId.{ClassId}
 use Rattle.cool_classes.specs.declared.method.AttributeRef.{AttributeRef}

@@ -1,4 +1,5 @@
--- `Extends` says that one run goes further than another, as a run with more steps does: it writes and reads at least as much, and no meter is less.
+-- `Extends` says that one run goes further than another, as a run with more steps does: it writes and reads at least as much, and no cost counter (meter) is
+-- less.
 use Rattle.std.specs.Prelude.{◌≡◌, ◌≤◌, ℕ, List, ◌++◌}
 use Rattle.cool_meaning.specs.SourceRun.{Run, End, Done, Failed, GoesOn, IsStuck}
 

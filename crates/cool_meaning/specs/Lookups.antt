@@ -1,4 +1,4 @@
--- The look-ups of a running program in its class table: methods, attributes and their initial values.
+-- Functions by which a running program looks up methods, attributes and initial values in its class table.
 use Rattle.std.specs.Prelude.{ℕ, List, [], ◌∷◌, map, slice_get, Option, Some, None, bytes_eq, if◌then◌else◌}
 use Rattle.cool_syntax.specs.declared.file_tree.Feature.{Feature}
 use Rattle.cool_syntax.specs.declared.file_tree.Feature.TheVariants.{Method, Attribute}

@@ -1,5 +1,5 @@
--- `Metered` is the result of an evaluation with three meters: the work done, the words of memory given, and the greatest number of rules pending at once. A
--- `Computation` takes a state and the steps that are left; the combinators here compose computations.
+-- `Metered` is the result of an evaluation with three cost counters (meters): the work done, the words of memory allocated, and the largest nesting depth of
+-- rules. A `Computation` takes a state and the number of steps that are left; the combinators here compose computations.
 use Rattle.std.specs.Prelude.{ℕ, zero, suc, ◌+◌, max, ◌∷◌, [], ◌++◌, length, slice_get, slice_set, Option, Some, None}
 use Rattle.cool_syntax.specs.declared.place.Place.{Place}
 use Rattle.cool_classes.specs.declared.class_id.ClassId.{ClassId}

@@ -1,4 +1,4 @@
-//! Laws on the runs of typed programs: none is stuck, and a run with more steps extends one with fewer.
+//! Theorems on the runs of programs without type errors: no run is stuck, and a run with more steps extends one with fewer steps.
 
 ghost use Rattle.std.specs.Prelude.{◌≡◌, ◌≢◌, ◌+◌, ℕ, List};
 ghost use Rattle.cool_classes.specs.Chains.{Class};

@@ -1,5 +1,5 @@
--- `write_expr` and the functions of its cycle end, because parts have smaller numbers. In their loops, the tokens so far, followed by those of the parts that
--- are left, are all tokens.
+-- `write_expr` and the functions that call each other with it terminate, because the parts of an expression have smaller node numbers. In their loops, the
+-- tokens so far, followed by those of the parts that are left, are all tokens.
 use Rattle.std.proofs.Common.{◌≡◌, ◌+◌, ◌*◌, ◌<◌, ◌++◌, map, drop}
 use Rattle.std.specs.List.{AllByRecursion}
 use Rattle.cool_syntax.specs.Tree.{of_list, of_twigs}
