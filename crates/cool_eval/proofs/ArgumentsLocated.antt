@@ -1,4 +1,4 @@
--- Arguments at new locations as variables, and the body of a method begun with them.
+-- When the body of a method begins, each formal parameter is a variable at a new store location that holds its argument.
 use Rattle.std.proofs.Common.{◌≡◌, ℕ, zero, suc, ◌+◌, ◌-◌, ◌<◌, ◌≤◌, min, List, [], ◌∷◌, ◌++◌, length, drop, get_or, Option, Some, None, ap, sym, ◌∙◌, refl, arith}
 use Rattle.cool_syntax.specs.Tree.{Tree}
 use Rattle.cool_syntax.specs.declared.file_tree.Formal.{Formal}

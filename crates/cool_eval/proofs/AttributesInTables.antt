@@ -1,4 +1,4 @@
--- Attributes of classes by a table: a class outside the table has none; and facts about those of the other classes.
+-- A class number past the end of the class table has no ancestors and no attributes.
 use Rattle.std.proofs.Common.{◌≡◌, ℕ, zero, suc, ◌≤◌, List, [], ◌∷◌, ◌++◌, length, get_or, Option, None, ap, sym, ◌∙◌, refl, arith}
 use Rattle.cool_classes.specs.declared.class_id.ClassId.{ClassId}
 use Rattle.cool_classes.specs.Chains.{Class, nothing, class_at, features_of}

@@ -1,4 +1,4 @@
--- The class that `new` finds by a name is the first class of the table with this name, or none.
+-- The class that `new` finds by a name is the first class of the class table with this name, or none.
 use Rattle.std.proofs.Common.{◌≡◌, ℕ, List, Option, Some, None, Bool, false, ap, sym, ◌∙◌, refl}
 use Rattle.std.specs.Prelude.{bytes_eq, if◌then◌else◌}
 use Rattle.cool_classes.specs.declared.class_id.ClassId.{ClassId}

@@ -1,4 +1,4 @@
--- A copy of an object: the values at its locations, at new ones.
+-- The copy of an object has new store locations, which hold the values at the locations of the original object.
 use Rattle.std.proofs.Common.{◌≡◌, ℕ, zero, suc, ◌+◌, List, [], ◌∷◌, ◌++◌, length, map, Option, Some, None, Err, ap, sym, ◌∙◌, refl, arith}
 use Rattle.std.proofs.lemmas.List.{length-map}
 use Rattle.std.specs.Prelude.{Contains, slice_get}

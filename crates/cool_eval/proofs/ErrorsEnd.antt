@@ -1,4 +1,4 @@
--- An error of a part of a step ends the run, as `Comes` of `Configurations.antt` defines.
+-- If a computation within a step results in an error, the step ends the run with this error, as `Comes` of `Configurations.antt` defines.
 use Rattle.std.proofs.Common.{ℕ, List, Err, ap}
 use Rattle.cool_classes.specs.Chains.{Class}
 use Rattle.cool_meaning.specs.Values as values

@@ -1,4 +1,4 @@
--- Computations that come to the same outcome give the same value.
+-- If two computations have the same outcome, the value or error that the interpreter returns for one is also right for the other.
 use Rattle.std.proofs.Common.{◌≡◌, ℕ, ℤ, false, Result, Ok, Err, ap, ◌∙◌}
 use Rattle.std.specs.Prelude.{if◌then◌else◌, int_div}
 use Rattle.cool_syntax.specs.declared.place.Place.{Place}

@@ -1,4 +1,4 @@
--- Later states of the machine: output is only appended, and input is only taken from the front.
+-- In later states of the stack machine, output was only appended, and input was only taken from the front.
 use Rattle.std.proofs.Common.{ℕ, zero, suc, ◌+◌, pos, List, [], length, Option, Some, None, refl, arith}
 use Rattle.std.specs.Prelude.{false, ◌==◌}
 use Rattle.cool_syntax.specs.declared.place.Place.{Place}

@@ -1,4 +1,4 @@
--- Lemmas for a loop over the classes of a table that adds the attributes of one class in each step.
+-- Lemmas for a loop that adds the list of attributes of one class of the class table in each step: each list so far is that of the class with its number.
 use Rattle.std.proofs.Common.{◌≡◌, ℕ, zero, suc, ◌+◌, ◌<◌, List, [], ◌∷◌, ◌++◌, length, Some, ◌⊎◌, inl, inr, Vec, ap, sym, ◌∙◌, refl, subst, arith, length-append}
 use Rattle.std.proofs.lemmas.Option.{none-some}
 use Rattle.std.specs.Prelude.{slice_get}

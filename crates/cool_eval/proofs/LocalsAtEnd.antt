@@ -1,4 +1,4 @@
--- A variable that is added at the end of the interpreter's list is the first of the environment.
+-- The interpreter's list of variables is the environment in reverse order: a variable that is added at the end of the list is the first of the environment.
 use Rattle.std.proofs.Common.{◌≡◌, List, [], ◌∷◌, ◌++◌, ap, refl}
 use Rattle.cool_meaning.specs.Values.{Environment}
 use Rattle.cool_eval.specs.declared.scene.Local.{Local}

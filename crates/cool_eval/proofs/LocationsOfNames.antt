@@ -1,4 +1,4 @@
--- Looking up the location of a name: first among the variables, from the latest on, and then among the attributes.
+-- The location of a name is that of the latest variable with this name, or else that of the attribute with this name.
 use Rattle.std.proofs.Common.{◌≡◌, ℕ, zero, suc, ◌+◌, ◌-◌, ◌<◌, ◌≤◌, List, [], ◌∷◌, ◌++◌, length, take, drop, get_or, Option, Some, None, Bool, true, false, ap, sym, ◌∙◌, refl, arith}
 use Rattle.std.proofs.Math.Seq.{take-suc}
 use Rattle.std.proofs.lemmas.Option.{none-some}

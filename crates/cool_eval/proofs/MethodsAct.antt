@@ -1,4 +1,4 @@
--- Effects of basic methods on a source and a sink, derived from methods that use only one of them or neither.
+-- A basic method that uses only the input, only the output, or neither has its specified effect on both of them (`Acts` of Devices.antt).
 use Rattle.std.proofs.Common.{◌≡◌, ℕ, ℤ, ◌<◌, Bool, List, [], ◌++◌, inl, inr, refl, sym, ap, ◌∙◌, subst, arith}
 use Rattle.std.specs.Prelude.{Option, Result, Ok, Err, IfErr, IfOk}
 use Rattle.cool_ports.specs.Answers.{Past}

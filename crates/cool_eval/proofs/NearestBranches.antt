@@ -1,4 +1,4 @@
--- The nearest branch of a case along a chain of classes is that of the first class that has one: the class itself, or one above it.
+-- The branch that a `case` takes for a class is that of the first class on its chain of ancestors that has one: the class itself, or one above it.
 use Rattle.std.proofs.Common.{◌≡◌, ℕ, suc, ◌+◌, ◌-◌, ◌<◌, ◌≤◌, List, ◌∷◌, length, Option, Some, None, ap, sym, ◌∙◌, refl, arith}
 use Rattle.cool_syntax.specs.Tree.{Cases}
 use Rattle.cool_classes.specs.declared.class_id.ClassId.{ClassId}

@@ -1,4 +1,4 @@
--- The first step of creating a new object: defaults at new locations, and an identity.
+-- The first step of creating an object gives its attributes new store locations with default values, and gives the object an identity of its own.
 use Rattle.std.proofs.Common.{◌≡◌, ℕ, ◌+◌, List, ◌++◌, length, ap, sym, ◌∙◌}
 use Rattle.std.proofs.lemmas.List.{length-map}
 use Rattle.cool_classes.specs.declared.class_id.ClassId.{ClassId}

@@ -1,4 +1,5 @@
--- When no step is left, nothing is printed and nothing is taken until the end or the next step: methods that print or take are calls, which spend a step.
+-- When no step is left, an evaluation prints and reads nothing before it ends or needs a step, because methods that print or read are calls, which spend a
+-- step.
 use Rattle.std.proofs.Common.{◌≡◌, ℕ, zero, suc, List, length, Option, Some, None, sym, ◌∙◌, refl, subst}
 use Rattle.std.specs.Prelude.{◌==◌, slice_get}
 use Rattle.cool_classes.specs.declared.class_id.ClassId.{ClassId}

@@ -1,4 +1,4 @@
--- The receiver and the arguments of a dispatch are in its body.
+-- The receiver and the arguments of a dispatch have smaller node numbers than the dispatch, so they are nodes of the same body.
 use Rattle.std.proofs.Common.{◌≡◌, ◌<◌, ℕ, List, [], ◌∷◌, arith}
 use Rattle.std.specs.List.{AllByRecursion}
 use Rattle.cool_syntax.specs.declared.node.Node.{Node}

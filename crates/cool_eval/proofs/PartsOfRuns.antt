@@ -1,4 +1,4 @@
--- If a device failed or memory ran out, a part of the whole run was done.
+-- If a read or a write failed or memory ran out, a prefix of the output of the whole run was written, and at least the input that the whole run leaves is left.
 use Rattle.std.proofs.Common.{◌≡◌, ℕ, ◌+◌, ◌-◌, ◌≤◌, List, [], ◌++◌, Option, ap, sym, ◌∙◌, subst, append_assoc, arith}
 use Rattle.cool_ports.specs.SinkBytes.{appended, GotPrefix}
 use Rattle.cool_classes.specs.Chains.{Class}

@@ -1,4 +1,5 @@
--- Properties that the combinators of computations preserve (console unchanged, steps spent) hold for the meaning of each configuration.
+-- A property that the combinators of computations preserve, such as unchanged input and output, holds for the rest of the evaluation from each configuration of
+-- the stack machine.
 use Rattle.std.proofs.Common.{ℕ, ◌*◌, ℤ, List, [], ◌∷◌, ◌++◌, length, Option, Some, None}
 use Rattle.std.specs.Prelude.{Bool, true, false, if◌then◌else◌, bytes_eq, codes, int_div, ◌+ℤ◌, ◌-ℤ◌, ◌*ℤ◌, neg_ℤ, not}
 use Rattle.cool_syntax.specs.declared.place.Place.{Place}

@@ -1,4 +1,4 @@
--- All puts of a run, one after another, are what it writes.
+-- The pieces that a run writes to its sink (output stream), one after another, are its whole output.
 use Rattle.std.proofs.Common.{◌≡◌, ◌<◌, ℕ, zero, suc, ◌+◌, List, [], ◌++◌, ap, sym, ◌∙◌, refl, append-nil, arith}
 use Rattle.std.specs.List.{concat}
 use Rattle.std.proofs.lemmas.List.Folds.{concat-append}

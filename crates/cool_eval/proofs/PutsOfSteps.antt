@@ -1,4 +1,4 @@
--- Lemmas on the puts of steps: a step that writes nothing puts nothing, and the puts of fewer steps are the first of those of more.
+-- A step without output writes no piece to the sink (output stream), and the pieces written by fewer steps are the first of those written by more steps.
 use Rattle.std.proofs.Common.{◌≡◌, ℕ, zero, suc, ◌+◌, ◌≤◌, List, [], ◌++◌, length, refl, sym, ap, ◌∙◌, append_assoc, append-nil, arith}
 use Rattle.std.specs.Prelude.{◌-◌, take}
 use Rattle.std.proofs.Math.Seq.{drop-append_seam, drop-length, take-append_seam}

@@ -1,4 +1,4 @@
--- The frames in which no call waits: all except those that wait for the receiver of a dispatch.
+-- Each frame that does not wait for the receiver of a dispatch is one that calls no method when it gets its value (`IsQuiet`).
 use Rattle.std.proofs.Common.{◌≡◌, ℕ, List, Option, Vec, refl}
 use denote.Ref.{Bor}
 use Rattle.cool_syntax.specs.declared.place.Place.{Place}

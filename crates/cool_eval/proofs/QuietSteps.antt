@@ -1,4 +1,4 @@
--- A step or a basic method that touches neither source nor sink is one over a source and a sink that stay the same.
+-- A step or a basic method that uses neither input nor output has its specified effect over a source and a sink that stay the same.
 use Rattle.std.proofs.Common.{◌≡◌, ℕ, ◌+◌, Bool, List, Option, Some, Result, Ok, Err, inl, inr, refl, sym, ap, subst, arith}
 use Rattle.std.specs.Prelude.{◌⊎◌, IfErr}
 use Rattle.cool_ports.specs.Answers.{Past}

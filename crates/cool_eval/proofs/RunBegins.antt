@@ -1,4 +1,4 @@
--- Lemmas on the beginning of a run, which is the configuration with the call of main on a new object of class Main.
+-- A run begins at the configuration that makes a new object of class Main and then calls its method `main`.
 use Rattle.std.proofs.Common.{◌≡◌, ℕ, List, [], ◌∷◌, ◌++◌, None, Ok, Err, inl, sym, ◌∙◌, refl, subst, append-nil, arith}
 use Rattle.std.specs.Prelude.{codes}
 use Rattle.cool_ports.specs.SinkPuts.{SinkSeen, seen}

@@ -1,4 +1,4 @@
--- The end of an evaluation after its loop of steps ended: the bytes put by then are those that the runs of the source give.
+-- When the interpreter's loop of steps has ended, the bytes written by then are those that the runs by the semantics write, also if a read or a write failed.
 use Rattle.std.proofs.Common.{◌≡◌, ◌≢◌, ℕ, suc, ◌+◌, ◌≤◌, List, [], ◌++◌, length, Option, Ok, Err, inl, inr, ap, sym, ◌∙◌, refl, subst, append_assoc, append-nil, arith}
 use Rattle.std.specs.Prelude.{◌-◌, take}
 use Rattle.cool_ports.specs.SinkBytes.{appended, GotPrefix}

@@ -1,4 +1,4 @@
--- Invariant and end of a run: each configuration means the outcome of the whole program, with any number of steps left.
+-- During a run, the rest of the evaluation from each configuration has the outcome of the whole program, with any number of steps left.
 use Rattle.std.proofs.Common.{◌≡◌, ℕ, zero, suc, ◌+◌, ◌<◌, List, [], ◌∷◌, ◌++◌, Option, Some, None, Ok, Err, inl, inr, ap, sym, ◌∙◌, refl, subst, arith, append_assoc, append-nil}
 use Rattle.std.specs.Prelude.{◌≢◌, ◌⊎◌, Bool, true, false, codes}
 use Rattle.std.proofs.lemmas.List.{append_cancel_left}

@@ -1,4 +1,4 @@
--- The meaning of the machine's first configuration is the run of the program.
+-- The evaluation that the first configuration of the stack machine represents is the run of the program by the semantics.
 use Rattle.std.proofs.Common.{◌≡◌, ℕ, List, [], ap, sym, ◌∙◌, refl}
 use Rattle.cool_classes.specs.Chains.{Class}
 use Rattle.cool_meaning.specs.Values.{Value, Void, start}

@@ -1,4 +1,4 @@
--- A frame that is added at the end of the interpreter's list is the first frame of the machine's stack.
+-- The interpreter's list of frames is the machine's stack in reverse order: a frame that is added at the end of the list is the first frame of the stack.
 use Rattle.std.proofs.Common.{◌≡◌, List, [], ◌∷◌, ◌++◌, ap, refl}
 use Rattle.cool_classes.specs.Chains.{Class}
 use Rattle.cool_eval.specs.declared.frame.Frame.{Frame}

@@ -1,4 +1,5 @@
--- A step of the machine depends on the steps that are left only if it spends one: then it stops if none is left, and else goes on the same with one less.
+-- A step of the stack machine depends on the number of steps left only if it spends one: then it stops if none is left, and otherwise goes on in the same way
+-- with one less.
 use Rattle.std.proofs.Common.{◌≡◌, ℕ, zero, suc, pos, List, [], ◌∷◌, ◌++◌, Option, Some, None, inl, inr, ap, ◌∙◌, refl}
 use Rattle.std.specs.Prelude.{◌⊎◌, Bool, true, false, if◌then◌else◌, ◌==◌, slice_get}
 use Rattle.cool_syntax.specs.declared.place.Place.{Place}

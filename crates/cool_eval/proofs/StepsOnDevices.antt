@@ -1,4 +1,4 @@
--- Lemmas on calls and on single steps of the interpreter over a source and a sink (`Acts` and `Reaches` of Devices.antt).
+-- Calls and single steps of the interpreter have their specified effects on an input and an output device (`Acts` and `Reaches` of Devices.antt).
 use Rattle.std.proofs.Common.{◌≡◌, ℕ, ◌+◌, Bool, List, [], ◌∷◌, ◌++◌, Option, Some, None, Result, Ok, Err, Vec, sym, ◌∙◌, ap, subst}
 use Rattle.std.specs.Prelude.{IfErr}
 use Rattle.cool_ports.specs.Answers.{Past}

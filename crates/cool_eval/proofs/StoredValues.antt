@@ -1,4 +1,4 @@
--- A value that is set in a store is the value at its location, as contracts see the store.
+-- If a value is written at a location of the store, the store that contracts see has this value at the location and is otherwise unchanged.
 use Rattle.std.proofs.Common.{◌≡◌, ℕ, List, [], ◌∷◌, ◌++◌, length, map}
 use Rattle.std.proofs.lemmas.List.{length-map, map-append, map-set}
 use Rattle.std.specs.Prelude.{slice_set}

@@ -1,4 +1,4 @@
--- A line that is taken from an input, byte after byte.
+-- The bytes that are read one after another up to a newline or the end of the input, without bytes 0, are the line that the semantics reads.
 use Rattle.std.proofs.Common.{◌≡◌, ℕ, zero, suc, ◌<◌, Bool, true, false, List, [], ◌∷◌, ◌++◌, replicate, refl, sym, ◌∙◌, ap, append_assoc, append-nil, arith}
 use Rattle.std.specs.Prelude.{Option, Some, None, Ok, Err, ◌==◌}
 use Rattle.cool_ports.specs.declared.Failed.{Failed}

@@ -1,4 +1,4 @@
--- Reading digits modulo 2 ^ 32: only the low 32 bits are kept.
+-- Reading a number digit by digit modulo 2 ^ 32 gives the low 32 bits of the whole number.
 use Rattle.std.proofs.Common.{◌≡◌, ℕ, ◌+◌, ◌-◌, ◌*◌, ◌%◌, ◌<◌, ◌≤◌, Bool, true, false, List, [], ◌∷◌, length, get_or, drop, refl, sym, ◌∙◌, ap, arith}
 use Rattle.std.proofs.lemmas.List.{at_drop_more}
 use Rattle.std.proofs.lemmas.Bool.Decides.{nat_tests}

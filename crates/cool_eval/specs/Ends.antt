@@ -1,4 +1,4 @@
--- `Evaluates` says how the evaluation of a program ends on a source and a sink that may fail, by the runs that the rules give. A run that has fewer steps
+-- `Evaluates` says how the evaluation of a program ends on a source and a sink that may fail, by the runs that the semantics gives. A run that has fewer steps
 -- stops just before the call, the new value or the iteration of a loop that would be its next step. Methods that read or write are calls.
 use Rattle.std.specs.Prelude.{◌≡◌, ◌⊎◌, ℕ, ◌+◌, ◌<◌, ◌≤◌, List, [], ◌++◌, Option}
 use Rattle.cool_ports.specs.SinkBytes.{appended, GotPrefix}

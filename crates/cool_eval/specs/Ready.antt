@@ -1,4 +1,4 @@
--- `IsReady` is the precondition of a run: its class table is whole, and the interpreter has the right list of attributes for each class.
+-- `IsReady` is the precondition of a run: its class table is complete, and the interpreter has the right list of attributes for each class.
 use Rattle.std.specs.Prelude.{◌≡◌, List, Some, length, slice_get}
 use Rattle.std.specs.List.{AllByRecursion}
 use Rattle.std.proofs.Common.{Vec}

@@ -1,4 +1,4 @@
--- A machine that evaluates expressions with a stack of frames, on lists: its frames, which wait for the value of a part, and its steps.
+-- A machine that evaluates expressions with an explicit stack of frames: its frames, each of which waits for the value of a subexpression, and its steps.
 use Rattle.std.specs.Prelude.{ℕ, zero, suc, ◌+◌, pos, neg_ℤ, true, false, not, ◌==◌, if◌then◌else◌, List, [], ◌∷◌, ◌++◌, length, slice_set, Option, Some, None, bytes_eq}
 use Rattle.cool_syntax.specs.declared.place.Place.{Place}
 use Rattle.cool_syntax.specs.declared.operator.ArithOp.{ArithOp}

@@ -1,4 +1,5 @@
--- Functions from small data of the interpreter to the data of its contracts: the first item of a list, a branch of a case, and the attribute of a feature.
+-- Functions that convert small data of the interpreter to the data of its contracts: the first element of a list, a branch of a case, and the attribute that a
+-- feature is.
 use Rattle.std.specs.Prelude.{◌≡◌, ℕ, List, [], ◌∷◌, Option, Some, None}
 use Rattle.cool_syntax.specs.Tree.{Tree}
 use Rattle.cool_syntax.specs.declared.file_tree.AttributeDef.{AttributeDef}

@@ -1,4 +1,4 @@
-//! Calls of methods.
+//! Evaluates method calls: the arguments, the receiver, the look-up of the method, and the start of its body.
 
 ghost use Rattle.std.specs.Prelude.{◌≡◌, ◌+◌, ◌∷◌, [], ◌++◌, ℕ, List, Some, IfErr, IfOk, map, option_map};
 ghost use Rattle.cool_ports.specs.Answers.{Leaves};

@@ -1,4 +1,4 @@
-//! Loops, blocks, variables and branches.
+//! Begins and resumes loops, blocks, variable bindings, conditionals and cases.
 
 ghost use Rattle.std.specs.Prelude.{◌≡◌, ◌∷◌, [], ◌++◌, ℕ, List, IfErr, IfOk};
 ghost use Rattle.cool_classes.specs.Chains.{Class};

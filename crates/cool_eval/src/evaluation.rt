@@ -1,4 +1,4 @@
-//! The evaluation of a program: its whole run.
+//! Evaluates a whole program, step by step, and returns how its run ended.
 
 ghost use Rattle.std.specs.Prelude.{◌≡◌, ℕ, Bool, false, List, IfOk, codes, map, string_bytes};
 ghost use Rattle.cool_ports.specs.Answers.{Leaves};

@@ -1,4 +1,4 @@
-//! Starting the evaluation of an expression.
+//! Begins the evaluation of an expression.
 
 ghost use Rattle.std.specs.Prelude.{◌≡◌, ◌∷◌, [], ◌++◌, ◌<◌, ℕ, List, IfErr, IfOk};
 ghost use Rattle.cool_classes.specs.Chains.{Class};

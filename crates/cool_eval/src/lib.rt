@@ -1,4 +1,4 @@
-//! An interpreter, which runs programs by the meaning of their source, without a machine.
+//! An interpreter, which runs programs by the semantics of the source language, without compiling them to machine code.
 //!
 //! Input: a typed program, a source and a sink. Output: how its run ends. It implements `specs/Ends.antt`, by the run of the program that
 //! `cool_meaning` defines. `specs/StackMachine.antt` is a machine with a stack of frames whose steps the code takes; `proofs/StepsMean.antt` shows

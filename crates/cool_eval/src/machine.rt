@@ -1,4 +1,4 @@
-//! The state of a run: frames, a store, and the steps that are left.
+//! The state of a run: the stack of frames, the store, and the number of steps that are left.
 
 ghost use Rattle.std.specs.Prelude.{◌≡◌, ◌∷◌, [], ◌++◌, ◌+◌, List, IfErr, IfOk, OnErr, OnOk};
 ghost use Rattle.cool_classes.specs.Chains.{Class};

@@ -1,4 +1,4 @@
-//! The expressions of a body, opened one at a time.
+//! Gives access to the expressions of a body (a list of nodes) one at a time.
 
 ghost use Rattle.std.specs.Prelude.{◌≡◌, ◌<◌, None, Some, ◌∷◌, [], IfSome, map};
 ghost use Rattle.std.specs.List.{AllByRecursion};

@@ -1,4 +1,4 @@
-//! The output at the end of a run.
+//! Writes how a run ended, with the text of a run-time error.
 
 ghost use Rattle.std.specs.Prelude.{◌≡◌, ◌++◌, ℕ, List, IfOk, codes, map, string_bytes};
 ghost use Rattle.cool_ports.specs.SinkPuts.{SinkSeen, seen};

@@ -1,4 +1,4 @@
-//! Single steps: returning values to the frames that wait for them.
+//! Takes single steps of a run: passes a value to the frame that waits for it.
 
 ghost use Rattle.std.specs.Prelude.{◌≡◌, ◌∷◌, [], ◌++◌, ℕ, List, None, IfErr, IfOk};
 ghost use Rattle.cool_ports.specs.Answers.{Leaves};

@@ -1,4 +1,4 @@
-//! The store: values at locations, and identities.
+//! The store of a run: the values at its locations, and the number of object identities given out.
 
 ghost use Rattle.std.specs.Prelude.{◌≡◌, ◌+◌, ◌∷◌, [], ◌++◌, length, map, slice_set, IfOk, IfErr, OnOk};
 ghost use Rattle.cool_eval.specs.Values.{value_of, locations_from};

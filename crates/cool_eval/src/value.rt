@@ -1,4 +1,4 @@
-//! Values of a running program.
+//! The values of a running program, and objects with their class, identity and locations.
 
 ghost use Rattle.std.specs.Prelude.{◌≡◌, IfOk};
 ghost use Rattle.cool_eval.specs.Values.{value_of};

@@ -1,5 +1,5 @@
--- `call` does as `call_class` of `StackMachine.antt` defines in each of four cases: the receiver is void, the class is unknown, no step is left, or the call
--- spends one.
+-- `call` looks up and begins a method as `call_class` of `StackMachine.antt` defines in each of four cases: the receiver is void, the class is unknown, no step
+-- is left, or the call spends one.
 use Rattle.std.proofs.Common.{◌≡◌, map, Some, Err, sym, ap, ◌∙◌, rules}
 use Rattle.cool_ports.specs.SinkPuts.{seen}
 use Rattle.cool_meaning.specs.Values.{class_of}

@@ -1,4 +1,4 @@
--- `class_made` looks up any name other than `SELF_TYPE` in the table, as `class_made` of `Lookups.antt` defines.
+-- `class_made` looks up any name other than `SELF_TYPE` in the class table, as `class_made` of `Lookups.antt` defines.
 use Rattle.std.proofs.Common.{◌≡◌, false, rules}
 use Rattle.std.specs.Prelude.{bytes_eq}
 use Rattle.cool_classes.specs.Names.{self_type}

@@ -1,5 +1,5 @@
--- `give` does as `returned` of `StackMachine.antt` defines. A receiver leads to a call, and any other frame to a step of `resume` that uses neither source nor
--- sink.
+-- `give` passes a value to the frame that waits for it, as `returned` of `StackMachine.antt` defines. A frame that waits for a receiver leads to a call, and
+-- any other frame to a step of `resume` that uses neither source nor sink.
 use Rattle.std.proofs.Common.{map, ap}
 use Rattle.cool_ports.specs.SinkPuts.{seen}
 use Rattle.cool_eval.specs.Values.{value_of}

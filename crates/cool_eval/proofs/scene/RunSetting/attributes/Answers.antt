@@ -1,4 +1,4 @@
--- `RunSetting::attributes` returns no attributes for a number past the last layout, because the table has no class of this number.
+-- `RunSetting::attributes` returns no attributes for a class number past the last list of attributes, because the class table has no class of this number.
 use Rattle.std.proofs.Common.{◌≤◌, length, sym, arith}
 use Rattle.std.proofs.lemmas.Bool.{ltb-false}
 use Rattle.cool_eval.proofs.AttributesInTables.{no_attributes}
