@@ -1,4 +1,4 @@
-//! Theorems about evaluations: the puts of a run are its output, and a run that is cut short did a part of the whole run.
+//! Theorems about evaluations: the pieces that a run writes to its sink make up its output, and an interrupted run did a part of the whole run.
 
 ghost use Rattle.std.specs.Prelude.{◌≡◌, ℕ, List, Option};
 ghost use Rattle.std.specs.List.{concat};
