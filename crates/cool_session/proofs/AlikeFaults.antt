@@ -1,4 +1,5 @@
--- If two class tables differ only in bodies, initial values and places, and the features of one have no fault, neither have those of the other.
+-- If two class tables differ only in bodies, initial values and source locations, and the declarations of the features in one table have no error, those in the
+-- other have none.
 use Rattle.std.proofs.Common.{◌≡◌, ℕ, zero, suc, ◌+◌, List, [], ◌∷◌, ◌++◌, length, Option, Some, None, Bool, not, ◌&&◌, ◌||◌, refl, sym, ap, ◌∙◌, subst, arith}
 use Rattle.std.specs.Prelude.{bytes_eq, codes, is_some, is_none, nat_lt, if◌then◌else◌}
 use Rattle.cool_syntax.specs.declared.place.Place.{Place}

@@ -1,4 +1,5 @@
--- Declaring the same is transitive and symmetric, for features, classes and definitions; and tables that declare the same have the same signatures.
+-- The relation that two features, classes or definitions declare the same names and types is symmetric and transitive. Class tables that are so related have
+-- the same signatures.
 use Rattle.std.proofs.Common.{◌≡◌, ℕ, zero, suc, List, [], ◌∷◌, map, drop, Option, Some, None, unwrap_or, refl, sym, ap, ◌∙◌, subst}
 use Rattle.std.specs.Prelude.{slice_get}
 use Rattle.std.proofs.lemmas.Option.{none-some}

@@ -1,5 +1,5 @@
--- Uniqueness of a stored check: files have at most one tokenization and one tree, and the other facts have at most one proof. So a base that is only known
--- to exist can be used.
+-- The stored check (base) of files is unique: the files have at most one list of tokens and one syntax tree, and the other facts have at most one proof. So a
+-- base that is only known to exist can be used.
 use Rattle.std.proofs.Common.{◌≡◌, refl, ap, subst, arith, inl, inr, ℕ, ◌+◌, ◌≤◌, List, [], ◌∷◌, ◌++◌, length, Contains, Option}
 use Rattle.std.specs.List.{AllByRecursion}
 use Rattle.std.proofs.Math.Logic.{∥∥₁_elim, ∥∥₁_map}

@@ -1,4 +1,4 @@
--- The bounds of the features of a file are those of the readings of the features in its concrete tree.
+-- The token positions at which the features (attributes and methods) of a file begin and end are those that the concrete syntax tree of the file gives.
 use Rattle.std.proofs.Common.{◌≡◌, ℕ, ◌+◌, List, [], ◌∷◌, ◌++◌, length, Bool, if◌then◌else◌, refl, sym, ap, ◌∙◌, subst, arith, append_assoc, append-nil}
 use Rattle.std.proofs.lemmas.List.{length-append}
 use Rattle.cool_syntax.specs.declared.token.Token.{Token}

@@ -1,4 +1,4 @@
--- The tokens between the bounds of runs are the runs, and the bounds stand in the files.
+-- The tokens between the begin and the end position that are computed for a feature are the tokens of this feature, and both positions are within its file.
 use Rattle.std.proofs.Common.{◌≡◌, ℕ, zero, suc, ◌+◌, ◌-◌, ◌<◌, ◌≤◌, List, [], ◌∷◌, ◌++◌, map, length, get_or, take, drop, Bool, true, false, if◌then◌else◌, refl, sym, ap, ◌∙◌, subst, arith}
 use Rattle.std.specs.List.{AllByRecursion, slice_range}
 use Rattle.std.proofs.lemmas.List.{map-append, drop-drop}

@@ -1,5 +1,5 @@
--- The stored checks of all features of a table give the table's typing faults. They are also the results to store for another table of the same classes,
--- for each feature that has the same tokens.
+-- The stored results of all features of a class table give the type errors of the table. They are also the results to store for another table of the same
+-- classes, for each feature that has the same tokens.
 use Rattle.std.proofs.Common.{◌≡◌, ◌⊎◌, inl, inr, true≢false, is_ok, ℕ, zero, suc, ◌+◌, ◌<◌, List, [], ◌∷◌, ◌++◌, map, length, get_or, drop, Option, Some, None, Ok, Err, refl, sym, ap, ◌∙◌, subst, arith, append_assoc}
 use Rattle.std.proofs.lemmas.List.{map-append, get_or-map}
 use Rattle.cool_syntax.specs.declared.place.Place.{Place}

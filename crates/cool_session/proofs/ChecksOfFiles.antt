@@ -1,4 +1,4 @@
--- Checks of files over a base: the number of new features, the fault list, and that both are unique.
+-- A check of files over a stored earlier check has one result: the list of errors and the number of features that are typed are unique.
 use Rattle.std.proofs.Common.{◌≡◌, ◌≢◌, inl, inr, true≢false, is_some, ℕ, zero, suc, ◌<◌, ◌≤◌, List, [], ◌∷◌, ◌++◌, map, length, get_or, take, drop, Option, Some, None, refl, sym, ap, ◌∙◌, subst, arith}
 use Rattle.std.specs.List.{AllByRecursion}
 use Rattle.std.specs.List.Sorted.{IsPermutation}

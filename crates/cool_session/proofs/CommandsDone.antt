@@ -1,4 +1,4 @@
--- The result of one command: it is done, ends the session, or is cut short.
+-- Each command of a session is carried out, ends the session, or is interrupted by a failed read, a failed write or lack of memory.
 use Rattle.std.proofs.Common.{◌≡◌, ◌⊎◌, inl, inr, ℕ, zero, suc, ◌<◌, ◌≤◌, true, false, List, [], ◌∷◌, ◌++◌, length, map, refl, sym, ◌∙◌, ap, subst, arith}
 use Rattle.std.specs.Prelude.{◌≢◌, ◌==◌, Option, Some, None, option_map, Result, Ok, Err}
 use Rattle.std.specs.Result.{is_err}

@@ -1,5 +1,5 @@
--- A check of files over a base of files types some number of features: files have a fault list, which says whether they come to be typed, and two bases of
--- the same signatures have as many features.
+-- A check of files over a stored earlier check types some number of features. The files have a list of errors, which says whether they reach type checking, and
+-- two stored checks with the same signatures have as many features.
 use Rattle.std.proofs.Common.{◌≡◌, ◌≢◌, ◌⊎◌, inl, inr, ℕ, ◌+◌, ◌≤◌, List, [], ◌∷◌, ◌++◌, map, length, refl, sym, ap, ◌∙◌, subst, arith, add-one}
 use Rattle.std.specs.Prelude.{Option, Some, None}
 use Rattle.std.specs.List.Sorted.{IsPermutation}

@@ -1,5 +1,5 @@
--- Two lists of class definitions with the same class names, parents and declarations of features. If neither the class phase nor the feature phase finds a
--- fault in one list, neither finds one in the other. The classes of both lists have the same signatures.
+-- If two lists of class definitions have the same class names, parents and declarations of features, and neither the class phase nor the feature phase finds an
+-- error in one list, neither finds one in the other. The classes of both lists have the same signatures.
 use Rattle.std.proofs.Common.{◌≡◌, ℕ, zero, suc, List, [], ◌∷◌, ◌++◌, map, length, drop, Option, Some, None, refl, sym, ap, ◌∙◌, subst}
 use Rattle.std.specs.Prelude.{codes, is_some, option_map}
 use Rattle.std.proofs.lemmas.List.{length-map}

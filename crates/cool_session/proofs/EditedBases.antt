@@ -1,5 +1,5 @@
--- The stored results of a base, for files whose tokens are those of its files, except for places and for at most one feature, which declares the same as
--- before.
+-- If the tokens of edited files differ from those of a stored check only in source locations and in at most one feature, which declares the same as before, the
+-- stored results are also right for all other features.
 use Rattle.std.proofs.Common.{◌≡◌, ◌≢◌, ℕ, zero, suc, ◌<◌, List, [], ◌∷◌, ◌++◌, map, length, get_or, drop, Option, Some, refl, sym, ap, ◌∙◌, subst, arith}
 use Rattle.std.specs.List.{slice_get}
 use Rattle.std.specs.Prelude.{slice_set}

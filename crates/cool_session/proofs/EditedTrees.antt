@@ -1,4 +1,4 @@
--- Trees of files whose tokens are those of other files, except for places, or except for places and one feature.
+-- If the tokens of edited files differ from those of earlier files only in source locations, or also in one feature, their syntax trees differ only in these.
 use Rattle.std.proofs.Common.{◌≡◌, ◌≢◌, ◌⊎◌, inl, inr, ℕ, zero, suc, ◌+◌, ◌-◌, ◌<◌, ◌≤◌, List, [], ◌∷◌, ◌++◌, map, length, get_or, take, drop, unwrap_or, Option, Some, refl, sym, ap, ◌∙◌, subst, arith, append_assoc}
 use Rattle.std.specs.Prelude.{slice_get, slice_set}
 use Rattle.std.specs.List.{AllByRecursion, slice_range}

@@ -1,4 +1,5 @@
--- The results to store for files after an edit of at most one feature, and the number of features that are new then.
+-- After an edit of at most one feature, the results stored by the last check are also those to store for the other features, and at most the edited feature
+-- counts as new.
 use Rattle.std.proofs.Common.{◌≡◌, ◌≢◌, ◌⊎◌, inl, inr, ℕ, zero, suc, ◌+◌, ◌<◌, List, [], ◌∷◌, ◌++◌, map, length, get_or, drop, Option, Some, None, Ok, refl, sym, ap, ◌∙◌, subst, arith, set}
 use Rattle.std.specs.Prelude.{slice_set}
 use Rattle.std.proofs.lemmas.List.{length-map, get_or-set_same, get_or-set_other, length-set}

@@ -1,5 +1,5 @@
--- Over tables of the same signatures, features of the same tokens, except for places, are checked with the same result: both are typed, or both have a
--- fault of one kind at the token of one position. So the stored result of one is also the result to store for the other.
+-- If two class tables have the same signatures, features with the same tokens, except for source locations, are checked with the same result: both are typed,
+-- or both have an error of one kind at the token of one position. So the stored result of one is also the result to store for the other.
 use Rattle.std.proofs.Common.{◌≡◌, ◌⊎◌, inl, inr, ℕ, zero, suc, ◌+◌, ◌<◌, List, [], ◌∷◌, map, length, get_or, drop, Option, Some, None, IfSome, Bool, true, false, if◌then◌else◌, Ok, Err, refl, sym, ap, ◌∙◌, subst, arith}
 use Rattle.std.specs.Prelude.{nat_eq}
 use Rattle.std.specs.Option.{option_map}

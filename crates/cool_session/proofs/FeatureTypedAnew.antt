@@ -1,5 +1,5 @@
--- A base whose files differ from those before in nothing except places, or in one feature: the facts about its tokens, its table and its stored results,
--- which are only known to exist (`∥ .. ∥₁`).
+-- If files differ from those of a stored check only in source locations, or in one feature, the facts about their tokens, their class table and the results to
+-- store follow from the stored check. These facts are only known to exist (`∥ .. ∥₁`).
 use Rattle.std.proofs.Common.{◌≡◌, ℕ, ◌<◌, List, [], map, length, get_or, Option, Some, sym, ap, ◌∙◌, subst, arith}
 use Rattle.std.specs.List.{slice_get}
 use Rattle.std.specs.Prelude.{slice_set}

@@ -1,4 +1,4 @@
--- The feature at each position of a table, and the result stored for it in a base.
+-- The feature at each position of a class table is the one to which the result at the same position of the stored check (base) belongs.
 use Rattle.std.proofs.Common.{◌≡◌, ℕ, zero, suc, ◌+◌, ◌-◌, ◌<◌, ◌≤◌, List, [], ◌∷◌, ◌++◌, map, length, get_or, take, drop, Option, Some, None, IfSome, Ok, refl, sym, ap, ◌∙◌, subst, arith, add-one, append_assoc}
 use Rattle.std.specs.List.{AllByRecursion, slice_get}
 use Rattle.std.specs.Borrow.{Bor}

@@ -1,4 +1,4 @@
--- Files that differ only in one feature: the parts before and after a run are the same, and the rest differs.
+-- If files differ from earlier ones only in one feature, the tokens before and after this feature are the same, and those of the feature differ.
 use Rattle.std.proofs.Common.{◌≡◌, ◌≢◌, ◌⊎◌, ℕ, zero, suc, ◌+◌, ◌-◌, ◌<◌, ◌≤◌, List, [], ◌∷◌, ◌++◌, length, get_or, take, drop, Option, Some, None, is_some, MatchOption, true≢false, false, refl, sym, ap, ◌∙◌, subst, arith, inl, inr}
 use Rattle.std.specs.Prelude.{slice_get}
 use Rattle.std.specs.List.{slice_range}

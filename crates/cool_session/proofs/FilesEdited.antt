@@ -1,5 +1,5 @@
--- If the tokens of files are those of files that come to be typed, except for places and for at most one feature that declares the same as before, these
--- files come to be typed, too.
+-- If the tokens of edited files are those of files that reach type checking, except for source locations and for at most one feature that declares the same as
+-- before, the edited files reach type checking, too.
 use Rattle.std.proofs.Common.{◌≡◌, ℕ, ◌+◌, ◌≤◌, List, [], map, length, get_or, take, drop, Some, refl, sym, ap, ◌∙◌, subst, arith}
 use Rattle.std.specs.Prelude.{slice_get, slice_set}
 use Rattle.std.specs.List.{slice_range}

@@ -1,4 +1,4 @@
--- The features of a table by their classes and numbers: what is left of them after one, and which feature each is.
+-- If the next feature of a class is added to the list of features so far, this list and the features that are left are still all features of the class.
 use Rattle.std.proofs.Common.{◌≡◌, ℕ, zero, suc, ◌+◌, ◌<◌, List, [], ◌∷◌, ◌++◌, length, drop, refl, sym, ap, ◌∙◌, arith, append_assoc}
 use Rattle.cool_syntax.specs.declared.file_tree.Feature.{Feature}
 use Rattle.cool_classes.specs.declared.class_id.ClassId.{ClassId}

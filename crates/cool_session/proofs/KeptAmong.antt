@@ -1,4 +1,4 @@
--- The stored results of features of tokens: as many as there are features, and each fault at one of their tokens.
+-- A check stores as many results as there are features, and each stored error is at a token of its feature.
 use Rattle.std.proofs.Common.{◌≡◌, ℕ, ◌<◌, List, [], length, get_or, Option, Some}
 use Rattle.std.proofs.Math.Logic.{∥∥₁_elim, ∥∥₁_map}
 use Rattle.std.proofs.Props.{props}

@@ -1,4 +1,4 @@
--- The fact that a result is the stored one of a feature has at most one proof.
+-- The statement that a stored result is that of a feature has at most one proof.
 use Rattle.std.proofs.Common.{List, Option}
 use Rattle.std.proofs.Props.{props}
 use Rattle.cool_syntax.specs.declared.token.Token.{Token}

@@ -1,4 +1,4 @@
--- Equality of tokens and of signatures is decidable. So two lists of equal length differ in some number of items.
+-- It is decidable whether two tokens, or the signatures of two class tables, are equal. So two lists of equal length differ in some number of elements.
 use Rattle.std.proofs.Common.{◌≡◌, ◌≢◌, ◌⊎◌, inl, inr, ℕ, zero, suc, List, [], ◌∷◌, length, get_or, refl, sym, ap, ◌∙◌, subst, arith}
 use Rattle.cool_syntax.specs.declared.token.TokenKind.{TokenKind}
 use Rattle.cool_syntax.specs.declared.token.TokenKind.TheVariants as kind

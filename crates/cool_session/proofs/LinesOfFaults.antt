@@ -1,4 +1,4 @@
--- Lemmas on writing the lines of faults one after another: all were put, or a front of them if a write failed.
+-- If the lines of a list of errors are written one after another, all of them are written, or a prefix of them if a write fails.
 use Rattle.std.proofs.Common.{◌≡◌, ℕ, zero, suc, ◌+◌, ◌<◌, ◌≤◌, List, [], ◌∷◌, length, map, drop, get_or, drop-cons, add-one, refl, sym, ap, ◌∙◌, subst, arith}
 use Rattle.std.specs.Prelude.{Result, Ok, Err}
 use Rattle.cool_syntax.specs.declared.lexical.LexKind.TheVariants.{L1}

@@ -1,4 +1,4 @@
--- Tokens that are a file are a file of the same classes, places aside, wherever they stand.
+-- If the tokens of a file get other source locations, they still parse as a file of the same classes, except for source locations.
 use Rattle.std.proofs.Common.{◌≡◌, ℕ, List, [], ◌∷◌, ◌++◌, map, refl, sym, ap, ◌∙◌, subst}
 use Rattle.std.specs.Prelude.{option_map}
 use Rattle.std.proofs.lemmas.List.{map-append}

@@ -1,4 +1,5 @@
--- The number of new features among the first ones: how it changes with one more feature, stored or new. It is at most the number among all.
+-- The number of new features (those without a stored result) among the first features of files grows by one with each new feature, and is at most the number
+-- among all features.
 use Rattle.std.proofs.Common.{◌≡◌, ◌≢◌, inl, inr, ℕ, zero, suc, ◌+◌, ◌<◌, ◌≤◌, List, [], ◌∷◌, map, length, get_or, take, Option, Some, None, refl, sym, ap, ◌∙◌, subst, arith, add-one}
 use Rattle.std.specs.Borrow.{Bor}
 use Rattle.cool_syntax.specs.declared.token.Token.{Token}

@@ -1,4 +1,5 @@
--- An input has at most one session: its replies, its end, and the rest of the input. The replies of a part of a session are a prefix of those of the session.
+-- Each input has at most one session, which consists of its replies, its end, and the rest of the input. The replies of a part of a session are a prefix of
+-- those of the session.
 use Rattle.std.proofs.Common.{◌≡◌, ◌≢◌, ◌⊎◌, inl, inr, ℕ, suc, ◌+◌, ◌<◌, ◌≤◌, true, false, List, [], ◌∷◌, ◌++◌, length, take, drop, replicate, length-append, append-nil, append_assoc, refl, sym, ◌∙◌, ap, subst, arith}
 use Rattle.std.specs.Prelude.{nat_lt, if◌then◌else◌, Option, Some, None, Result, Ok, Err}
 use Rattle.std.proofs.Math.Seq.{drop-append_seam}

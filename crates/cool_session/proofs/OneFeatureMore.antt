@@ -1,4 +1,4 @@
--- The feature at a position of files: its tokens, its stored result, and the number of new features so far.
+-- When a check goes on to the next feature of files, this feature has its tokens in the files, and it has a stored result or is counted as new.
 use Rattle.std.proofs.Common.{◌≡◌, ℕ, ◌+◌, ◌<◌, List, [], ◌∷◌, ◌++◌, length, get_or, take, Option, Some, IfSome, sym, ap, ◌∙◌, subst, arith}
 use Rattle.std.specs.List.{AllByRecursion, slice_get}
 use Rattle.std.specs.Borrow.{Bor}

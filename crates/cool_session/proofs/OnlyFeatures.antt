@@ -1,4 +1,4 @@
--- If tokens between the head of a class and its end form a class of one feature, they are this feature.
+-- If tokens between the head of a class and its end parse as a class with one feature, these tokens parse as this feature.
 use Rattle.std.proofs.Common.{◌≡◌, refl, sym, ap, ◌∙◌, arith, List, [], ◌∷◌, ◌++◌, map, length, get_or, drop, Option, Some, None, IfSome}
 use Rattle.std.proofs.lemmas.List.{length-append}
 use Rattle.cool_syntax.specs.declared.token.Token.{Token}

@@ -1,4 +1,4 @@
--- A session that a failed write or lack of memory cut short, stated by a part of it: a prefix of the replies of some of its commands was put.
+-- If a failed read, a failed write or lack of memory interrupts a session, a prefix of the replies to some of its commands was written.
 use Rattle.std.proofs.Common.{◌≡◌, ℕ, ◌+◌, List, [], ◌++◌, sym, ◌∙◌, ap, append_assoc, append-nil, inl, inr}
 use Rattle.std.specs.Prelude.{Option, Err}
 use Rattle.std.specs.List.{concat}

@@ -1,4 +1,4 @@
--- Each fault of a reply stands in one of the files, since the tokens of the files do.
+-- Each error in a reply has a source location in one of the files, because the tokens of the files have.
 use Rattle.std.proofs.Common.{ℕ, zero, suc, ◌+◌, ◌<◌, ◌≤◌, Bool, true, false, if◌then◌else◌, List, [], ◌∷◌, ◌++◌, length, map, Option, Some, None, refl, sym, subst, arith}
 use Rattle.std.specs.List.{AllByRecursion}
 use Rattle.std.proofs.ByRecursion.{All-append}

@@ -1,4 +1,4 @@
--- A check of unchanged files: its fault list, the places of the faults, and the number of features that it types.
+-- A check of unchanged files types no feature, and its list of errors is that of the stored check, with source locations in the files.
 use Rattle.std.proofs.Common.{◌≡◌, ℕ, ◌<◌, List, Option, Some, None, IfSome, Bool, true, length, refl, sym, subst, arith}
 use Rattle.std.specs.Global.{Vec}
 use Rattle.std.specs.List.{AllByRecursion}

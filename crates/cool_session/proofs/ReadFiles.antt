@@ -1,5 +1,5 @@
--- Files that come to be typed are read: their tokens and trees, and a table that is theirs except for places, bodies and initial values. The stored results
--- of the features of their table are those of the exact table.
+-- Files that reach type checking have tokens, syntax trees, and a class table that is theirs except for source locations, bodies and initial values. The stored
+-- results of the features of their table are those of the exact table.
 use Rattle.std.proofs.Common.{◌≡◌, ℕ, List, [], ◌∷◌, map, drop, Option, Some, None, refl, sym, ap, ◌∙◌, subst, codes}
 use Rattle.cool_syntax.specs.declared.type_ref.TypeRef.{TypeRef}
 use Rattle.cool_syntax.specs.declared.file_tree.ClassDef.{ClassDef}

@@ -1,4 +1,4 @@
--- An expression whose places are renamed is checked with the result that it had, the place of its fault renamed, also in another context in
+-- If the source locations in an expression are changed, the result of its check is the same, with its error at the changed location, also in another context in
 -- which names, types and methods mean the same.
 use Rattle.std.proofs.Common.{◌≡◌, ℕ, List, [], ◌∷◌, ◌++◌, length, Option, Some, None, Bool, true, false, if◌then◌else◌, Ok, Err, refl, ap, ◌∙◌}
 use Rattle.std.specs.Prelude.{not, ◌&&◌, ◌||◌, nat_eq}

@@ -1,4 +1,4 @@
--- Trees and tokens whose places are renamed: if tokens are a feature, the renamed tokens are the renamed feature.
+-- If tokens parse as a feature, the same tokens with changed source locations parse as this feature with the locations changed in the same way.
 use Rattle.std.proofs.Common.{◌≡◌, ℕ, ◌≤◌, List, [], ◌∷◌, ◌++◌, map, Some, true, false, refl, sym, ap, ◌∙◌, subst}
 use Rattle.std.proofs.lemmas.List.{map-append}
 use Rattle.std.specs.Option.{option_map}

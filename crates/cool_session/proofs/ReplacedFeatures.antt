@@ -1,4 +1,4 @@
--- Tokens that are a file, with other tokens of a feature in the place of those of one of its features, are a file, too.
+-- If the tokens of one feature in a file are replaced by those of another feature, the result parses as a file, too.
 use Rattle.std.proofs.Common.{◌≡◌, ℕ, ◌+◌, List, [], ◌∷◌, ◌++◌, length, take, drop, Some, unwrap_or, Option, if◌then◌else◌, refl, sym, ap, ◌∙◌, subst, arith, append_assoc}
 use Rattle.std.specs.Prelude.{slice_get, slice_set}
 use Rattle.std.proofs.Math.Seq.{take-append_seam, drop-append_seam}

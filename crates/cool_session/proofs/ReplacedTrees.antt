@@ -1,4 +1,5 @@
--- The concrete tree of a file with another feature in the place of one of its features: its tokens, its runs and its definitions.
+-- If one feature in the concrete syntax tree of a file is replaced by another, the tokens, the features and the class definitions of the file change only at
+-- this feature.
 use Rattle.std.proofs.Common.{◌≡◌, ◌⊎◌, inl, inr, ℕ, ◌+◌, ◌-◌, ◌<◌, ◌≤◌, List, [], ◌∷◌, ◌++◌, length, Some, refl, sym, ap, ◌∙◌, subst, arith, append_assoc, append-nil}
 use Rattle.std.specs.Prelude.{slice_get}
 use Rattle.std.proofs.lemmas.List.{length-append}

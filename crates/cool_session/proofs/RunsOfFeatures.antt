@@ -1,4 +1,4 @@
--- The runs of tokens of a file that end with a semicolon of a class's level are its features, in order.
+-- The sequences of tokens in a file that end with a semicolon at the level of a class body are the features of the file, in order.
 use Rattle.std.proofs.Common.{◌≡◌, ℕ, ◌+◌, ◌≤◌, List, [], ◌∷◌, ◌++◌, Bool, true, false, if◌then◌else◌, refl, sym, ap, ◌∙◌, subst, arith, append_assoc, append-nil}
 use Rattle.std.specs.Prelude.{nat_eq}
 use Rattle.cool_syntax.specs.declared.place.Place.{Place}

@@ -1,4 +1,5 @@
--- An input has a session: at each turn the session ends, or it does a command that takes at least one byte. The files held stay within the limits.
+-- Each input has a session, because in each step the session ends or carries out a command that takes at least one byte of the input. The files held stay
+-- within the limits.
 use Rattle.std.proofs.Common.{◌≡◌, ◌⊎◌, inl, inr, ℕ, zero, suc, ◌+◌, ◌<◌, ◌≤◌, Bool, true, false, List, [], ◌∷◌, ◌++◌, length, take, drop, replicate, remove, take-append-drop, refl, sym, ap, ◌∙◌, subst, arith, length-set}
 use Rattle.std.specs.Prelude.{Option, Some, None, IfSome, Result, Ok, Err, bytes_eq, if◌then◌else◌, ◌==◌, is_some}
 use Rattle.std.proofs.Common.{true≢false, is_ok}

@@ -1,4 +1,4 @@
--- The course of a session over an input and a sink: its first commands, and then the next one.
+-- After the first commands of a session, the replies to these commands were written, and the next command continues, ends or interrupts the session.
 use Rattle.std.proofs.Common.{◌≡◌, ℕ, zero, suc, ◌+◌, ◌<◌, ◌≤◌, ◌^◌, List, [], ◌++◌, refl, sym, ◌∙◌, ap, arith, subst, ◌⊎◌, inl, inr}
 use Rattle.std.specs.Prelude.{◌≢◌, Some, None, Result, Ok, Err}
 use Rattle.std.specs.List.{concat}

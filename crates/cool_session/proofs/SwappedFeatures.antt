@@ -1,4 +1,5 @@
--- A feature of a table that is exchanged for one that declares the same: it stands there, and exchanged back, the table is as it was.
+-- If a feature of a class table is replaced by one that declares the same, the new feature is at the same position, and replacing it again by the old one
+-- restores the table.
 use Rattle.std.proofs.Common.{◌≡◌, ℕ, zero, suc, ◌<◌, List, [], ◌∷◌, length, Some, sym, ap, ◌∙◌, subst, arith, refl}
 use Rattle.std.specs.List.{slice_get}
 use Rattle.std.proofs.lemmas.Option.{slice_get_within, get_or_from_slice_get}

@@ -1,4 +1,5 @@
--- Lemmas on reading lines and files from an input, byte after byte.
+-- Lemmas on reading a session's input byte after byte: the bytes so far are a part of a line or file, and are complete at a newline or at the length of the
+-- file.
 use Rattle.std.proofs.Common.{◌≡◌, ◌⊎◌, inl, inr, ◌^◌, ℕ, zero, suc, ◌+◌, ◌<◌, ◌≤◌, Bool, true, false, not, List, [], ◌∷◌, ◌++◌, length, refl, sym, ◌∙◌, ap, append_assoc, append-nil, arith}
 use Rattle.std.specs.Prelude.{◌==◌, ◌≢◌, ◌&&◌}
 use Rattle.std.specs.List.{list_all}

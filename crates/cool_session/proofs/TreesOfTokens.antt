@@ -1,4 +1,4 @@
--- The trees of files, by their tokens.
+-- Files have given syntax trees exactly if the tokens of each file parse as its tree.
 use Rattle.std.proofs.Common.{◌≡◌, ℕ, ◌+◌, List, [], ◌∷◌, subst}
 use Rattle.cool_syntax.specs.declared.token.Token.{Token}
 use Rattle.cool_syntax.specs.declared.file_tree.FileTree.{FileTree}

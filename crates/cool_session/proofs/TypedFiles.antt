@@ -1,5 +1,5 @@
--- Files that come to be typed: their runs of tokens are the features of their table, and contracts see them as `AreTyped` says. Files that are refused
--- before do not come to be typed.
+-- If files reach type checking, the sequences of tokens that end with a semicolon of a class body are the features of their class table. Files that are
+-- rejected before type checking do not reach it.
 use Rattle.std.proofs.Common.{◌≡◌, ◌≢◌, ℕ, ◌+◌, List, [], ◌∷◌, ◌++◌, map, Bool, true, false, if◌then◌else◌, refl, sym, ap, ◌∙◌, subst, arith}
 use Rattle.std.specs.List.{AllByRecursion}
 use Rattle.std.specs.List.Sorted.{IsPermutation}

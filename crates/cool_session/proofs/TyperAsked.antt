@@ -1,4 +1,4 @@
--- The number of calls of a typer: no call, or one more; and never more than there are features without a stored result.
+-- A check calls the type checker at most once for each feature, and no more often than there are features without a stored result.
 use Rattle.std.proofs.Common.{◌≡◌, ℕ, zero, suc, ◌+◌, ◌≤◌, List, length, Option, Result, Ok, Err, sym, ap, ◌∙◌, arith, add-one}
 use Rattle.std.specs.Prelude.{OnErr}
 use Rattle.std.specs.Borrow.{Bor}

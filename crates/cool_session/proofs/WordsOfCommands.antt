@@ -1,4 +1,4 @@
--- The meaning of the words of a line: names are texts, and lengths are numbers of few digits.
+-- A line of a session's input is parsed by its words: names are texts, and lengths are numbers of at most seven digits.
 use Rattle.std.proofs.Common.{◌≡◌, refl, sym, ◌∙◌, subst, ℕ, zero, suc, ◌+◌, ◌-◌, ◌*◌, ◌<◌, ◌≤◌, Bool, true, false, true≢false, List, [], ◌∷◌, length, map, get_or, drop, drop-cons, add-one, arith}
 use Rattle.std.specs.Prelude.{None, nat_le, ◌&&◌}
 use Rattle.std.specs.List.{list_all, fold}

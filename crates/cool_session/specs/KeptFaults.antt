@@ -1,5 +1,5 @@
--- The results stored for features, for a check after edits: the feature is typed, or else the kind of its fault, the rule that fails, the number of the
--- token with the fault, and its types.
+-- The result that a check stores for a feature: the feature has no type error, or else the kind of its error, the rule that fails, the number of the token with
+-- the error, and its types.
 use Rattle.std.specs.Prelude.{◌≡◌, refl, ℕ, suc, ◌<◌, List, [], ◌∷◌, ◌++◌, map, length, get_or, Option, Some, None, IfSome, Ok, Err, codes}
 use Rattle.std.specs.List.Sorted.{IsPermutation}
 use Rattle.std.proofs.Common.{arith}

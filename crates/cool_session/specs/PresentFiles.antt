@@ -1,4 +1,4 @@
--- If the flag says that the stored check is of the current files, it is.
+-- `IsOfPresent` says that the stored check is of the current files if the session's flag says so.
 use Rattle.std.specs.Prelude.{ℕ, List, Option, Some, None, Bool, true, false}
 use Rattle.cool_session.specs.declared.base.Base.{Base}
 use Rattle.cool_session.specs.KeptChecks.{IsBaseOf}

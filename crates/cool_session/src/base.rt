@@ -1,4 +1,4 @@
-//! The data stored from a check for the next one.
+//! The data that a check stores for the next check: the files as read, and the error of each feature, if it has one.
 
 ghost use Rattle.std.specs.Prelude.{◌<◌, ◌^◌, length};
 ghost use Rattle.std.specs.List.{AllByRecursion};

@@ -1,4 +1,4 @@
-//! The conversation of a session with its input.
+//! Reads the commands of a session from its input, carries them out, and writes the replies.
 
 ghost use Rattle.std.specs.Prelude.{◌≡◌, ◌≤◌, ℕ, Bool, false, List, Option, Some, IfOk, IsErrOf};
 ghost use Rattle.cool_ports.specs.Answers.{Leaves};

@@ -1,4 +1,4 @@
-//! The difference between the tokens of files and those before an edit.
+//! Finds the difference between the tokens of files and those before an edit.
 
 ghost use Rattle.std.specs.Prelude.{◌≡◌, ◌<◌, ◌≤◌, ◌^◌, ◌-◌, length, take, drop, IfOk, IfSome, MatchOption};
 ghost use Rattle.std.specs.List.{AllByRecursion};

@@ -1,4 +1,4 @@
-//! Checks of edited files by the stored results: the files differ from those before only in places, or in one feature that declares the same as before.
+//! Checks edited files by the stored results if they differ from those before only in source locations, or in one feature that declares the same as before.
 
 ghost use Rattle.std.specs.Prelude.{◌≡◌, ◌≤◌, ◌<◌, ◌^◌, ℕ, List, [], Option, Some, length, slice_set, IfOk, IfSome, IfNone, OnOk, OnErr};
 ghost use Rattle.std.specs.List.{AllByRecursion, slice_get};

@@ -1,4 +1,4 @@
-//! The fault list of files, from the stored results of their features.
+//! Returns the list of compile-time errors of files, from the stored results of their features.
 
 ghost use Rattle.std.specs.Prelude.{◌≡◌, ◌<◌, ◌^◌, length, map, IfOk};
 ghost use Rattle.std.specs.List.{AllByRecursion};

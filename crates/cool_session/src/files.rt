@@ -1,4 +1,4 @@
-//! Looking up files by name, and their numbers of bytes.
+//! Looks up files by name, and counts their bytes.
 
 ghost use Rattle.std.specs.Prelude.{◌≡◌, ◌≤◌, ◌<◌, length, replicate, unwrap_or, IfSome, IfOk, IfErr, OnOk, Ok, Err};
 ghost use Rattle.cool_syntax.specs.declared.TheConstants.{MOST_FILES, MOST_SOURCE_BYTES};

@@ -1,4 +1,4 @@
-//! Lines and files that are read from the input of a session.
+//! Reads lines and files from the input of a session.
 
 ghost use Rattle.std.specs.Prelude.{◌≡◌, ◌≤◌, ℕ, List, false, IfOk};
 ghost use Rattle.cool_ports.specs.Answers.{Leaves};

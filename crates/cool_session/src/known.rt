@@ -1,4 +1,4 @@
-//! Checks of unchanged files: the reply has the stored results, and no feature is typed.
+//! Checks of unchanged files: the reply is made from the stored results, and no feature is typed.
 
 ghost use Rattle.std.specs.Prelude.{◌≡◌, IfOk};
 ghost use Rattle.cool_session.specs.KeptFaults.{AreFaultsOf, faults_kept};

@@ -1,4 +1,4 @@
-//! Theorems about sessions: their result for an input is unique, and if a session is cut short, a prefix of its replies was put.
+//! Theorems about sessions: their result for an input is unique, and if a session is interrupted, a prefix of its replies was written.
 
 ghost use Rattle.std.specs.Prelude.{ℕ, List};
 ghost use Rattle.cool_session.specs.Conversations.{HasPartWhereCut};

@@ -1,4 +1,4 @@
-//! A session: source files that are held by name and edited, and the conversation about them.
+//! A session holds source files by name while they are edited, and replies to commands that set, remove and check them.
 //!
 //! Input: files, set and taken away one after another, or a source of commands and a sink. Output: the names of the files, their numbers of bytes, and
 //! their fault list, for which only the features without a stored result are typed; or the replies to the commands. `specs/Files.antt` defines which files

@@ -1,4 +1,4 @@
-//! Parsing of the tokens of one feature.
+//! Parses the tokens of one feature.
 
 ghost use Rattle.std.specs.Prelude.{◌≡◌, ◌≤◌, ◌+◌, [], ◌∷◌, length, Some, IfOk, IfSome};
 ghost use Rattle.cool_syntax.specs.declared.TheConstants.{MOST_SOURCE_BYTES};

@@ -1,4 +1,4 @@
-//! Typing of the features that have no stored result.
+//! Types the features that have no stored result.
 
 ghost use Rattle.std.specs.Prelude.{◌≡◌, ◌<◌, ◌^◌, length, IfSome, IfNone, IfOk, OnErr};
 ghost use Rattle.std.specs.List.{AllByRecursion};

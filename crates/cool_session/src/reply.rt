@@ -1,4 +1,4 @@
-//! The reply of a session to a check.
+//! The reply of a session to a check: the list of errors, and how many features were typed.
 
 ghost use Rattle.std.specs.Prelude.{◌≡◌, ◌<◌, [], ◌∷◌, length, map, IfOk, string_bytes};
 ghost use Rattle.std.specs.List.{AllByRecursion};

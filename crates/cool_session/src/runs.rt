@@ -1,4 +1,4 @@
-//! The features of files as runs of tokens.
+//! Finds the features of files, each as a sequence of tokens.
 
 ghost use Rattle.std.specs.Prelude.{◌≡◌, ◌+◌, ◌<◌, ◌^◌, ◌++◌, length, IfOk, OnOk};
 ghost use Rattle.std.specs.List.{AllByRecursion};

@@ -1,4 +1,4 @@
-//! Comparison of class tables, with no regard to places, names of formals and bodies.
+//! Compares class tables, ignoring source locations, names of formals and bodies.
 
 ghost use Rattle.std.specs.Prelude.{◌≡◌, ◌↔◌, ◌<◌, IsTrue, map, length};
 ghost use Rattle.cool_classes.specs.Chains.{class_at};

@@ -1,4 +1,4 @@
-//! Comparison of what features declare, with no regard to places, bodies and initial values.
+//! Compares the declarations of features, ignoring source locations, bodies and initial values.
 
 ghost use Rattle.std.specs.Prelude.{◌≡◌, ◌↔◌, IsTrue};
 ghost use Rattle.cool_classes.specs.Declarations.{DeclareSame, formal_names};

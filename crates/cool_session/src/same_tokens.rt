@@ -1,4 +1,4 @@
-//! Comparison of tokens, with no regard to places.
+//! Compares tokens, ignoring source locations.
 
 ghost use Rattle.std.specs.Prelude.{◌≡◌, ◌↔◌, IsTrue};
 ghost use Rattle.cool_session.specs.FeatureTokens.{kinds};

@@ -1,4 +1,4 @@
-//! A session: the files that are edited.
+//! A session: source files that are held by name and can be set, removed and checked.
 
 ghost use Rattle.std.specs.Prelude.{◌≡◌, ◌≤◌, ◌<◌, [], length, replicate, None, IfOk, IfSome, IfNone, OnOk, OnErr};
 ghost use Rattle.std.specs.List.{AllByRecursion};

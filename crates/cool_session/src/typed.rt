@@ -1,4 +1,4 @@
-//! Typing a feature, to store its result.
+//! Types a feature, and returns the result to store for it.
 
 ghost use Rattle.std.specs.Prelude.{◌≡◌, ◌<◌, ◌^◌, ◌↔◌, ℕ, length, IfOk, IsTrue, Some};
 ghost use Rattle.std.specs.List.{slice_get};

@@ -1,5 +1,5 @@
--- `find_difference` returns a difference as `IsDifference` of `Edits.antt` defines it. The run that it returns contains all changed tokens of the only changed
--- file, and as many tokens as before follow it.
+-- `find_difference` returns a difference as `IsDifference` of `Edits.antt` defines it. The sequence of tokens that it returns contains all changed tokens of
+-- the only changed file, and as many tokens as before follow it.
 use Rattle.std.proofs.Common.{◌≡◌, ◌<◌, ◌+◌, ◌^◌, List, length, sym, ◌∙◌, subst, arith}
 use Rattle.cool_syntax.specs.declared.token.Token.{Token}
 use Rattle.cool_session.specs.Differing.{AreSameFrom, IsFirstOther}

@@ -1,5 +1,5 @@
--- `check_moved` stores the new tokens with the results of the base. The tokens differ from those before only in places, so the stored results are those of the
--- new files.
+-- `check_moved` stores the new tokens with the results of the stored check. The tokens differ from those before only in source locations, so the stored results
+-- are those of the new files.
 use Rattle.std.proofs.Common.{List, refl, sym, subst}
 use Rattle.cool_lexer.specs.declared.lexer.Lexed.{Lexed}
 use Rattle.cool_faults.specs.declared.fault.Untyped.{Untyped}

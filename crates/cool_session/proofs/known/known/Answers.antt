@@ -1,4 +1,4 @@
--- `known` may call `fault_list`, because the results stored in a base are those of the features of its tokens.
+-- `known` may call `fault_list`, because the results in a stored check (base) are those of the features of its tokens.
 use Rattle.std.proofs.Common.{List, sym, subst}
 use Rattle.cool_lexer.specs.declared.lexer.Lexed.{Lexed}
 use Rattle.cool_session.specs.KeptChecks.{AreKeptAmong}

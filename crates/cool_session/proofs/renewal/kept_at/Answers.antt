@@ -1,5 +1,5 @@
--- `kept_at` compares the given tokens with those of the feature at the same position in the base. It returns the result stored at this position if the tokens
--- have the same kinds.
+-- `kept_at` compares the given tokens with those of the feature at the same position in the stored check (base). It returns the result stored at this position
+-- if the tokens have the same kinds.
 use Rattle.std.proofs.Common.{◌≡◌, ◌<◌, List, [], length, get_or, Option, None, true≢false, false, true, refl, sym, ap, ◌∙◌, subst, arith}
 use Rattle.std.specs.Borrow.{Bor}
 use Rattle.cool_session.specs.declared.base.Base.{Base}

@@ -1,4 +1,4 @@
--- `renew` stores one result for each feature in turn: the result stored in the base or, if there is none, the result of the typer.
+-- `renew` stores one result for each feature in turn: the result in the stored check (base) or, if there is none, the result of the type checker.
 use Rattle.std.proofs.Common.{rules, ◌≡◌, ◌+◌, ◌<◌, ◌≤◌, ◌++◌, ◌∷◌, [], ℕ, List, length, take, Option, IfSome, refl, sym, ap, ◌∙◌, subst, arith}
 use Rattle.std.specs.Borrow.{Bor}
 use Rattle.std.proofs.lemmas.Option.{slice_get_within}

@@ -1,4 +1,5 @@
--- In the loop of `add_runs`, the runs added so far, followed by those that end among the tokens that are left, are all runs of the file.
+-- In the loop of `add_runs`, the sequences of tokens (runs) added so far, followed by those that end among the tokens that are left, are the sequences of all
+-- features of the file.
 use Rattle.std.proofs.Common.{◌≡◌, ◌≤◌, ◌++◌, drop}
 use Rattle.cool_session.specs.Runs.{bounds_from, bounds_in}
 use Rattle.cool_session.proofs.runs.add_runs.Given as goal

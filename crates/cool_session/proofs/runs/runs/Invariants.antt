@@ -1,4 +1,4 @@
--- In the loop of `runs`, the runs so far, followed by those of the files that are left, are the runs of all files.
+-- In the loop of `runs`, the sequences of tokens (runs) so far, followed by those of the files that are left, are those of the features of all files.
 use Rattle.std.proofs.Common.{◌≡◌, ◌++◌, drop}
 use Rattle.cool_session.specs.Runs.{bounds_of}
 use Rattle.cool_session.proofs.runs.runs.Given as goal

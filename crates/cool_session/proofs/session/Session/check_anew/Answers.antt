@@ -1,5 +1,5 @@
--- `Session::check_anew` types no feature if a phase before typing refuses the files. Otherwise the results of `renew` give the fault list and the count of
--- typed features.
+-- `Session::check_anew` types no feature if a phase before type checking rejects the files. Otherwise the results of `renew` give the list of errors and the
+-- count of typed features.
 use Rattle.std.proofs.Common.{◌≡◌, List, ℕ, ◌<◌, ◌≤◌, Option, length, sym, subst, arith}
 use Rattle.std.specs.Global.{Vec}
 use Rattle.std.specs.List.{AllByRecursion}

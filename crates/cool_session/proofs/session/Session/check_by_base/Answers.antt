@@ -1,5 +1,5 @@
--- `Session::check_by_base` replies with the stored results if the base belongs to the present files. Otherwise a reply of `check_edited` comes with a base of
--- the present files.
+-- `Session::check_by_base` replies with the results of the stored check (base) if it belongs to the present files. Otherwise a reply of `check_edited` comes
+-- with a stored check of the present files.
 use Rattle.cool_session.proofs.PresentChecks.{present, faults_present, placed_present, none_typed, faults_replied, placed_replied, typed_replied}
 use Rattle.cool_session.proofs.session.Session.check_by_base.Goals as goal
 use Rattle.cool_faults.specs.Files.{bytes_of}
