@@ -1,5 +1,5 @@
--- Lemmas for reading the values at several locations of a store, one after the other: each step reads one more, and an error at one location is an error of
--- all.
+-- Lemmas for reading the values at several locations of a store, one after the other: each step reads one more value, and an error at one location makes the
+-- whole result an error.
 use Rattle.std.proofs.Common.{◌≡◌, ℕ, suc, ◌+◌, ◌-◌, ◌<◌, List, [], ◌∷◌, ◌++◌, map, Option, Some, None, Result, Err, Vec, ap, sym, ◌∙◌, refl, subst, arith, append_assoc}
 use Rattle.std.proofs.lemmas.List.{map-append}
 use Rattle.std.proofs.lemmas.List.Elements.{Contains-append_right}

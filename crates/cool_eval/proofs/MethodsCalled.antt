@@ -1,4 +1,4 @@
--- Lemmas on `class_called` and `call_class` of StackMachine.antt, which find the class and the method of a call, also if the receiver is void or no step is
+-- Lemmas on `class_called` and `call_class` of StackMachine.antt, which look up the class and the method of a call, also if the receiver is void or no step is
 -- left.
 use Rattle.std.proofs.Common.{◌≡◌, ℕ, suc, ◌<◌, ◌≤◌, ◌+◌, List, [], ◌∷◌, length, get_or, Option, Some, None, Bool, ap, sym, ◌∙◌, refl, arith}
 use Rattle.std.specs.Prelude.{option_map, if◌then◌else◌}

@@ -1,4 +1,4 @@
-//! The methods of the basic classes (the Cool manual, section 8).
+//! Implements the methods of the basic classes (the Cool manual, section 8).
 
 ghost use Rattle.std.specs.Prelude.{◌≡◌, ℕ, List, IfOk, IfErr, map, option_map};
 ghost use Rattle.cool_classes.specs.Chains.{Class};

@@ -1,4 +1,4 @@
-//! Output to the sink and input from the source, for the methods of IO.
+//! Writes output to the sink and reads lines from the source, for the methods of IO.
 
 ghost use Rattle.std.specs.Prelude.{◌≡◌, ◌++◌, ℕ, List, [], true, IfErr, OnOk, OnErr};
 ghost use Rattle.cool_ports.specs.Answers.{Leaves};

@@ -1,4 +1,4 @@
-//! The frames of the interpreter, which wait for a value, and its next action.
+//! The frames of the interpreter, each of which waits for the value of a subexpression, and the interpreter's next action.
 
 use crate::part::{Call, Part, Parts, Twigs};
 use crate::scene::Scene;

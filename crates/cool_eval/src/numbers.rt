@@ -1,4 +1,4 @@
-//! Arithmetic and comparison of numbers.
+//! Computes arithmetic and comparisons of values.
 
 ghost use Rattle.std.specs.Prelude.{◌≡◌, ℤ, SomeIff, FitsSigned, IfErr};
 ghost use Rattle.std.specs.Int.{w64};

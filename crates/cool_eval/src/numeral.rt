@@ -1,4 +1,4 @@
-//! Parsing numbers in text.
+//! Parses the number at the front of a line of text.
 
 ghost use Rattle.std.specs.Prelude.{◌≡◌, ◌%◌, ◌^◌};
 ghost use Rattle.cool_meaning.specs.Numbers as numbers;

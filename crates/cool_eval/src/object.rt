@@ -1,4 +1,4 @@
-//! Creating objects: defaults first, then the initial values.
+//! Creates objects: first with default values, and then with the initial values of their attributes.
 
 ghost use Rattle.std.specs.Prelude.{◌≡◌, ℕ, List, IfErr, length};
 ghost use Rattle.cool_meaning.specs.Values as values;

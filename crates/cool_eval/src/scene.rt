@@ -1,4 +1,4 @@
-//! The context in which an expression is evaluated: a method of an object, with variables.
+//! The context in which an expression is evaluated: the class table, the object whose method is running, and the variables in scope.
 
 ghost use Rattle.std.specs.Prelude.{◌≡◌, ◌∷◌, [], ◌++◌, IfOk, IfErr, map, option_map, slice_get};
 ghost use Rattle.std.specs.List.{AllByRecursion};

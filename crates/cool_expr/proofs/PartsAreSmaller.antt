@@ -1,4 +1,4 @@
--- An element of a list of expressions or branches has no more nodes than the list.
+-- An element of a list of expressions or `case` branches has no more nodes than the whole list.
 use Rattle.std.proofs.Common.{◌≡◌, ℕ, ◌<◌, ◌≤◌, zero, suc, List, [], ◌∷◌, length, get_or, map, ap, arith}
 use Rattle.cool_expr.specs.declared.expr.Expr.{Expr}
 use Rattle.cool_expr.specs.declared.expr.Branch.{Branch}

@@ -1,4 +1,4 @@
--- Lemmas for `fold_body`: the nodes that `fold` appends for the expression of a feature are those of the folded feature, and so are their types.
+-- Lemmas for `fold_body`: the nodes that `fold` appends for the expression of a feature are those of the folded feature, with their types.
 use Rattle.std.proofs.Common.{◌≡◌, ◌++◌, ℕ, ◌<◌, ◌≤◌, List, [], length, Option, Some, Ok, ap, sym, ◌∙◌, subst, arith}
 use Rattle.std.specs.Prelude.{slice_get, unwrap_or}
 use Rattle.std.specs.List.{AllByRecursion}

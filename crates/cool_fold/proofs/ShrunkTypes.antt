@@ -1,4 +1,4 @@
--- The expression that `shrunk` of `Shrinking.antt` returns has the same static type as the original, even if that is not typed.
+-- The folded expression that `shrunk` of `Shrinking.antt` returns has the same static type as the original expression, even if that has type errors.
 use Rattle.std.proofs.Common.{◌≡◌, ℕ, ℤ, ◌<◌, List, length, Option, Some, None, Bool as Truth, true, false, refl, ap, ◌∙◌}
 use Rattle.std.specs.Prelude.{not, if◌then◌else◌, unwrap_or}
 use Rattle.std.specs.Option.{option_map}

@@ -1,4 +1,4 @@
--- The expressions of a table, in the order of classes and features, each with the class and the number of its feature.
+-- The expressions of a class table, in the order of classes and features, each with its class and the number of its feature.
 use Rattle.std.specs.Prelude.{ℕ, ◌+◌, List, [], ◌∷◌, ◌++◌, Option, Some, None}
 use Rattle.cool_syntax.specs.declared.file_tree.Feature.{Feature}
 use Rattle.cool_syntax.specs.Tree.{Tree}

@@ -1,4 +1,4 @@
--- `IsDone` says that nothing is left to fold in an expression: none of its nodes is foldable.
+-- `IsDone` says that nothing is left to fold in an expression: folding would replace none of its nodes.
 use Rattle.std.specs.Prelude.{◌≡◌, ℤ, neg_ℤ, Bool as Truth, true, false, List, Option, Some, None}
 use Rattle.cool_syntax.specs.declared.operator.ArithOp.{ArithOp}
 use Rattle.cool_syntax.specs.declared.operator.CompareOp.{CompareOp}

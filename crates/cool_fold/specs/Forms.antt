@@ -1,4 +1,4 @@
--- Predicates for single forms of nodes, such as `IsDispatch`, and the operands of operators.
+-- Predicates for the kind of a node, such as `IsDispatch`, and functions that return the operands of operators.
 use Rattle.cool_syntax.specs.declared.node.Node.{Node}
 use Rattle.cool_syntax.specs.declared.node.Node.TheVariants.{Assign, Dispatch, StaticDispatch, If, While, Block, Let, Case, IsVoid, Arith, Neg, Compare, Not}
 use Rattle.cool_syntax.specs.declared.node.NodeId.{NodeId}

@@ -1,4 +1,4 @@
-//! Folding an expression: its node is appended after the nodes of its folded parts.
+//! Folds an expression: appends its node after the nodes of its folded parts.
 
 ghost use Rattle.std.specs.Prelude.{◌≡◌, ◌+◌, ◌-◌, ◌<◌, ◌≤◌, ◌^◌, length, OnOk};
 ghost use Rattle.std.specs.List.{AllByRecursion};

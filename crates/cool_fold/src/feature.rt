@@ -1,4 +1,4 @@
-//! Folding the expression of a feature, with the types of its nodes.
+//! Folds the expression of a feature, and returns the types of its nodes.
 
 ghost use Rattle.std.specs.Prelude.{◌≡◌, ◌<◌, length, Some, IfOk};
 ghost use Rattle.std.specs.List.{slice_get};

@@ -1,4 +1,4 @@
-//! Folding `let` and `case`.
+//! Folds `let` and `case` expressions.
 
 ghost use Rattle.std.specs.Prelude.{◌≡◌, ◌+◌, ◌-◌, ◌<◌, ◌≤◌, ◌^◌, length, IfSome, OnOk};
 ghost use Rattle.std.specs.List.{AllByRecursion};

@@ -1,4 +1,4 @@
-//! Folding dispatches.
+//! Folds dispatches.
 
 ghost use Rattle.std.specs.Prelude.{◌≡◌, ◌+◌, ◌-◌, ◌<◌, ◌≤◌, ◌^◌, length, OnOk};
 ghost use Rattle.std.specs.List.{AllByRecursion};

@@ -1,4 +1,4 @@
-//! Folding loops, blocks and conditionals.
+//! Folds loops, blocks and conditionals.
 
 ghost use Rattle.std.specs.Prelude.{◌≡◌, ◌+◌, ◌-◌, ◌<◌, ◌≤◌, ◌^◌, length, slice_get, if◌then◌else◌, None, OnOk, Some};
 ghost use Rattle.cool_syntax.specs.NodeLists.{HasPartsBelow, tree_of_node};

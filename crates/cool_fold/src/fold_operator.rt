@@ -1,4 +1,4 @@
-//! Folding assignments and operators.
+//! Folds assignments and operators.
 
 ghost use Rattle.std.specs.Prelude.{◌≡◌, ◌+◌, ◌-◌, ◌<◌, ◌≤◌, ◌^◌, length, OnOk};
 ghost use Rattle.cool_syntax.specs.NodeGroups.{IsBinary, IsUnary};

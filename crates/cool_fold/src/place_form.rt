@@ -1,4 +1,4 @@
-//! Appending the nodes of loops, blocks, conditionals, `let`, `case` and dispatches after those of their folded parts.
+//! Appends the nodes of loops, blocks, conditionals, `let`, `case` and dispatches after those of their folded parts.
 
 ghost use Rattle.std.specs.Prelude.{◌≡◌, ◌∷◌, ◌++◌, ◌+◌, ◌-◌, ◌<◌, ◌≤◌, ◌^◌, [], length, OnOk};
 ghost use Rattle.cool_fold.specs.Forms.{IsBlock, IsCase, IsConditional, IsDispatch, IsLet, IsLoop, IsStaticDispatch};

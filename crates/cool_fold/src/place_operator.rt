@@ -1,4 +1,4 @@
-//! Appending the nodes of assignments and operators after those of their folded operands, or constants in their place.
+//! Appends the nodes of assignments and operators after those of their folded operands, or constants in their place.
 
 ghost use Rattle.std.specs.Prelude.{◌≡◌, ◌+◌, ◌-◌, ◌<◌, ◌≤◌, ◌^◌, length, OnOk};
 ghost use Rattle.cool_syntax.specs.NodeGroups.{IsBinary, IsUnary};

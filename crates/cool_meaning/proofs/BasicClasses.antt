@@ -1,4 +1,4 @@
--- Lemmas on the basic classes in typed tables: their names, parents and methods, and that nothing else is below Int, Bool or String.
+-- Lemmas on the basic classes in class tables without type errors: their names, parents and methods, and that Int, Bool and String have no subclasses.
 use Rattle.std.proofs.Common.{◌≡◌, inl, inr, ℕ, zero, suc, ◌<◌, ◌≤◌, List, [], ◌∷◌, length, get_or, take, Option, Some, None, ap, sym, ◌∙◌, refl, subst, arith, length-take}
 use Rattle.std.specs.Prelude.{Contains}
 use Rattle.std.proofs.lemmas.List.{get_or-take}

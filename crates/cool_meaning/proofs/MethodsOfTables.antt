@@ -1,4 +1,4 @@
--- Lemmas on the methods and attributes of the classes of a chain in typed tables: which class has them, and which types they declare.
+-- Lemmas on the methods and attributes that a class has or inherits in a class table without type errors: which class declares them, and with which types.
 use Rattle.std.proofs.Common.{◌≡◌, ℕ, zero, suc, ◌+◌, ◌≤◌, List, [], ◌∷◌, ◌++◌, map, Option, Some, None, Bool, true, false, cond, ap, sym, ◌∙◌, refl, subst, arith}
 use Rattle.std.specs.Prelude.{Contains, bytes_eq, codes, option_map, nat_lt, slice_get}
 use Rattle.std.specs.List.{AllByRecursion}

@@ -1,5 +1,5 @@
--- `run` is the run of a program with a number of steps: the evaluation of `(new Main).main()` from an empty store (the Cool manual, section 13; the texts of
--- the errors are this compiler's).
+-- `run` is the run of a program with a limited number of steps: the evaluation of `(new Main).main()` from an empty store (the Cool manual, section 13; the
+-- texts of the errors are this compiler's).
 use Rattle.std.specs.Prelude.{ℕ, ◌+◌, List, [], ◌∷◌, ◌++◌, get_or, codes}
 use Rattle.std.specs.Fmt.{decimal}
 use Rattle.cool_syntax.specs.declared.place.Place.{Place}

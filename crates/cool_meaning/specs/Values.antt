@@ -1,5 +1,5 @@
--- `Value` is a value of a running program, and `State` its state: its store, its console, and the number of object identities given out so far (the Cool
--- manual, section 13).
+-- `Value` is a value of a running program, and `State` its state: its store, its input and output (console), and the number of object identities given out so
+-- far (the Cool manual, section 13).
 use Rattle.std.specs.Prelude.{◌≡◌, refl, ℕ, ℤ, pos, Bool as Truth, false, List, [], ◌∷◌, Option, Some, None, codes, bytes_eq, if◌then◌else◌}
 use Rattle.cool_classes.specs.declared.class_id.ClassId.{ClassId}
 use Rattle.cool_classes.specs.Chains.{class_number}

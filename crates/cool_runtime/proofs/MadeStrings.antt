@@ -1,4 +1,4 @@
--- If the head and the bytes of a String were stored, the memory has this String, and the memory below it and on the stack is unchanged.
+-- After the stores of a String's head and bytes, memory has this String, and the memory below it and on the stack is unchanged.
 use Rattle.std.proofs.Common.{◌≡◌, ℕ, zero, suc, ◌+◌, ◌-◌, ◌*◌, ◌/◌, ◌%◌, ◌<◌, ◌≤◌, ◌⊎◌, inl, inr, List, [], ◌∷◌, length, get_or, refl, sym, ap, ◌∙◌, subst, arith}
 use Rattle.mips_isa.specs.Bytes.{Bytes, word, set_word, set_byte}
 use Rattle.cool_runtime.specs.Reaches.{World}

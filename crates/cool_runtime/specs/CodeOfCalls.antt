@@ -1,5 +1,5 @@
--- The assembly lines of calls: entry to a method and return from it, and a dispatch through a table. A frame has the return address at 8($fp), the old $fp at
--- 4($fp) and the old self at 0($fp); arguments stand above it, temporaries below.
+-- The assembly lines of calls: entry to a method, return from it, and a dispatch through a dispatch table. A frame has the return address at 8($fp), the old
+-- $fp at 4($fp) and the old self at 0($fp); arguments are above it, temporaries below.
 use Rattle.std.specs.Prelude.{ℕ, pos, negsuc, List, [], ◌∷◌, ◌+◌, ◌*◌}
 use Rattle.mips_isa.specs.declared.register.TheConstants.{ZERO, A0, T0, S0, S6, T8, T9, SP, FP, RA}
 use Rattle.mips_isa.specs.Lines.{Name, Line, Li}

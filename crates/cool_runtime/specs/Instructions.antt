@@ -1,4 +1,4 @@
--- The abbreviations for lines of assembly that the routines and the code of calls are written with: `lw`, `addu`, `jal` and others.
+-- Abbreviations for assembly lines, such as `lw`, `addu` and `jal`, in which the run-time routines and the code of calls are written.
 use Rattle.std.specs.Prelude.{ℕ, ℤ, pos, [], ◌∷◌}
 use Rattle.mips_isa.specs.declared.instr.Instr.TheVariants.{Three, Shift, Jr, Jalr, Syscall, MoveFrom, MulDiv, Imm, Lui, BranchTwo, BranchOne, Mem}
 use Rattle.mips_isa.specs.declared.instr.ThreeOp.TheVariants as three

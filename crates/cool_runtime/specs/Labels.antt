@@ -1,4 +1,4 @@
--- The names of the labels in compiled programs, by the run-time conventions.
+-- The names of the labels in compiled programs.
 use Rattle.std.specs.Prelude.{codes}
 use Rattle.mips_isa.specs.Lines.{Name}
 

@@ -1,4 +1,4 @@
--- Class tables with the same signatures give each class the same context for typing, and definitions with the same signatures have such tables.
+-- Class tables with the same signatures give each class the same context for type checking, and class definitions with the same signatures have such tables.
 use Rattle.std.proofs.Common.{◌≡◌, ℕ, zero, suc, ◌+◌, List, [], ◌∷◌, ◌++◌, map, length, get_or, Option, Some, None, Bool, false, refl, sym, ap, ◌∙◌}
 use Rattle.std.proofs.lemmas.List.{length-map}
 use Rattle.std.specs.Prelude.{bytes_eq, nat_lt, slice_get, option_map, unwrap_or, if◌then◌else◌}

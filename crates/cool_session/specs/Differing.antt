@@ -1,4 +1,4 @@
--- `IsFirstOther` gives the first file whose tokens differ from those before an edit, and `IsAround` the feature, as a run of tokens, that contains all
+-- `IsFirstOther` gives the first file whose tokens differ from those before an edit, and `IsAround` the feature, as a sequence of tokens, that contains all
 -- differences in the file.
 use Rattle.std.specs.Prelude.{◌≡◌, ◌≢◌, ℕ, ◌+◌, ◌<◌, ◌≤◌, List, length, slice_get, Some}
 use Rattle.cool_lexer.specs.declared.lexer.Lexed.{Lexed}

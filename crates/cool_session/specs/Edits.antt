@@ -1,4 +1,4 @@
--- `IsDifference` says how the tokens of files, without their places, differ after an edit: not at all, in one feature, or perhaps in more.
+-- `IsDifference` says how the tokens of files, without their source locations, differ after an edit: not at all, in one feature, or perhaps in more.
 use Rattle.std.specs.Prelude.{◌≡◌, ◌≢◌, ℕ, List, map, length, take, drop, slice_get, Some}
 use Rattle.cool_lexer.specs.declared.lexer.Lexed.{Lexed}
 use Rattle.cool_session.specs.declared.difference.Difference.{Difference}

@@ -1,5 +1,5 @@
--- `runs_of` gives the tokens of each feature (attribute or method) of files, with their places, and `AreFeatures` says that these tokens parse as given
--- features.
+-- `runs_of` gives the tokens of each feature (attribute or method) of files, with their source locations, and `AreFeatures` says that these tokens parse as
+-- given features.
 use Rattle.std.specs.Prelude.{◌≡◌, refl, ℕ, List, [], ◌∷◌, ◌++◌, map, codes, if◌then◌else◌}
 use Rattle.cool_syntax.specs.declared.place.Place.{Place}
 use Rattle.cool_syntax.specs.declared.token.Token.{Token}

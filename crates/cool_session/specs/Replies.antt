@@ -1,4 +1,4 @@
--- The reply of a session to a check: the number of faults and the number of features that were typed, and then the lines of the faults.
+-- The reply of a session to a check: the number of compile-time errors (faults) and the number of features that were typed, and then one line for each error.
 use Rattle.std.specs.Prelude.{◌≡◌, refl, ℕ, List, ◌∷◌, ◌++◌, map, length, codes, decimal}
 use Rattle.std.specs.Fmt as decimals
 use Rattle.cool_faults.specs.declared.fault.Fault.{Fault}

@@ -1,4 +1,4 @@
--- `bounds_of` finds the features (attributes and methods) of files. Each is a run of tokens, given by its file and the positions of its first token and of
+-- `bounds_of` finds the features (attributes and methods) of files. Each is a sequence of tokens, given by its file and the positions of its first token and of
 -- the one after its last.
 use Rattle.std.specs.Prelude.{ℕ, ◌+◌, ◌<◌, ◌≤◌, List, [], ◌∷◌, ◌++◌, length, get_or, if◌then◌else◌}
 use Rattle.std.specs.List.{slice_range}

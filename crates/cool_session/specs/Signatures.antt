@@ -1,5 +1,5 @@
--- `class_signature` is the part of a class on which other classes depend: the names and types in it, without its expressions. `features_in` gives the tokens
--- of each feature of a file, without their places.
+-- `class_signature` is the part of a class on which other classes depend: the names and types in it, without its expressions. `features_in` gives the tokens of
+-- each feature of a file, without their source locations.
 use Rattle.std.specs.Prelude.{◌≡◌, refl, ℕ, List, [], ◌∷◌, ◌++◌, map, codes, Option, Some, None, if◌then◌else◌}
 use Rattle.cool_syntax.specs.declared.token.TokenKind.{TokenKind}
 use Rattle.cool_syntax.specs.declared.token.TokenKind.TheVariants as kind

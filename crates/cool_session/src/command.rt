@@ -1,4 +1,4 @@
-//! The commands of a session, parsed from the lines of its input.
+//! The commands of a session, and their parsing from the lines of its input.
 
 ghost use Rattle.std.specs.Prelude.{◌≡◌, ◌≤◌, ◌<◌, ◌&&◌, ◌==◌, nat_le, true, length, map, IfOk, IfSome, option_map};
 ghost use Rattle.std.specs.List.{list_all, slice_split};

@@ -1,4 +1,4 @@
-//! The ends of a session, and the interruptions that cut it short.
+//! The ways in which a session ends, and the failures that interrupt it.
 
 ghost use Rattle.std.specs.Prelude.{◌≡◌};
 ghost use Rattle.cool_session.specs.declared.ending.Interruption.TheVariants as interruption;

@@ -1,5 +1,5 @@
--- `arguments` returns the formals as variables at the locations of their arguments. Each step of its loop adds one variable, from the last formal to the
--- first.
+-- `arguments` returns the formal parameters as variables at the locations of their arguments. Each step of its loop adds one variable, from the last formal to
+-- the first.
 use Rattle.std.proofs.Common.{◌≡◌, suc, ◌-◌, ◌<◌, length, ap, sym, ◌∙◌, arith}
 use Rattle.cool_syntax.specs.declared.file_tree.Formal.{Formal}
 use Rattle.cool_eval.specs.Configurations.{locals_of}

@@ -1,4 +1,4 @@
--- In the loop of `arguments`, the variables so far are the formals from the present position on.
+-- In the loop of `arguments`, the variables so far are the formal parameters from the present position on.
 use Rattle.std.proofs.Common.{◌≡◌}
 use Rattle.cool_eval.specs.Configurations.{locals_of}
 use Rattle.cool_eval.proofs.ArgumentsLocated.{located_from}

@@ -1,4 +1,4 @@
--- `method_of` returns the method that `implementation` finds on the chain of a class. A number past the last class has no method.
+-- `method_of` returns the method that a class has itself or inherits (`implementation`). A class number past the last class has no method.
 use Rattle.std.proofs.Common.{◌<◌, ◌≤◌, length, arith}
 use Rattle.cool_eval.proofs.MethodsCalled.{method_outside, method_inside}
 use Rattle.cool_eval.proofs.call.method_of.Goals as goal

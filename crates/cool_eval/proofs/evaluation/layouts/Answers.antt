@@ -1,4 +1,4 @@
--- Each step of the loop of `layouts` adds the attributes of the next class, with those that it inherits.
+-- `layouts` returns the attributes of each class: each step of its loop adds those of the next class, with those that it inherits.
 use Rattle.std.proofs.Common.{arith}
 use Rattle.cool_eval.proofs.LayoutsOfTables.{layouts_more}
 use Rattle.cool_eval.proofs.evaluation.layouts.Goals as goal

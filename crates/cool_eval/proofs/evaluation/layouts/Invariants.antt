@@ -1,4 +1,4 @@
--- In the loop of `layouts`, the attributes of each class so far are at the number of the class.
+-- In the loop of `layouts`, the list of attributes at the number of each class so far is that of the class.
 use Rattle.std.proofs.Common.{◌≡◌, length}
 use Rattle.cool_eval.proofs.LayoutsOfTables.{AreOf}
 use Rattle.cool_eval.proofs.evaluation.layouts.Given as goal

@@ -1,4 +1,5 @@
--- If `value_named` returns an error, so does `begin_name`: the error ends the run, as `Comes` of `Configurations.antt` defines.
+-- If `value_named`, which looks up the value of a name, returns an error, so does `begin_name`: the error ends the run, as `Comes` of `Configurations.antt`
+-- defines.
 use Rattle.std.proofs.Common.{◌≡◌, Err, rules}
 use Rattle.cool_meaning.specs.Evaluation.{value_named}
 use Rattle.cool_eval.specs.Values.{value_of}

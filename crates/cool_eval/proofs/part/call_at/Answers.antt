@@ -1,4 +1,4 @@
--- `call_at` makes a `Call` of a dispatch of a body, because the parts of the dispatch are nodes of the same body.
+-- `call_at` gives access to a dispatch in a body as a `Call`, because the receiver and the arguments of the dispatch are nodes of the same body.
 use Rattle.cool_syntax.specs.Tree.{tree_size}
 use Rattle.cool_eval.proofs.PartsOfCalls.{parts_below}
 use Rattle.cool_eval.proofs.part.call_at.Goals as goal

@@ -1,4 +1,4 @@
--- `first` begins an object of the class that the table has under the name `Main`, as `begin_new` of `StackMachine.antt` defines.
+-- `first` begins a new object of the class with the name `Main` in the class table, as `begin_new` of `StackMachine.antt` defines.
 use Rattle.std.proofs.Common.{◌≡◌, sym, arith}
 use Rattle.std.proofs.lemmas.Grind.{common_steps}
 use Rattle.cool_rules.specs.Rules.{class_named}

@@ -1,4 +1,4 @@
--- `tokens_of` returns the tokens that `write_classes` writes for the classes of a tree. The grammar reads these tokens as the same classes.
+-- `tokens_of` returns the tokens that `write_classes` writes for the classes of a syntax tree. The grammar parses these tokens as the same classes.
 use Rattle.std.proofs.Common.{◌≡◌, rules, subst, sym}
 use Rattle.cool_syntax.specs.Grammar.{Parses}
 use Rattle.cool_syntax.specs.WrittenTrees.{written_classes}

@@ -1,4 +1,4 @@
--- `add` appends a class to the classes of a name, and leaves the classes of every other name as they are.
+-- `add` appends a class to the classes that define a method of one name, and leaves those of every other name as they are.
 use Rattle.std.proofs.Common.{◌++◌, ◌∷◌, [], ap, ◌∙◌, refl, subst, cond, Some}
 use Rattle.std.specs.Prelude.{IsSome, bytes_eq}
 use Rattle.std.specs.Map.{lookup}

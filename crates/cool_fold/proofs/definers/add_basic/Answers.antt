@@ -1,4 +1,4 @@
--- `add_basic` adds a basic class under the names of its methods: each step of its loop adds one name, and at the end no method is left.
+-- `add_basic` adds a basic class to the classes that define each of its methods: each step of its loop adds it for one name, and at the end no method is left.
 use Rattle.std.proofs.Common.{◌≡◌, ◌∙◌, [], drop, ap, sym}
 use Rattle.std.proofs.lemmas.List.{drop_all}
 use Rattle.std.specs.Prelude.{◌&&◌, ◌||◌}

@@ -1,4 +1,4 @@
--- The loop of `add_basic` has added the class under the names of the methods before the current one.
+-- In the loop of `add_basic`, the class has been added to the classes that define a method for each of its methods before the current one.
 use Rattle.std.proofs.Common.{◌≡◌, ℕ, List, Bool as Truth, drop}
 use Rattle.std.specs.Prelude.{◌&&◌, ◌||◌}
 use Rattle.std.specs.List.{list_any}

@@ -1,4 +1,5 @@
--- `add_class` adds a class under the names of its own methods. A class that is not basic has the methods among its features, which `add_features` adds.
+-- `add_class` adds a class to the classes that define each of its own methods. A class that is not basic has the methods among its features, which
+-- `add_features` adds.
 use Rattle.std.proofs.Common.{◌≤◌, ◌∙◌, ap, sym, is_some, arith}
 use Rattle.std.specs.List.{list_any}
 use Rattle.cool_classes.specs.Features.{is_method_named, own_method}

@@ -1,4 +1,4 @@
--- The loop of `add_features` has added the class under the names of the methods among the features before the current one.
+-- In the loop of `add_features`, the class has been added to the classes that define a method for each method among the features before the current one.
 use Rattle.std.proofs.Common.{◌≡◌, ℕ, List, Bool as Truth, drop}
 use Rattle.std.specs.Prelude.{◌&&◌, ◌||◌}
 use Rattle.std.specs.List.{list_any}

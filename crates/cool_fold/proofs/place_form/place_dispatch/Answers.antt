@@ -1,5 +1,5 @@
 -- `place_dispatch` appends a dispatch to the nodes of its folded receiver and arguments: together they are the nodes of the folded dispatch. It is a static
--- dispatch if no class below redefines the method.
+-- dispatch if no proper subclass redefines the method.
 use Rattle.std.proofs.Common.{◌∙◌, sym, subst}
 use Rattle.cool_syntax.specs.NodeLists.{tree_at, trees_of}
 use Rattle.cool_fold.specs.PlacedForms.{PlacesDispatch}

@@ -1,5 +1,5 @@
--- `fold` returns the program with each expression folded. Each step of its loop puts one folded expression into the table, and in the end the table is the
--- folded one.
+-- `fold` returns the program with each expression folded. Each step of its loop puts one folded expression into the class table, and in the end the result is
+-- the folded table.
 use Rattle.std.proofs.Common.{◌∙◌, List, ap, sym, subst}
 use Rattle.cool_syntax.specs.declared.TheConstants.{MOST_FILES}
 use Rattle.cool_classes.specs.Chains.{Class}

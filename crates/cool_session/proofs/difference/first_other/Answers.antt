@@ -1,5 +1,5 @@
 -- `first_other` finds the first file from a number on whose tokens changed: each step of its loop passes one more file whose tokens are as before, except for
--- places.
+-- source locations.
 use Rattle.std.proofs.Common.{◌<◌, length, refl, ap, ◌∙◌, sym, arith}
 use Rattle.cool_session.specs.FeatureTokens.{kinds}
 use Rattle.cool_session.proofs.FilesDiffer.{file_at, same_next}

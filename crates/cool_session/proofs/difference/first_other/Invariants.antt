@@ -1,4 +1,4 @@
--- In the loop of `first_other`, the files before the present one have the tokens that they had before, except for places.
+-- In the loop of `first_other`, the files before the present one have the tokens that they had before, except for source locations.
 use Rattle.std.proofs.Common.{ℕ, ◌≤◌, ◌<◌}
 use Rattle.cool_session.specs.Differing.{IsSameFile}
 use Rattle.cool_session.proofs.difference.first_other.Given as goal

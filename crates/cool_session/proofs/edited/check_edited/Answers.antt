@@ -1,4 +1,4 @@
--- `check_edited` passes on the tokens of files within the limits of a session: numbers of 32 bits count these files and the tokens of each.
+-- The files that `check_edited` passes on, and the tokens of each, can be counted by numbers of 32 bits, because the files are within the limits of a session.
 use Rattle.std.proofs.Common.{◌<◌, ◌≤◌, ℕ, List, [], length, sym, subst, arith}
 use Rattle.std.specs.Global.{Vec}
 use Rattle.std.specs.List.{AllByRecursion}

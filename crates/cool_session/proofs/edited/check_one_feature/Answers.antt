@@ -1,5 +1,5 @@
--- `check_one_feature` types the changed feature over the table that contains it, and replaces the stored result of this feature. The other stored results are
--- those of the new files too.
+-- `check_one_feature` type-checks the changed feature in the class table that contains it, and replaces the stored result of this feature. The other stored
+-- results are those of the new files too.
 use Rattle.std.proofs.Common.{◌≡◌, ◌<◌, ◌^◌, ℕ, List, Option, Some, length, get_or, slice_set, refl, sym, ap, ◌∙◌, subst, arith}
 use Rattle.std.specs.List.{AllByRecursion, slice_get}
 use Rattle.std.proofs.Props.{props}

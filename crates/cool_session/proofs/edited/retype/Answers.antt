@@ -1,4 +1,5 @@
--- `retype` types the feature in a table that contains it. If memory runs out in typing, `retype` swaps the former feature back, which restores the table.
+-- `retype` type-checks the feature in a class table that contains it. If memory runs out in type checking, `retype` swaps the former feature back, which
+-- restores the table.
 use Rattle.std.proofs.Common.{◌≡◌, ◌<◌, List, Option, Some, Result, Ok, Err, false, true≢false, length, slice_set, OnErr, sym, ap, ◌∙◌, subst, arith}
 use Rattle.std.specs.List.{slice_get}
 use Rattle.std.specs.Result.{is_err}

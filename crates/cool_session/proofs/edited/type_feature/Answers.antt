@@ -1,4 +1,4 @@
--- `type_feature` types a feature and replaces the stored result of this feature by the typer's result.
+-- `type_feature` type-checks a feature and replaces the stored result of this feature by the new result.
 use Rattle.std.proofs.Common.{List, Option, slice_set, sym, ap, ◌∙◌, subst}
 use Rattle.cool_check.specs.TypingFaults.{feature_checked}
 use Rattle.cool_classes.specs.Chains.{features_of}

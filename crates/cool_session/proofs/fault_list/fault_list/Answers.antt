@@ -1,4 +1,4 @@
--- `fault_list` returns the stored faults as `AreFaultsOf` of `KeptFaults.antt` defines: `kept_faults` collects them, and `in_order` sorts them.
+-- `fault_list` returns the stored type errors (faults) as `AreFaultsOf` of `KeptFaults.antt` defines: `kept_faults` collects them, and `in_order` sorts them.
 use Rattle.std.proofs.Common.{◌≡◌, List, Result, Ok, Err, ap, ◌∙◌, subst, map}
 use Rattle.std.specs.Prelude.{IfOk}
 use Rattle.std.specs.Global.{Vec}

@@ -1,5 +1,5 @@
--- `kept_faults` returns the stored faults with the places of their present tokens. Each step of its loop adds the fault of one feature, if a fault is stored
--- for it.
+-- `kept_faults` returns the stored type errors (faults) with the source locations of their present tokens. Each step of its loop adds the error of one feature,
+-- if one is stored for it.
 use Rattle.std.proofs.Common.{◌≡◌, ◌++◌, ◌<◌, ◌≤◌, [], List, length, get_or, None, sym, ap, ◌∙◌, subst, arith, append-nil}
 use Rattle.cool_syntax.specs.declared.token.Token.{Token}
 use Rattle.cool_check.specs.declared.fault.TypeFault.{TypeFault}

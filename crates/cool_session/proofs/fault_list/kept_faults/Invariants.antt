@@ -1,4 +1,4 @@
--- In the loop of `kept_faults`, the faults so far, followed by those stored for the features that are left, are all stored faults.
+-- In the loop of `kept_faults`, the type errors (faults) so far, followed by those stored for the features that are left, are all stored errors.
 use Rattle.std.proofs.Common.{◌≡◌, ◌++◌, drop}
 use Rattle.cool_session.specs.Bases.{tokens_of}
 use Rattle.cool_session.specs.FeatureTokens.{runs_of}

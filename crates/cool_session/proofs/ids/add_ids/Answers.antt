@@ -1,4 +1,4 @@
--- `add_ids` adds the positions of the features of a class in their order: each step of its loop adds the next one.
+-- `add_ids` adds the positions (class and number) of the features of a class in their order: each step of its loop adds the next one.
 use Rattle.std.proofs.Common.{◌∙◌, arith}
 use Rattle.cool_session.proofs.IdsOfFeatures.{next_id}
 use Rattle.cool_session.proofs.ids.add_ids.Goals as goal

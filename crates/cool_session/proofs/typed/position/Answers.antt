@@ -1,4 +1,4 @@
--- `position` finds the first token at a place: each step of its loop passes one more token that is not at this place.
+-- `position` finds the first token at a source location: each step of its loop passes one more token that is not at this location.
 use Rattle.std.proofs.Common.{◌≡◌, inl, inr, true≢false, false, true, sym, ap, ◌∙◌, arith}
 use Rattle.cool_syntax.specs.declared.token.Token.{Token}
 use Rattle.cool_session.specs.KeptFaults.{place_of_token}

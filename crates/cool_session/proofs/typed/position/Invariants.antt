@@ -1,4 +1,4 @@
--- In the loop of `position`, none of the first i tokens is at the place.
+-- In the loop of `position`, none of the first i tokens is at the source location.
 use Rattle.std.proofs.Common.{◌≡◌, ℕ, ◌<◌}
 use Rattle.cool_session.specs.KeptFaults.{place_of_token}
 use Rattle.cool_session.proofs.typed.position.Given as goal

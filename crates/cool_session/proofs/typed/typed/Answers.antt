@@ -1,4 +1,4 @@
--- `typed` returns a fault with the position that `position` finds: the token at this position is at the place of the fault.
+-- `typed` returns a type error (fault) with the position that `position` finds: the token at this position is at the source location of the error.
 use Rattle.std.proofs.Common.{subst}
 use Rattle.cool_check.specs.FirstFaults.{IsFirst}
 use Rattle.cool_check.specs.TypingFaults.{feature_checked}

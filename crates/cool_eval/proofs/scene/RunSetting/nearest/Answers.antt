@@ -1,4 +1,5 @@
--- `RunSetting::nearest` returns the branch of the first class on the chain that has one. Each step of its loop passes one class without a branch.
+-- `RunSetting::nearest` returns the `case` branch of the first class on a chain of ancestors that has one. Each step of its loop passes one class without a
+-- branch.
 use Rattle.std.proofs.Common.{◌≡◌, ◌-◌, length, Some, None, ap, sym, ◌∙◌, refl, arith}
 use Rattle.cool_syntax.specs.Tree.{of_twigs}
 use Rattle.cool_classes.specs.Chains.{name_of, parent_of}

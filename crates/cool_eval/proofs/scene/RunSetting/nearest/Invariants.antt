@@ -1,4 +1,4 @@
--- In the loop of `RunSetting::nearest`, the nearest branch from the class `above` on is the nearest branch from the first class on.
+-- In the loop of `RunSetting::nearest`, the `case` branch that is found from the class `above` on is the one that is found from the first class on.
 use Rattle.std.proofs.Common.{◌≡◌, suc, ◌-◌, length, Some}
 use Rattle.cool_syntax.specs.Tree.{of_twigs}
 use Rattle.cool_classes.specs.ClimbedChains.{chain}

@@ -1,4 +1,4 @@
--- The loop of `Definers::new` has added the classes before the current one under the names of their methods.
+-- In the loop of `Definers::new`, each class before the current one has been added to the classes that define a method for each of its own methods.
 use Rattle.std.proofs.Common.{◌≡◌, ◌-◌, ℕ, List, Bool as Truth, length, is_some}
 use Rattle.std.specs.Prelude.{◌&&◌, ◌||◌}
 use Rattle.std.specs.List.{list_any}

@@ -1,5 +1,5 @@
--- `FoldingSetting::is_properly_below` returns true exactly if the second class is above the first: the classes above a class are those on the chain of its
--- parent.
+-- `FoldingSetting::is_properly_below` returns true exactly if the first class is a proper subclass of the second: the proper ancestors of a class are its
+-- parent and the ancestors of the parent.
 use Rattle.std.proofs.Common.{◌≡◌, ◌∙◌, ap, sym, List, Some, None}
 use Rattle.cool_classes.specs.declared.class_id.ClassId.{ClassId}
 use Rattle.cool_classes.specs.Chains.{parent_of}

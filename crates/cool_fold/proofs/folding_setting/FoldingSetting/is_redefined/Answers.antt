@@ -1,5 +1,5 @@
--- `FoldingSetting::is_redefined` returns whether a class below defines a method of the name. The classes that define the name are classes of the table, as
--- `is_properly_below` requires.
+-- `FoldingSetting::is_redefined` returns whether a proper subclass defines a method of the name. The classes that define the name are classes of the class
+-- table, as `is_properly_below` requires.
 use Rattle.std.proofs.Common.{◌<◌, length, arith}
 use Rattle.cool_fold.proofs.DefinersGrow.{definer_within}
 use Rattle.cool_fold.proofs.folding_setting.FoldingSetting.is_redefined.Goals as goal

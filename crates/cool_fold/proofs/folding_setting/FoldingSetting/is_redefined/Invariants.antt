@@ -1,4 +1,4 @@
--- The loop of `FoldingSetting::is_redefined` has found no class below this one yet: the classes that are left give the same answer as all of them.
+-- In the loop of `FoldingSetting::is_redefined`, no proper subclass of the class was found yet: the classes that are left give the same answer as all of them.
 use Rattle.std.proofs.Common.{◌≡◌, drop}
 use Rattle.std.specs.List.{list_any}
 use Rattle.cool_classes.specs.ClimbedChains.{above}
