@@ -1,4 +1,4 @@
--- Each step of the stack machine preserves the outcome of the rest of the evaluation, which is the meaning of a configuration.
+-- Each step of the stack machine preserves the outcome of the rest of the evaluation (the meaning of a configuration).
 use Rattle.std.proofs.Common.{◌≡◌, ℕ, zero, suc, ◌+◌, ◌*◌, ◌<◌, ◌≤◌, max, pos, List, [], ◌∷◌, ◌++◌, length, Option, Some, None, Bool, true, false, ap, sym, ◌∙◌, refl, arith, append_assoc, append-nil}
 use Rattle.std.specs.Prelude.{if◌then◌else◌, ◌==◌, bytes_eq, slice_set}
 use Rattle.cool_syntax.specs.declared.place.Place.{Place}

@@ -1,4 +1,4 @@
-//! Appends nodes of folded expressions or constants in their place, and returns the constant value, if there is one, with the number of the root.
+//! Appends nodes of folded expressions, or constants that replace them, and returns the number of the root with its constant value, if there is one.
 
 ghost use Rattle.std.specs.Prelude.{◌≡◌, ◌∷◌, ◌++◌, ◌-◌, ◌+◌, ◌<◌, ◌≤◌, ◌^◌, [], None, length, take, IfOk, OnOk};
 ghost use Rattle.cool_rules.specs.Typing.{bool_type, int_type};

@@ -1,5 +1,5 @@
--- After a file is set or removed, there are as many names as files, and the limits of a session depend only on the number of names and the total number of
--- bytes.
+-- A file can be set exactly if the number of files and the total number of bytes are then within the limits. The total is the old one plus the new bytes, less
+-- those of a replaced file.
 use Rattle.std.proofs.Common.{◌≡◌, true≢false, is_ok, is_some, subst, not, bytes_eq, if◌then◌else◌, Result, ℕ, zero, suc, ◌+◌, ◌<◌, ◌≤◌, Bool, true, false, List, [], ◌∷◌, ◌++◌, map, length, get_or, slice_set, Option, Some, None, IfSome, unwrap_or, ap, sym, ◌∙◌, refl, arith}
 use Rattle.std.specs.Prelude.{remove, nat_lt, Ok, Err}
 use Rattle.std.proofs.lemmas.Slice.Eq.{bytes_eq-Decides}

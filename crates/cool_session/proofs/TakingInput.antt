@@ -1,5 +1,5 @@
--- Lemmas on reading a session's input byte after byte: the bytes so far are a part of a line or file, and are complete at a newline or at the length of the
--- file.
+-- Lemmas on reading lines and files from a session's input byte after byte: at most 300 bytes followed by a newline are a line, and longer or unfinished ones
+-- are not.
 use Rattle.std.proofs.Common.{◌≡◌, ◌⊎◌, inl, inr, ◌^◌, ℕ, zero, suc, ◌+◌, ◌<◌, ◌≤◌, Bool, true, false, not, List, [], ◌∷◌, ◌++◌, length, refl, sym, ◌∙◌, ap, append_assoc, append-nil, arith}
 use Rattle.std.specs.Prelude.{◌==◌, ◌≢◌, ◌&&◌}
 use Rattle.std.specs.List.{list_all}

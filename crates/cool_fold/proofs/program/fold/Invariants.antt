@@ -1,4 +1,4 @@
--- In the loop of `fold`, the class table has some folded expressions: with the others in their places, it is the folded table.
+-- In the loop of `fold`, the class table has the folded expressions put in so far, and would be the folded table if the others were put in too.
 use Rattle.std.proofs.Common.{length}
 use Rattle.cool_fold.specs.Folding.{fold_table}
 use Rattle.cool_fold.proofs.ReplacedExpressions.{Becomes}
