@@ -1,4 +1,4 @@
--- Names of files are short texts: their bytes are those of characters, and none is 0.
+-- A file name that passes the command line's check has at most 4,096 bytes, and none of them is 0.
 use Rattle.std.proofs.Common.{◌≡◌, ℕ, ◌<◌, ◌≤◌, Bool, true, false, List, [], ◌∷◌, refl, subst, arith}
 use Rattle.std.specs.Prelude.{◌||◌, String, string_bytes, cond, not, ◌==◌, encode_utf8_all, nat_le, nat_lt, length}
 use Rattle.std.specs.List.{AllByRecursion, list_all, list_any}

@@ -1,4 +1,5 @@
--- The functions that read clap's matches find the names, files and numbers that the rows of the matches have, or find that there are none.
+-- The functions that read the result of clap (the library that parses arguments) return the file names, numbers and flags in it, or none if they are absent or
+-- not valid.
 use Rattle.std.proofs.Common.{◌≡◌, ◌∙◌, sym, ap, ℕ, true, false, List, Option, Some, None}
 use Rattle.std.specs.Prelude.{bytes_eq, codes, if◌then◌else◌, option_and_then, option_map}
 use Rattle.std.specs.Option.{option_map_or}

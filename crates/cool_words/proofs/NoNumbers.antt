@@ -1,4 +1,4 @@
--- Digits that do not parse are no number within bounds.
+-- If decimal digits do not parse as a number below 2^64, they denote no number within any bounds that the command line allows.
 use Rattle.std.proofs.Common.{◌≡◌, ◌<◌, ◌^◌, ◌∙◌, sym, ap, refl, subst, arith, ℕ, Bool, true, false, List, [], ◌∷◌, None, Some}
 use Rattle.std.specs.Prelude.{◌&&◌, if◌then◌else◌}
 use Rattle.std.specs.List.{list_all}

@@ -1,4 +1,5 @@
--- If clap accepts a command's words, they ask for the plan that its matches ask for; if it refuses them, and not because memory ran out, they ask for none.
+-- If clap (the library that parses arguments) accepts a command's arguments, the parsed command line is the one that clap's result says. If it rejects them for
+-- another reason than memory, there is none.
 use Rattle.std.proofs.Common.{◌≡◌, ◌∙◌, sym, ap, refl, inl, inr, arith, true, false, List, [], ◌∷◌, None}
 use Rattle.std.specs.Prelude.{if◌then◌else◌}
 use Rattle.clap.specs.Walk.{is_empty}

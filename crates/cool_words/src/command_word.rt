@@ -1,4 +1,4 @@
-//! The commands, and the words that each takes.
+//! The commands of the command line, and the options and arguments that each takes.
 
 ghost use Rattle.std.specs.Prelude.{◌≡◌, IfOk, false};
 ghost use Rattle.clap.specs.Words.{app_of, rule_of};

@@ -1,6 +1,6 @@
-//! The words of a command line, read as a plan.
+//! The parser of the command line: from arguments to a plan (a command with its files and limits).
 //!
-//! Input: the words after the program's name. Output: the plan that they ask for, or that they are no command line. It implements `specs/Plans.antt`.
+//! Input: the arguments after the program's name. Output: the plan that they ask for, or an error. This crate implements `specs/Plans.antt`.
 #![tactic(auto)]
 
 mod command_word;

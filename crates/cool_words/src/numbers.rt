@@ -1,4 +1,4 @@
-//! Numbers within bounds.
+//! Reading a decimal number in an argument, and checking that it is within its bounds.
 
 ghost use Rattle.std.specs.Prelude.{◌≡◌, IfSome};
 ghost use Rattle.std.specs.List.{list_all};

@@ -1,4 +1,4 @@
-//! The plan that a command line asks for.
+//! The plan (parsed command line): which command to execute, with its files and limits.
 
 /// The limits of a run.
 #[derive(Clone, Copy)]

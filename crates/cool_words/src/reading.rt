@@ -1,4 +1,4 @@
-//! Reading the words of a command line as a plan.
+//! Parsing the arguments of a command line into a plan: a command with its files and limits.
 
 ghost use Rattle.std.specs.Prelude.{◌≡◌, IfOk, IfSome, Err, Some, None, codes, string_bytes, true};
 ghost use Rattle.clap.specs.Words.{found_of, matches_of, rows_of, fault_of};

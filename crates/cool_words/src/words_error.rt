@@ -1,4 +1,4 @@
-//! The errors of reading a command line: why words are no plan.
+//! The errors of parsing a command line: its arguments are not valid, or memory ran out.
 
 ghost use Rattle.std.specs.Prelude.{◌≡◌};
 ghost use Rattle.cool_words.specs.declared.words_error.WordsError.TheVariants.{Memory};
