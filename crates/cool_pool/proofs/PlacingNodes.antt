@@ -1,4 +1,4 @@
--- A node placed after its parts keeps each node after its parts.
+-- If each node of a list comes after its parts (postorder), this still holds after one more node, which comes after its own parts, is appended.
 use Rattle.std.proofs.Common.{◌≡◌, ◌<◌, List, [], ◌∷◌, ◌++◌, length, sym, ap, subst, length-append, arith}
 use Rattle.cool_syntax.specs.declared.node.Node.{Node}
 use Rattle.cool_syntax.specs.NodeLists.{HasPartsBelow, Ordered}

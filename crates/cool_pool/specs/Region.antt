@@ -1,4 +1,5 @@
--- `Region` is a pool of nodes as contracts see it, and `Filled` a column of values: the items in the order of their numbers, and the free or whole capacity.
+-- `Region` is an arena of syntax tree nodes as contracts see it, and `Filled` an array with one value for each node: the entries in order, and the free or
+-- whole capacity.
 use Rattle.std.specs.Prelude.{ℕ, List}
 use Rattle.cool_syntax.specs.declared.node.Node.{Node}
 

@@ -1,4 +1,4 @@
-//! One value for each node, filled in the order of the nodes' numbers.
+//! A column: an array with one value for each node of a syntax tree, in the order in which the nodes are stored.
 
 ghost use Rattle.std.specs.Prelude.{◌≡◌, ◌<◌, [], ◌∷◌, ◌++◌, Some, length, take, IfOk};
 ghost use Rattle.std.specs.List.{slice_get};

@@ -1,7 +1,7 @@
-//! The arena of the nodes of one feature, dropped or handed on as a whole.
+//! The arena in which the parser builds the syntax tree of one feature (method or attribute). It is dropped or handed on as a whole.
 //!
-//! Input: nodes, each after its parts. Output: a body that is their tree, the tree at a number, or one value a node in a column. Memory is reserved ahead,
-//! so that later calls cannot run out of it.
+//! Input: nodes, each after its parts. Output: a body that is their tree, the tree at an index, or one value a node in a column. Memory is reserved ahead, so
+//! that later calls cannot run out of it.
 #![tactic(auto)]
 
 mod column;

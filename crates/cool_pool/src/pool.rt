@@ -1,4 +1,4 @@
-//! Nodes in the order in which they were placed.
+//! The arena of syntax tree nodes: a list to which nodes are appended, each after its parts.
 
 ghost use Rattle.std.specs.Prelude.{◌≡◌, ◌+◌, ◌<◌, ◌≤◌, [], ◌∷◌, ◌++◌, Some, length, IfOk, IfErr, IsOk, OnOk, OnErr, suc};
 ghost use Rattle.std.specs.List.{slice_get};
