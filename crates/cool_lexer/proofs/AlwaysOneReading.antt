@@ -1,4 +1,4 @@
--- Each text has tokens or a first fault.
+-- Each text either is a list of tokens or has a first lexical error.
 use Rattle.std.proofs.Common.{◌≡◌, ◌∙◌, ap, refl, subst, arith, inl, inr, ◌⊎◌, ℕ, zero, suc, ◌+◌, ◌<◌, ◌≤◌, List, [], ◌∷◌, ◌++◌, length, drop, length-drop}
 use Rattle.std.proofs.lemmas.Bool.{cases_lt}
 use Rattle.cool_syntax.specs.declared.TheConstants.{MOST_TOKENS}

@@ -1,4 +1,4 @@
--- A blank is an item of one byte without a newline, and no token.
+-- If the rest of a text begins with a blank, the lexer's step over this one byte keeps the tokens and the line, and moves the location by one byte.
 use Rattle.std.proofs.Common.{rules, ◌≡◌, refl, sym, subst, ℕ, ◌+◌, List, [], ◌∷◌, get_or}
 use Rattle.cool_syntax.specs.Lexemes.{Space}
 use Rattle.cool_lexer.specs.declared.reading.Reading.{Reading}

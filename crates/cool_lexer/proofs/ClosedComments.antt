@@ -1,4 +1,4 @@
--- A comment that is closed in a text is closed at the same place in each longer text, and in the front of the text up to this place.
+-- If a block comment is closed in a text, it ends at the same byte in each longer text, and in the prefix of the text up to that byte.
 use Rattle.std.proofs.Common.{◌≡◌, ◌∙◌, sym, ap, refl, arith, inl, inr, ◌⊎◌, ℕ, zero, suc, ◌+◌, ◌≤◌, List, [], ◌∷◌, ◌++◌, length, take, drop}
 use Rattle.std.specs.Prelude.{Option, Some, None, option_map}
 use Rattle.std.proofs.lemmas.List.{take-append-drop}

@@ -1,4 +1,4 @@
--- More digits never make a number smaller.
+-- If the first digits of an integer constant already exceed the limit, so does the whole constant, because more digits never make a number smaller.
 use Rattle.std.proofs.Common.{◌≡◌, ap, arith, ℕ, suc, ◌+◌, ◌-◌, ◌*◌, ◌<◌, ◌≤◌, List, [], ◌∷◌, length, drop, get_or, drop-cons}
 use Rattle.std.specs.Prelude.{None}
 use Rattle.std.specs.List.{fold}

@@ -1,4 +1,4 @@
--- The scanning functions return the item or the fault that the text begins with.
+-- The scanning functions return the lexeme, white space or comment that a text begins with, or the lexical error there.
 use Rattle.std.proofs.Common.{◌≡◌, ◌∙◌, sym, ap, refl, arith, ℕ, zero, suc, ◌+◌, ◌≤◌, Bool, true, false, List, [], ◌∷◌, length, take, length-take}
 use Rattle.std.specs.Prelude.{Option, Some, None, ◌==◌, ◌&&◌, nat_lt, if◌then◌else◌}
 use Rattle.std.specs.List.{list_all, prefix_len, take_while}

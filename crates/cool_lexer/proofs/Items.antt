@@ -1,4 +1,5 @@
--- Items at the front of a text: each text with a byte begins with an item or a fault. A text begins with at most one item, and an item has at least one byte.
+-- Each text with at least one byte begins with an item (a lexeme, white space or a comment) or a lexical error. It begins with at most one item, and an item
+-- has at least one byte.
 use Rattle.std.proofs.Common.{◌≡◌, ◌∙◌, sym, ap, subst, arith, ℕ, zero, suc, ◌+◌, ◌-◌, ◌<◌, ◌≤◌, List, [], ◌∷◌, length, take, drop, get_or}
 use Rattle.std.specs.Prelude.{Some}
 use Rattle.cool_syntax.specs.Lexemes.{Form, class_of, form}

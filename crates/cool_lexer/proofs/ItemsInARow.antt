@@ -1,4 +1,5 @@
--- Items of a text, one after another: their tokens, and the runs of these tokens.
+-- Lemmas on a sequence of items (lexemes, white space and comments) of a text: each makes at most one token, and the limit on tokens in a row is checked token
+-- by token.
 use Rattle.std.proofs.Common.{◌≡◌, ◌∙◌, sym, ap, refl, subst, arith, ℕ, ◌+◌, ◌<◌, ◌≤◌, Bool, true, false, List, [], ◌∷◌, ◌++◌, length, drop, append_assoc, length-append}
 use Rattle.std.specs.Prelude.{if◌then◌else◌}
 use Rattle.cool_syntax.specs.declared.TheConstants.{MOST_TOKENS}

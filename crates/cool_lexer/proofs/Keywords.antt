@@ -1,4 +1,4 @@
--- The only keyword of six letters is `isvoid`, none has seven, and none has more than eight.
+-- The only keyword of six letters is `isvoid`, no keyword has seven letters, and none has more than eight.
 use Rattle.std.proofs.Common.{◌≡◌, ap, refl, arith, ℕ, ◌≤◌, Bool, true, false, List, [], ◌∷◌, length, map, Decides}
 use Rattle.std.specs.Prelude.{◌==◌, not, ◌||◌, nat_lt, codes, bytes_eq, None}
 use Rattle.std.specs.Char.{to_ascii_lowercase}

@@ -1,4 +1,4 @@
--- Each token of a text is its lexeme within the limits, and tokens stand in rising places.
+-- Each token of a text is a valid lexeme within the limits on integers and strings, and the tokens' source locations increase.
 use Rattle.std.proofs.Common.{◌≡◌, ◌∙◌, ap, refl, subst, arith, ℕ, ◌+◌, ◌<◌, ◌≤◌, Bool, true, false, List, [], ◌∷◌, ◌++◌, length, take, drop, length-append}
 use Rattle.std.specs.Prelude.{Option, Some, None, ◌==◌, ◌&&◌, nat_lt, if◌then◌else◌}
 use Rattle.std.specs.List.{count_by, prefix_len, AllByRecursion}

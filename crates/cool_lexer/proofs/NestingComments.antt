@@ -1,4 +1,4 @@
--- Lemmas for one step of measuring a block comment: at `(*`, at `*)` and at any other byte.
+-- Lemmas for one step in finding the end of a nested block comment: at `(*`, at `*)` and at any other byte.
 use Rattle.std.proofs.Common.{◌≡◌, ◌∙◌, ap, refl, arith, ℕ, zero, suc, ◌+◌, ◌-◌, ◌<◌, ◌≤◌, List, [], ◌∷◌, length, drop, length-drop}
 use Rattle.std.specs.Prelude.{Option, Some, None, option_map}
 use Rattle.std.proofs.lemmas.List.{drop-drop}

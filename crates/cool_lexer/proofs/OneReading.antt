@@ -1,4 +1,4 @@
--- A text has one list of tokens or one first fault, and never both.
+-- A text has only one list of tokens or one first lexical error, and never both.
 use Rattle.std.proofs.Common.{◌≡◌, ◌∙◌, sym, ap, refl, subst, arith, inl, inr, ℕ, ◌+◌, ◌<◌, List, [], ◌∷◌, ◌++◌, length, drop}
 use Rattle.std.specs.Prelude.{None}
 use Rattle.cool_syntax.specs.declared.TheConstants.{MOST_TOKENS}

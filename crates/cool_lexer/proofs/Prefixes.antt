@@ -1,4 +1,4 @@
--- The longest prefix of bytes that pass a test.
+-- `prefix_len` is the length of the longest prefix of a text whose bytes all pass a test.
 use Rattle.std.proofs.Common.{◌≡◌, ◌∙◌, ap, refl, arith, ℕ, zero, suc, ◌≤◌, Bool, true, false, List, [], ◌∷◌, length, take}
 use Rattle.std.specs.Prelude.{◌&&◌}
 use Rattle.std.specs.List.{list_all, prefix_len}

@@ -1,4 +1,5 @@
--- The state of the lexer at a place of the text (`IsRead`), and how it goes on, ends and stops.
+-- `IsRead` is the invariant of the lexer's loop at an offset of the text. It holds at the start, is kept by each item, and at the end or at an error gives the
+-- definition's tokens.
 use Rattle.std.proofs.Common.{◌≡◌, ◌∙◌, sym, ap, refl, subst, arith, inl, inr, ℕ, zero, suc, ◌+◌, ◌≤◌, List, [], ◌∷◌, ◌++◌, length, take, drop, length-drop}
 use Rattle.std.specs.Prelude.{Some}
 use Rattle.std.specs.List.{count_by}

@@ -1,4 +1,5 @@
--- No lexeme weighs more than its text has bytes, and so the tokens of a text weigh no more than it has.
+-- The tokens of a text weigh no more than the text has bytes, because no lexeme weighs more than its own bytes. Weights are the measure that bounds the size of
+-- syntax trees.
 use Rattle.std.proofs.Common.{subst, arith, ℕ, suc, ◌+◌, ◌≤◌, Bool, true, false, List, [], ◌∷◌, ◌++◌, length, take, drop}
 use Rattle.std.specs.Prelude.{Option, Some, None, ◌==◌, ◌&&◌, option_map, not, if◌then◌else◌}
 use Rattle.std.specs.List.{list_all}

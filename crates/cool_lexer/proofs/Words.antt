@@ -1,4 +1,4 @@
--- The word at the front of a text, made of its bytes, its kind and its size.
+-- The keyword or identifier at the front of a text is determined by its bytes, its first letter, and the search among the keywords.
 use Rattle.std.proofs.Common.{◌≡◌, ◌∙◌, sym, ap, arith, ℕ, suc, ◌+◌, Bool, List, ◌∷◌, take, map}
 use Rattle.std.specs.List.{prefix_len}
 use Rattle.cool_syntax.specs.declared.token.TokenKind.{TokenKind}

@@ -1,4 +1,4 @@
--- `AreUpTo` says which tokens the lexer returns for a file: all of them, or those before the first fault.
+-- `AreUpTo` says which tokens the lexer returns for a file: all of them, or those before the first lexical error.
 use Rattle.std.specs.Prelude.{◌≡◌, ℕ, List, length, Option, Some, None}
 use Rattle.cool_syntax.specs.declared.token.Token.{Token}
 use Rattle.cool_syntax.specs.LexicalStructure.{Lexes, place_at, tokens_of}

@@ -1,4 +1,4 @@
--- `IsFirstFault` says that an error of the lexer is the first fault of the file, at its place, or out of memory.
+-- `IsFirstFault` says that the error which the lexer returns is the first lexical error of the file, with its source location, or out of memory.
 use Rattle.std.specs.Prelude.{ℕ, List}
 use Rattle.cool_syntax.specs.LexicalStructure as lexical
 use Rattle.cool_lexer.specs.declared.error.LexError.{LexError}

@@ -1,5 +1,5 @@
--- `front_of` is the result of scanning the front of a text: the item or the fault there, by the class of the first byte and the bytes after it. `Begins` says
--- that a result is the item or the fault of Cool's lexical structure; a proof shows that the two agree, and nothing assumes it.
+-- `front_of` computes the lexeme, white space, comment or lexical error at the front of a text, by the class of the first byte and the bytes after it. `Begins`
+-- says that a result is the one that Cool's lexical structure demands; a proof shows that the two agree.
 use Rattle.std.specs.Prelude.{◌≡◌, ℕ, ◌+◌, ◌≤◌, Bool, false, not, ◌==◌, nat_lt, if◌then◌else◌, List, [], ◌∷◌, ◌++◌, length, take, Option, Some, None}
 use Rattle.std.specs.List.{prefix_len}
 use Rattle.cool_syntax.specs.declared.TheConstants.{MOST_BYTES}

@@ -1,4 +1,4 @@
--- `HasReading` says that a file has tokens or a first fault; the lexer proves it of every file.
+-- `HasReading` says that a file is a list of tokens or has a first lexical error; the lexer's crate proves it of every file.
 use Rattle.std.specs.Prelude.{◌⊎◌, ℕ, List}
 use Rattle.cool_syntax.specs.declared.place.Place.{Place}
 use Rattle.cool_syntax.specs.declared.token.Token.{Token}

@@ -1,4 +1,4 @@
--- One step of the lexer: it reads one item, or stops at a fault.
+-- `Passes` and `Stops` define one step of the lexer: it reads a lexeme, white space or a comment, or stops at a lexical error.
 use Rattle.std.specs.Prelude.{◌≡◌, ◌⊎◌, ℕ, ◌+◌, ◌≤◌, Bool, ◌==◌, List, ◌++◌, length, take}
 use Rattle.std.specs.List.{count_by}
 use Rattle.cool_syntax.specs.declared.TheConstants.{MOST_TOKENS}

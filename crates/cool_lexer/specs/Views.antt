@@ -1,5 +1,5 @@
--- Functions from the small types of the lexer's code, such as classes of bytes and marks of comments, to the types of the same names in Lexemes.antt and
--- LexicalStructure.antt.
+-- Conversions from the small types of the lexer's code, such as classes of bytes and the delimiters of comments, to the types of the same names in Lexemes.antt
+-- and LexicalStructure.antt.
 use Rattle.cool_syntax.specs.Lexemes as lexemes
 use Rattle.cool_lexer.specs.declared.class.Class.{Class}
 use Rattle.cool_lexer.specs.declared.class.Class.TheVariants as class

@@ -1,4 +1,4 @@
-//! Classes of bytes: the items that a byte can begin.
+//! Classes of bytes: the class of the first byte decides which kind of lexeme, white space or comment is scanned.
 
 ghost use Rattle.std.specs.Prelude.{◌≡◌};
 ghost use Rattle.cool_syntax.specs.Lexemes as lexemes;

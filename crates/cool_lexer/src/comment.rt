@@ -1,4 +1,4 @@
-//! Comments (manual, section 10.3), and the signs that begin as they do.
+//! Scanning comments (manual, section 10.3), and the operators and parentheses that begin with the same byte.
 
 ghost use Rattle.std.specs.Prelude.{◌≡◌, ◌<◌, ◌≤◌, IfSome, drop, length};
 ghost use Rattle.cool_syntax.specs.Lexemes as lexemes;

@@ -1,4 +1,4 @@
-//! Errors of the lexer: the first fault of a file, or out of memory.
+//! The errors of the lexer: the first lexical error of a file, or out of memory.
 
 ghost use Rattle.std.specs.Prelude.{◌≡◌};
 ghost use Rattle.cool_lexer.specs.declared.error.LexError.TheVariants.{Memory};

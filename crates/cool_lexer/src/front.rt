@@ -1,4 +1,4 @@
-//! The item or the fault at the front of a text.
+//! The result of scanning the front of a text: a lexeme, white space or a comment with its size, or a lexical error.
 
 use cool_syntax::{LexKind, TokenKind};
 

@@ -1,4 +1,4 @@
-//! Items: the lexeme, blank or comment that a text begins with, by the class of its first byte.
+//! Scanning one item (a lexeme, white space or a comment) at the front of a text, by the class of its first byte.
 
 ghost use Rattle.std.specs.Prelude.{◌≡◌, ◌≢◌, ◌<◌, ◌≤◌, ◌∷◌, IfOk, IfSome, None, length};
 ghost use Rattle.cool_syntax.specs.Lexemes as lexemes;

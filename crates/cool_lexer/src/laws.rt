@@ -1,4 +1,4 @@
-//! Laws on the lexical structure: each file has one reading.
+//! Theorems on the lexical structure: each file has one list of tokens or one first lexical error, and never both.
 
 ghost use Rattle.std.specs.Prelude.{◌≡◌, ℕ, List};
 ghost use Rattle.cool_syntax.specs.declared.place.Place.{Place};

@@ -1,4 +1,4 @@
-//! Lexing a file.
+//! The function `lex`, which splits the text of a file into tokens.
 
 ghost use Rattle.std.specs.Prelude.{◌≡◌, ℕ, ◌<◌, ◌≤◌, IfOk, IfErr, length, None};
 ghost use Rattle.cool_syntax.specs.declared.TheConstants.{MOST_SOURCE_BYTES};

@@ -1,7 +1,7 @@
 //! The lexer of Cool: from the bytes of a source file to its tokens.
 //!
-//! Input: a file's bytes, at most 1 MiB. Output: its tokens with their places, or its first fault. It implements `LexicalStructure.antt` of `cool_syntax`;
-//! `specs/Fronts.antt` defines the results of its scanning functions.
+//! Input: a file's bytes, at most 1 MiB. Output: its tokens with their source locations, or its first lexical error. This crate implements
+//! `LexicalStructure.antt` of `cool_syntax`; `specs/Fronts.antt` defines the results of its scanning functions.
 #![tactic(auto)]
 
 mod class;

@@ -1,4 +1,4 @@
-//! Integers (manual, section 10.1).
+//! Scanning integer constants (manual, section 10.1).
 
 ghost use Rattle.std.specs.Prelude.{◌≡◌, ◌+◌, ◌-◌, ◌*◌, ◌≤◌};
 ghost use Rattle.std.specs.List.{fold};

@@ -1,4 +1,4 @@
-//! Pieces of strings: the meaning of each byte of a string (manual, section 10.2).
+//! The meaning of each byte of a string constant: a character, an escape, the closing quote or an error (manual, section 10.2).
 
 ghost use Rattle.std.specs.Prelude.{◌≡◌};
 ghost use Rattle.cool_syntax.specs.Lexemes as lexemes;

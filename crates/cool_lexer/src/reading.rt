@@ -1,4 +1,4 @@
-//! One item after the other: the tokens, the run and the place so far.
+//! The state of the lexer between two lexemes, and the function that reads the next lexeme, white space or comment.
 
 ghost use Rattle.std.specs.Prelude.{◌≡◌, ◌+◌, ◌<◌, ◌≤◌, ◌^◌, IfOk, IfErr, OnOk, length};
 ghost use Rattle.std.specs.List.{count_by};

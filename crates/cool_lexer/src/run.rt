@@ -1,4 +1,4 @@
-//! Runs of tokens: the tokens between the braces and semicolons of a class's own level.
+//! Runs of tokens: sequences of limited length. A run ends after the brace that opens a class, and after each semicolon outside all inner braces and cases.
 
 ghost use Rattle.std.specs.Prelude.{◌≡◌, ◌+◌, ◌<◌, ◌^◌};
 ghost use Rattle.cool_syntax.specs.LexicalStructure.{depth_after, ends_run, run_after};

@@ -1,4 +1,4 @@
-//! Signs: lexemes of one or two bytes (manual, figure 1), each by the bytes after its first.
+//! Scanning signs, the operators and punctuation of one or two bytes (manual, figure 1), by the bytes after the first.
 
 ghost use Rattle.std.specs.Prelude.{◌≡◌};
 ghost use Rattle.cool_lexer.specs.Fronts.{angle_front, equals_front, star_front, single_front};

@@ -1,4 +1,4 @@
-//! Spans: bytes of one kind from the front of a text on.
+//! Counting the bytes at the front of a text that continue a word, a number or a line comment.
 
 ghost use Rattle.std.specs.Prelude.{◌≡◌, ◌≤◌, length};
 ghost use Rattle.std.specs.List.{prefix_len};

@@ -1,4 +1,4 @@
-//! Strings (manual, section 10.2).
+//! Scanning string constants (manual, section 10.2).
 
 ghost use Rattle.std.specs.Prelude.{◌≡◌, false, [], IfOk};
 ghost use Rattle.cool_syntax.specs.declared.token.TokenKind.TheVariants.{Str};

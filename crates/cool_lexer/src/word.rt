@@ -1,4 +1,4 @@
-//! Words: keywords and identifiers (manual, sections 10.1 and 10.4).
+//! Scanning words: keywords and identifiers (manual, sections 10.1 and 10.4).
 
 ghost use Rattle.std.specs.Prelude.{◌≡◌, ◌∷◌, IfOk, map};
 ghost use Rattle.cool_syntax.specs.Lexemes.{lower, key_among, keywords, named, is_truth};

@@ -1,4 +1,4 @@
--- If `lex` finds no fault, its tokens are the lexemes of all items of the file, and keep the limits that hold for them.
+-- If `lex` finds no lexical error, it returns the tokens of all lexemes of the file, and these keep the limits on integers, strings and source locations.
 use Rattle.std.proofs.Common.{ℕ, ◌≤◌, sym, ap, subst, arith, length}
 use Rattle.cool_syntax.specs.LexicalStructure.{Lexes}
 use Rattle.cool_syntax.specs.TokenFacts.{AreWithinLimits, AreRising, weights}
