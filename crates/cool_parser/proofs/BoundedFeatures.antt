@@ -1,4 +1,5 @@
--- If the tokens fit their runs, each feature is bounded: when it ends, all of it was counted in the current run.
+-- If the tokens keep the limit on the length of a feature, no feature of the parsed classes is larger than this limit, because all of it was counted in the
+-- current run of tokens.
 use Rattle.std.proofs.Common.{◌≡◌, ℕ, ◌+◌, ◌≤◌, ◌<◌, Bool, true, false, if◌then◌else◌, List, [], ◌∷◌, ◌++◌, length, Option, Some, None, IfSome, refl, sym, subst, ◌∙◌, ap, arith}
 use Rattle.std.specs.List.{AllByRecursion}
 use Rattle.std.specs.Option.{is_some}

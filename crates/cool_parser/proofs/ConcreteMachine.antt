@@ -1,5 +1,5 @@
--- The parser's machine over concrete trees: it keeps the trees themselves, with each token that was read, where the parser keeps the
--- numbers of their nodes.
+-- A second definition of the parser as a state machine, for proofs only. It builds concrete syntax trees, which keep every token, where the parser stores nodes
+-- and refers to them by index.
 use Rattle.std.specs.Prelude.{ℕ, nat_le, Bool, true, false, if◌then◌else◌, List, [], ◌∷◌, Option, Some, None}
 use Rattle.cool_syntax.specs.declared.place.Place.{Place}
 use Rattle.cool_syntax.specs.declared.type_ref.TypeRef.{TypeRef}

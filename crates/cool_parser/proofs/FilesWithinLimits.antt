@@ -1,4 +1,4 @@
--- A token that keeps the lexer's limits leaves a state that keeps them, and so the classes of a file of such tokens do.
+-- If all tokens keep the lexer's limits (valid names, bounded constants and source locations), so do the classes that the parser makes of them.
 use Rattle.std.proofs.Common.{◌≡◌, ℕ, nat_le, Bool, true, false, if◌then◌else◌, List, [], ◌∷◌, ◌++◌, length, codes, Option, Some, None, IfSome, subst, arith}
 use Rattle.std.specs.List.{AllByRecursion}
 use Rattle.std.specs.Option.{is_some}

@@ -1,4 +1,5 @@
--- Consequences of the invariant between two tokens, as the code needs them: the parts of a node come before it, and a body is one tree.
+-- Each node that the parser appends comes after its parts, and the body of a finished feature is one tree. Both follow from the parser's invariant between two
+-- tokens.
 use Rattle.std.proofs.Common.{◌≡◌, ℕ, ◌+◌, ◌≤◌, if◌then◌else◌, List, [], ◌∷◌, ◌++◌, length, Some, IfSome, refl, sym, subst, ◌∙◌, ap, length-append, arith}
 use Rattle.std.specs.Option.{is_some}
 use Rattle.cool_syntax.specs.declared.place.Place.{Place}

@@ -1,4 +1,5 @@
--- Each token keeps the invariant between two tokens.
+-- Each step of the parser keeps its invariant between two tokens: the nodes so far are complete trees, whose roots are the operands that its stack and mode
+-- refer to.
 use Rattle.std.proofs.Common.{◌≡◌, ℕ, nat_le, Bool, true, false, if◌then◌else◌, List, [], ◌∷◌, ◌++◌, length, codes, Option, Some, None, IfSome, refl, sym, subst, ◌∙◌, ap, append_assoc, append-nil}
 use Rattle.std.proofs.lemmas.List.{map-append}
 use Rattle.std.specs.Option.{is_some}

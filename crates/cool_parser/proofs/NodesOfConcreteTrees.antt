@@ -1,4 +1,5 @@
--- The parser acts on nodes and numbers as its machine over concrete trees acts on the trees.
+-- The parser's operations on nodes and indices correspond to those of a second state machine, which builds concrete syntax trees (with every token). `shown`
+-- maps its states to the parser's.
 use Rattle.std.proofs.Common.{◌≡◌, ℕ, ◌+◌, ◌-◌, nat_le, Bool, true, false, if◌then◌else◌, cond, List, [], ◌∷◌, ◌++◌, length, codes, Some, None, refl, ap, sym, ◌∙◌, append_assoc, append-nil, length-append, arith}
 use Rattle.std.specs.Option.{is_some}
 use Rattle.cool_syntax.specs.declared.place.Place.{Place}

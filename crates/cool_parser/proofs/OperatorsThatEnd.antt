@@ -1,4 +1,5 @@
--- An operator on the top of the stack that ends: the node that it makes, and the stack without it.
+-- If the operator on the top of the parser's stack has at least the level at which it is tested, it is removed from the stack, and makes the same node at every
+-- such level.
 use Rattle.std.proofs.Common.{◌≡◌, ℕ, Bool, true, false, nat_le, List, ◌∷◌, get_or, Option, Some, None, MatchOption, refl, sym, ◌∙◌, ap}
 use Rattle.std.specs.Option.{is_some}
 use Rattle.cool_syntax.specs.declared.node.NodeId.{NodeId}

@@ -1,4 +1,5 @@
--- The trees that the machine makes are shaped, and read as the tokens.
+-- The concrete syntax tree that the parser's state machine builds keeps the rules of precedence, and its tokens from left to right are the tokens that were
+-- read.
 use Rattle.std.proofs.Common.{◌≡◌, ℕ, ◌<◌, ◌≤◌, nat_le, List, [], ◌∷◌, ◌++◌, refl, ap, sym, subst, ◌∙◌, arith, append_assoc, append-nil, Option, Some, None, IfSome, cond, true, false}
 use Rattle.std.proofs.lemmas.Bool.{leb-true, leb-false}
 use Rattle.cool_syntax.specs.declared.place.Place.{Place}

@@ -1,4 +1,4 @@
--- The rest of a file's tokens leads to the same outcome, and no tokens are the file without classes.
+-- Lemmas on the parser's loop: the remaining tokens lead from each state to the outcome of the whole list, and a file without tokens has no classes.
 use Rattle.std.proofs.Common.{◌≡◌, ℕ, ◌+◌, ◌<◌, List, [], ◌∷◌, length, drop, get_or, Option, Some, refl, ◌∙◌, ap}
 use Rattle.std.proofs.lemmas.List.{drop_more}
 use Rattle.cool_syntax.specs.declared.place.Place.{Place}

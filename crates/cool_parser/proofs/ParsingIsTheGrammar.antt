@@ -1,4 +1,4 @@
--- The parser's outcome agrees with the grammar.
+-- The parser returns the classes that the grammar gives to a file's tokens, or the first syntax error that the grammar defines.
 use Rattle.std.proofs.Common.{◌≡◌, List, [], ◌∷◌, ◌++◌, refl, ap, sym, subst, ◌∙◌, append_assoc, append-nil, Option, Some, None, IfSome, inl, inr}
 use Rattle.std.specs.Option.{option_map}
 use Rattle.cool_syntax.specs.declared.place.Place.{Place}

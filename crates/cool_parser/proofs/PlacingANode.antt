@@ -1,4 +1,5 @@
--- A node whose parts are the last roots that wait makes one tree of theirs: this keeps the invariant between two tokens.
+-- If the parts of a node are the roots of the last complete trees, appending the node joins these trees into one. This keeps the parser's invariant between two
+-- tokens.
 use Rattle.std.proofs.Common.{◌≡◌, ℕ, ◌+◌, ◌-◌, ◌<◌, ◌≤◌, List, [], ◌∷◌, ◌++◌, length, map, Some, None, refl, sym, subst, ◌∙◌, ap, append_assoc, append-nil, length-append, arith}
 use Rattle.std.specs.List.{AllByRecursion}
 use Rattle.cool_syntax.specs.declared.node.NodeId.{NodeId}

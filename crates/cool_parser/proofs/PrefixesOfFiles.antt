@@ -1,4 +1,4 @@
--- The tokens that the machine has read begin some file; the tokens that it refuses begin none.
+-- The tokens that the parser's state machine has accepted are the beginning of some valid file, and tokens that it rejects are the beginning of none.
 use Rattle.std.proofs.Common.{◌≡◌, ℕ, List, [], ◌∷◌, ◌++◌, codes, refl, ap, sym, subst, ◌∙◌, arith, Option, Some, None, IfSome}
 use Rattle.cool_syntax.specs.declared.place.Place.{Place}
 use Rattle.cool_syntax.specs.declared.token.Token.{Token}

@@ -1,4 +1,4 @@
--- The machine makes each shaped concrete file from its reading.
+-- The parser's state machine, given the tokens of a concrete syntax tree that keeps the rules of precedence, rebuilds this tree.
 use Rattle.std.proofs.Common.{◌≡◌, ℕ, ◌≤◌, List, [], ◌∷◌, ◌++◌, refl, ap, sym, ◌∙◌, arith, append_assoc, append-nil, Some, le-leb, cond, true, false}
 use Rattle.cool_syntax.specs.declared.place.Place.{Place}
 use Rattle.cool_syntax.specs.declared.token.Token.{Token}

@@ -1,4 +1,4 @@
--- A token adds at most two to the nodes and the items of the stack together.
+-- One token adds at most two to the number of nodes and stack entries of the parser together.
 use Rattle.std.proofs.Common.{ℕ, ◌+◌, ◌≤◌, Bool, true, false, if◌then◌else◌, List, [], ◌∷◌, ◌++◌, length, codes, Option, Some, None, IfSome, length-append, arith}
 use Rattle.std.specs.Option.{is_some}
 use Rattle.cool_syntax.specs.declared.place.Place.{Place}

@@ -1,5 +1,5 @@
--- The size of a feature so far is at most the number of tokens of the current run: a token adds at most one to it, and a token that ends a run leaves a
--- state between features.
+-- The size of the unfinished feature is at most the number of tokens of the current run (the tokens since the feature began). A token adds at most one to it,
+-- and a token that ends a run leaves a state between features.
 use Rattle.std.proofs.Common.{◌≡◌, ℕ, ◌+◌, ◌≤◌, ◌==◌, nat_le, Bool, true, false, if◌then◌else◌, List, [], ◌∷◌, ◌++◌, length, codes, Option, Some, None, IfSome, refl, sym, ◌∙◌, ap, length-append, arith}
 use Rattle.std.specs.Option.{is_some}
 use Rattle.std.proofs.lemmas.Bool.{eqb-true}

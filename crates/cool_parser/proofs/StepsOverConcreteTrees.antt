@@ -1,4 +1,4 @@
--- Token by token, the parser acts like the machine over concrete trees.
+-- On each token, the parser makes the step that corresponds to the step of the state machine over concrete syntax trees, which keep every token.
 use Rattle.std.proofs.Common.{◌≡◌, ℕ, ◌+◌, ◌-◌, Bool, true, false, if◌then◌else◌, List, [], ◌∷◌, ◌++◌, length, Option, Some, None, refl, ap, ◌∙◌, arith}
 use Rattle.std.specs.Option.{option_map}
 use Rattle.cool_syntax.specs.declared.place.Place.{Place}

@@ -1,4 +1,5 @@
--- A tree's list has the string bytes of the tree; with its weight, it accounts for the nodes, branches and bytes of the tree.
+-- The list of nodes of a tree holds the same string constants as the tree: the tree's nodes, case branches and string bytes are together the sum over the nodes
+-- of the list.
 use Rattle.std.proofs.Common.{◌≡◌, ℕ, ◌+◌, List, [], ◌∷◌, ◌++◌, length, refl, sym, ◌∙◌, ap, arith}
 use Rattle.cool_syntax.specs.declared.node.Node.{Node}
 use Rattle.cool_syntax.specs.declared.node.Node.TheVariants as node

@@ -1,4 +1,4 @@
--- If all nodes of a list keep the lexer's limits, so does the tree of the list.
+-- If each node of a list keeps the lexer's limits on names, strings and source locations, so does the tree that the list represents.
 use Rattle.std.proofs.Common.{ℕ, ◌-◌, ◌<◌, zero, suc, List, [], ◌∷◌, ◌++◌, map, length, get_or, Option, Some, None, arith}
 use Rattle.std.specs.List.{AllByRecursion}
 use Rattle.std.specs.Option.{option_map}

@@ -1,4 +1,5 @@
--- All that is held so far weighs no more than the tokens that were taken, and so the classes of a file weigh no more than its tokens.
+-- The classes of a parsed file weigh no more than its tokens, because the parser's state after each token weighs no more than the tokens read. The weight
+-- counts nodes, features, and bytes of names and strings.
 use Rattle.std.proofs.Common.{◌≡◌, ℕ, ◌+◌, ◌≤◌, nat_le, Bool, true, false, if◌then◌else◌, List, [], ◌∷◌, ◌++◌, length, codes, Option, Some, None, IfSome, refl, subst, length-append, arith}
 use Rattle.std.specs.Option.{is_some}
 use Rattle.cool_syntax.specs.declared.place.Place.{Place}

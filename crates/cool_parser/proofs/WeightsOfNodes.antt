@@ -1,4 +1,4 @@
--- A node weighs one, and one more for each branch of its own: the weight of a tree's list is the number of the tree's nodes and branches.
+-- The weight of a tree's list of nodes is the number of the tree's nodes and case branches: a node weighs one, and one more for each branch of its own.
 use Rattle.std.proofs.Common.{◌≡◌, ℕ, ◌+◌, List, [], ◌∷◌, ◌++◌, length, refl, sym, ◌∙◌, ap, arith}
 use Rattle.cool_syntax.specs.declared.node.Node.{Node}
 use Rattle.cool_syntax.specs.declared.node.Node.TheVariants as node

@@ -1,4 +1,4 @@
--- `IsFault` says which error `parse` returns: the first fault of the tokens, or out of memory.
+-- `IsFault` says which error `parse` returns: the first syntax error of the tokens, or out of memory.
 use Rattle.std.specs.Prelude.{◌≡◌, List}
 use Rattle.cool_syntax.specs.declared.place.Place.{Place}
 use Rattle.cool_syntax.specs.declared.token.Token.{Token}

@@ -1,5 +1,5 @@
--- `NoneEnds` and `Ends` say whether the operator on the top of the parser's stack has at least a given binding level, and so ends and becomes a node. The
--- code decides this one item at a time by `ended` of ParsingMachine.antt.
+-- `NoneEnds` and `Ends` say whether the operator on the top of the parser's stack has at least a given binding level. Such an operator has all its operands,
+-- and is replaced by a node. The code tests one stack entry at a time, by `ended` of ParsingMachine.antt.
 use Rattle.std.specs.Prelude.{◌≡◌, ℕ, List, [], ◌∷◌, Some, None}
 use Rattle.cool_syntax.specs.declared.node.NodeId.{NodeId}
 use Rattle.cool_syntax.specs.declared.node.Node.{Node}

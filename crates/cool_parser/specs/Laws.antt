@@ -1,4 +1,4 @@
--- `HasTree` says that tokens are a file or have a first fault; the parser proves it of all tokens.
+-- `HasTree` says that a list of tokens is a file of classes or has a first syntax error; the parser's crate proves it of all lists of tokens.
 use Rattle.std.specs.Prelude.{◌⊎◌, List}
 use Rattle.cool_syntax.specs.declared.place.Place.{Place}
 use Rattle.cool_syntax.specs.declared.token.Token.{Token}

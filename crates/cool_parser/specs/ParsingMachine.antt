@@ -1,6 +1,6 @@
--- The parser as a state machine on lists, `parsed`, which takes one token at a time (Cool manual, section 11). It keeps the nodes of the current feature, a
--- stack of forms that wait for an expression, the classes so far, and a mode, which says which tokens were just read. An operator on the stack ends if the
--- next token is an operator that binds no more tightly, or ends an operand.
+-- `parsed` defines the parser as a state machine that takes one token at a time (Cool manual, section 11). A state has the nodes of the current feature, a
+-- stack of operators and constructs that wait for an expression, the classes so far, and a mode, which says which tokens were just read. An operator on the
+-- stack is reduced to a node if the next token binds no more tightly, or ends an operand.
 use Rattle.std.specs.Prelude.{ℕ, Bool, true, false, nat_le, if◌then◌else◌, List, [], ◌∷◌, ◌++◌, length, codes, Option, Some, None}
 use Rattle.std.specs.Option.{is_some}
 use Rattle.cool_syntax.specs.declared.place.Place.{Place}

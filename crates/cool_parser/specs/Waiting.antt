@@ -1,5 +1,5 @@
--- `IsGood` is the parser's invariant between two tokens: the nodes so far are those of some trees, one after the other, whose roots are the parts that the
--- stack and the mode hold.
+-- `IsGood` is the parser's invariant between two tokens: the nodes so far are those of complete trees, one after the other, whose roots are the operands that
+-- the stack and the mode refer to.
 use Rattle.std.specs.Prelude.{◌≡◌, Bool, true, false, List, [], ◌∷◌, ◌++◌, map, Option, Some, None}
 use Rattle.cool_syntax.specs.declared.node.NodeId.{NodeId}
 use Rattle.cool_syntax.specs.declared.node.Node.{Node}

@@ -1,4 +1,4 @@
-//! Classes and the heads of their features.
+//! The steps of the parser for the heads of classes, and of their methods and attributes.
 
 ghost use Rattle.std.specs.Prelude.{◌≡◌, ◌-◌, ◌<◌, ◌^◌, length, IfOk};
 ghost use Rattle.cool_syntax.specs.NodeLists.{IsPostorder};

@@ -1,4 +1,4 @@
-//! Names with their declared types: formals, attributes, and the variables of `let` and `case`.
+//! The steps of the parser for a name with its declared type: formal parameters, attributes, and the variables of `let` and `case`.
 
 ghost use Rattle.std.specs.Prelude.{◌≡◌, IfOk};
 ghost use Rattle.cool_parser.specs.declared.item.Item.TheVariants as item;

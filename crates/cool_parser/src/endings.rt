@@ -1,4 +1,4 @@
-//! The steps of the parser after an operand: a token ends operators that wait for the operand, continues an open form or ends it.
+//! The steps of the parser after an operand: the next token reduces operators that wait for the operand, and continues or closes the construct around it.
 
 ghost use Rattle.std.specs.Prelude.{◌≡◌, ◌-◌, ◌<◌, ◌≤◌, ◌^◌, ◌+◌, length, IfOk, OnOk};
 ghost use Rattle.cool_parser.specs.declared.mode.Mode.TheVariants as mode;

@@ -1,4 +1,4 @@
-//! The errors of the parser: a syntax fault, or out of memory.
+//! The errors of the parser: a syntax error, or out of memory.
 
 ghost use Rattle.std.specs.Prelude.{◌≡◌};
 ghost use Rattle.cool_parser.specs.declared.fault.ParseError.TheVariants as error;

@@ -1,4 +1,5 @@
-//! The steps of the parser in an open form after an operand: for each form, the token that continues or ends it.
+//! The steps of the parser after an operand inside an open construct, such as parentheses, `if` or a call: for each construct, the token that continues or
+//! closes it.
 
 ghost use Rattle.std.specs.Prelude.{◌≡◌, ◌-◌, ◌<◌, ◌^◌, length, IfOk};
 ghost use Rattle.cool_parser.specs.declared.item.Item.TheVariants as item;

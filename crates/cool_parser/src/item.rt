@@ -1,4 +1,4 @@
-//! The items on the parser's stack: forms that wait for an expression after their first part has been read.
+//! The entries of the parser's stack: operators and constructs whose first tokens have been read, and which wait for an expression.
 
 ghost use Rattle.std.specs.Prelude.{◌≡◌, IfOk};
 ghost use Rattle.std.specs.Option.{is_some};

@@ -1,4 +1,4 @@
-//! Laws on the grammar: tokens have one tree or one first fault, and never both.
+//! Theorems on the grammar: tokens have one tree or one first syntax error, and never both.
 
 ghost use Rattle.std.specs.Prelude.{◌≡◌, List};
 ghost use Rattle.cool_syntax.specs.declared.place.Place.{Place};

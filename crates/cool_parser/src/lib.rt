@@ -1,7 +1,7 @@
 //! The parser of Cool: from tokens to the tree of a file.
 //!
-//! Input: the tokens of one file. Output: its classes, or the place of the first token that may not stand where it does. `specs/ParsingMachine.antt` is the
-//! parser as a function on lists, to which the code is proved equal.
+//! Input: the tokens of one file. Output: its classes, or the source location of its first syntax error. `specs/ParsingMachine.antt` defines the parser as a
+//! function on lists, to which the code is proved equal.
 #![tactic(auto)]
 
 mod boxed;

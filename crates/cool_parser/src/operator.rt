@@ -1,4 +1,4 @@
-//! Operators and their binding levels.
+//! The infix and prefix operators of expressions, and their binding levels.
 
 ghost use Rattle.std.specs.Prelude.{◌≡◌};
 ghost use Rattle.cool_parser.specs.Levels.{infix_of, infix_level, left_level, prefix_level};

@@ -1,4 +1,4 @@
-//! The state of the parser between two tokens, except its mode: the nodes and classes so far, and the open forms.
+//! The state of the parser between two tokens, except its mode: the nodes and classes so far, and the stack of unfinished constructs.
 
 ghost use Rattle.std.specs.Prelude.{◌≡◌, ◌-◌, ◌<◌, ◌^◌, length, IfOk, OnOk, Some, None};
 ghost use Rattle.cool_syntax.specs.NodeLists.{tree_of, HasPartsBelow, IsPostorder};

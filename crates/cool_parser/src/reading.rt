@@ -1,4 +1,4 @@
-//! The state of the parser after the tokens of a file read so far, with its mode, and the function that takes the next token.
+//! The parser's state after the tokens read so far, and the function that takes the next token of the file.
 
 ghost use Rattle.std.specs.Prelude.{◌≡◌, ◌≤◌, ◌-◌, ◌+◌, ◌<◌, ◌^◌, length, Some, None, IfOk, IfErr, OnOk, if◌then◌else◌};
 ghost use Rattle.cool_syntax.specs.declared.TheConstants.{MOST_SOURCE_BYTES};

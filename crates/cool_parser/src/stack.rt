@@ -1,4 +1,4 @@
-//! The stack of forms that wait for an expression.
+//! The parser's stack of operators and constructs that wait for an expression.
 
 ghost use Rattle.std.specs.Prelude.{◌≡◌, [], ◌∷◌, Some, None, MatchOption, if◌then◌else◌};
 ghost use Rattle.std.specs.Result.{is_ok};

@@ -1,4 +1,4 @@
-//! The parser's step for one token.
+//! The parser's step for one token, by its mode (the tokens that it has just read).
 
 ghost use Rattle.std.specs.Prelude.{◌≡◌, ◌-◌, ◌<◌, ◌^◌, ◌+◌, length, IfOk};
 ghost use Rattle.cool_parser.specs.ParsingMachine as machine;
