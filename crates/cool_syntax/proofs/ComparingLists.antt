@@ -1,4 +1,4 @@
--- Two lists with equal images have the same length and equal images at each position; a property of all positions holds of the lists.
+-- If a function maps two lists to the same list, the two have the same length, and elements at the same position have the same value of the function.
 use Rattle.std.proofs.Common.{◌≡◌, ℕ, ◌<◌, ◌≤◌, zero, suc, List, [], ◌∷◌, length, get_or, take, map, refl, arith}
 use Rattle.std.proofs.lemmas.List.{take_all}
 

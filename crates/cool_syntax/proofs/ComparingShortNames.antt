@@ -1,4 +1,4 @@
--- Two short names compared by their counts and rooms.
+-- Two short names, stored in arrays padded with zeros, are equal if and only if they have the same number of bytes and equal arrays.
 use Rattle.std.proofs.Common.{◌≡◌, ℕ, ◌≤◌, false, List, ◌++◌, length, take, drop, sym, ◌∙◌, ap}
 use Rattle.std.proofs.lemmas.Bool.{false_from_ne_true}
 use Rattle.std.proofs.lemmas.Bool.Decides.{same_from_decides, Decides-like}

@@ -1,4 +1,4 @@
--- The tree that the grammar makes of tokens can be written: no block and no case in it is empty.
+-- The tree that the grammar makes of tokens has no empty block and no empty `case`, so it can be written as source text.
 use Rattle.std.proofs.Common.{List, [], ◌∷◌, subst}
 use Rattle.std.specs.List.{AllByRecursion}
 use Rattle.std.proofs.ByRecursion.{All-append}

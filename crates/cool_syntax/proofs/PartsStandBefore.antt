@@ -1,4 +1,4 @@
--- In the list of a tree, the parts of each node come before it.
+-- In the list of nodes that represents a tree, the parts of each node come before the node (postorder).
 use Rattle.std.proofs.Common.{◌≡◌, ℕ, ◌+◌, ◌≤◌, ◌<◌, List, [], ◌∷◌, ◌++◌, IfSome, length, subst, length-append, arith}
 use Rattle.std.specs.List.{AllByRecursion}
 use Rattle.cool_syntax.specs.declared.place.Place.{Place}

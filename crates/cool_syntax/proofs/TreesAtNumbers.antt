@@ -1,4 +1,4 @@
--- The tree at a number is made of the trees at the numbers of its node's parts.
+-- The subtree at an index of a list of nodes is made of the node there and of the subtrees at the indices of its parts.
 use Rattle.std.proofs.Common.{◌≡◌, ℕ, ◌+◌, ◌<◌, zero, suc, List, [], ◌∷◌, ◌++◌, Some, None, length, map, get_or, refl, sym, ◌∙◌, ap, subst, length-append, arith}
 use Rattle.std.specs.List.{AllByRecursion, slice_get}
 use Rattle.std.proofs.lemmas.List.{get_or_append_left, get_or_push, length_push}

@@ -1,4 +1,4 @@
--- A tree has at least one node.
+-- A syntax tree has at least one node.
 use Rattle.std.specs.Prelude.{◌≤◌}
 use Rattle.std.proofs.Common.{arith}
 use Rattle.cool_syntax.specs.Tree.{Tree, tree_size}

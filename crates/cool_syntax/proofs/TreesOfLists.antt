@@ -1,4 +1,4 @@
--- The list of a tree has a node for each node of the tree, and gives the tree back.
+-- A syntax tree can be recovered from its list of nodes in postorder, and the list has one entry for each node of the tree.
 use Rattle.std.proofs.Common.{◌≡◌, ℕ, ◌+◌, ◌-◌, List, [], ◌∷◌, ◌++◌, length, map, get_or, refl, sym, ◌∙◌, ap, append_assoc, append-nil, length-append, arith}
 use Rattle.std.specs.Option.{option_map}
 use Rattle.std.proofs.lemmas.List.{get_or_at}

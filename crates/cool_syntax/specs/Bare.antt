@@ -1,4 +1,5 @@
--- `bare` is a tree without its places: the place of each node and of each type name becomes `nowhere`, so trees that differ only in places become equal.
+-- `bare` is a tree without its source locations: the location of each node and of each type name becomes `nowhere`, so trees that differ only in locations
+-- become equal.
 use Rattle.cool_syntax.specs.declared.place.Place.{Place}
 use Rattle.cool_syntax.specs.declared.type_ref.TypeRef.{TypeRef}
 use Rattle.cool_syntax.specs.Tree.{Tree, Trees, MaybeTree, Cases, Twig, Last, More, Without, With, NoCase, CaseOf}

@@ -1,5 +1,5 @@
--- Concrete trees: the source text of a file, by the forms of the grammar (Cool manual, section 11 and its figure 1). A concrete tree keeps parentheses, and
--- the place of each of its tokens. Lists of parts grow at their end.
+-- `Concrete` and the types after it define concrete syntax trees of a file, by the rules of the grammar (Cool manual, section 11 and its figure 1). A concrete
+-- tree keeps parentheses, and the source location of each of its tokens. Lists of parts grow at their end.
 use Rattle.std.specs.Prelude.{ℕ, Bool, List}
 use Rattle.cool_syntax.specs.declared.place.Place.{Place}
 use Rattle.cool_syntax.specs.declared.type_ref.TypeRef.{TypeRef}

@@ -1,5 +1,6 @@
--- `IsNoLater` is the order of faults in a list: by file, then by byte, then by the rank of the fault's kind, and last by line. The line never decides between
--- places of one text, because it follows from the byte. Two faults are equal in file, byte, rank and line if each is no later than the other.
+-- `IsNoLater` is the order of compile-time errors in a list: by file, then by byte, then by the rank of the error's kind, and last by line. The line never
+-- decides between two locations of one text, because it follows from the byte. Two errors are equal in file, byte, rank and line if each is no later than the
+-- other.
 use Rattle.std.specs.Prelude.{◌≡◌, ◌⊎◌, ℕ, ◌<◌, ◌≤◌, List, [], ◌∷◌}
 use Rattle.cool_syntax.specs.declared.place.Place.{Place}
 

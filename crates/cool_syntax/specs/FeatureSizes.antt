@@ -1,5 +1,5 @@
--- `feature_size` is the size of a feature: the number of its formals, plus the nodes and the case branches of its expression. `IsBoundedClass` says that no
--- feature of a class is larger than `MOST_TOKENS`, the limit on the tokens of a feature in the source.
+-- `feature_size` is the size of a feature: the number of its formal parameters, plus the nodes and the case branches of its expression. `IsBoundedClass` says
+-- that no feature of a class is larger than `MOST_TOKENS`, the limit on the tokens of a feature in the source.
 use Rattle.std.specs.Prelude.{◌≡◌, ℕ, ◌+◌, ◌≤◌, [], ◌∷◌, length, codes, Option, Some, None, refl}
 use Rattle.std.specs.List.{AllByRecursion}
 use Rattle.cool_syntax.specs.declared.TheConstants.{MOST_TOKENS}

@@ -1,6 +1,6 @@
--- The grammar of Cool (Cool manual, section 11): `Parses` says which classes the tokens of a file make, and `IsUnexpected` where the first fault of other
--- tokens is. Tokens are a file if a concrete tree with these tokens keeps the rules of precedence (`IsShapedFile`); its plain form (`plain_file`) is the tree
--- of the file. In this project a file may have no class.
+-- The grammar of Cool (Cool manual, section 11): `Parses` says which classes the tokens of a file make, and `IsUnexpected` says where the first syntax error of
+-- other tokens is. Tokens are a file if they are the tokens of a concrete syntax tree that keeps the rules of precedence (`IsShapedFile`); `plain_file`
+-- converts it to the abstract tree. In this project a file may have no class.
 use Rattle.std.specs.Prelude.{◌≡◌, refl, List, [], ◌∷◌, ◌++◌, codes, None, ◌⊎◌}
 use Rattle.std.proofs.Common.{arith}
 use Rattle.cool_syntax.specs.declared.place.Place.{Place}

@@ -1,4 +1,4 @@
--- `form` is the form of a whole text in Cool's lexical structure (manual, section 10): one lexeme, one byte of white space or one comment. The first byte of
+-- `form` classifies a text that is a single lexeme, one byte of white space or one comment, by Cool's lexical structure (manual, section 10). The first byte of
 -- a text decides which rule applies. LexicalStructure.antt adds the limits on integers and strings.
 use Rattle.std.specs.Prelude.{◌≡◌, ℕ, suc, zero, ◌+◌, ◌-◌, ◌*◌, Bool, true, false, not, ◌&&◌, ◌||◌, ◌==◌, nat_le, bytes_eq, if◌then◌else◌, List, [], ◌∷◌, length, map, codes, Option, Some, None, option_map, refl}
 use Rattle.std.specs.List.{fold, list_all}

@@ -1,5 +1,5 @@
--- Cool's lexical structure (manual, section 10), with this compiler's limits: `Lexes` says which tokens the bytes of a file are, and `LexFault` which fault
--- of a file is the first, with its place.
+-- Cool's lexical structure (manual, section 10), with this compiler's limits: `Lexes` says which tokens the bytes of a file are, and `LexFault` which lexical
+-- error of a file is the first, with its source location.
 use Rattle.std.specs.Prelude.{◌≡◌, ◌⊎◌, ℕ, ◌+◌, ◌-◌, ◌≤◌, ◌<◌, Bool, false, ◌&&◌, ◌==◌, nat_lt, if◌then◌else◌, List, [], ◌∷◌, ◌++◌, length, take, drop, codes, Option, Some, None, refl}
 use Rattle.std.specs.List.{count_by, take_while}
 use Rattle.std.specs.Option.{is_none}

@@ -1,5 +1,5 @@
--- The limits of a program's source, each with its value: the number of files, of bytes in all files together, of bytes in a string constant, and of tokens in
--- a run. A run is a feature, or the tokens between the features of two classes.
+-- The limits of a program's source, each with its value: the number of files, of bytes in all files together, of bytes in a string constant, and of tokens in a
+-- run. A run is the tokens of a feature, or those between the features of two classes.
 use Rattle.std.specs.Prelude.{◌≡◌, refl}
 use Rattle.cool_syntax.specs.declared.TheConstants.{MOST_FILES, MOST_SOURCE_BYTES, MOST_BYTES, MOST_TOKENS}
 

@@ -1,5 +1,5 @@
--- `plain` is the tree of a concrete tree, without its parentheses (Cool manual, section 11). A call without a receiver is a call of self (section 7.4), and a
--- let with several bindings is one let inside the other (section 7.8).
+-- `plain` converts a concrete syntax tree to the abstract tree, without parentheses (Cool manual, section 11). A call without a receiver becomes a call of self
+-- (section 7.4), and a let with several bindings becomes one let inside the other (section 7.8).
 use Rattle.std.specs.Prelude.{◌≡◌, refl, List, [], ◌∷◌, ◌++◌, codes, Option, Some, None}
 use Rattle.cool_syntax.specs.declared.place.Place.{Place}
 use Rattle.cool_syntax.specs.declared.type_ref.TypeRef.{TypeRef}

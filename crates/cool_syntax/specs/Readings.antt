@@ -1,4 +1,4 @@
--- `reading` is the list of the tokens of a concrete tree from left to right, as the grammar writes each form (Cool manual, section 11).
+-- `reading` is the list of the tokens of a concrete syntax tree from left to right, as the grammar writes each construct (Cool manual, section 11).
 use Rattle.std.specs.Prelude.{ℕ, true, false, List, [], ◌∷◌, ◌++◌}
 use Rattle.cool_syntax.specs.declared.place.Place.{Place}
 use Rattle.cool_syntax.specs.declared.type_ref.TypeRef.{TypeRef}

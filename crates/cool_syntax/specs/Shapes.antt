@@ -1,7 +1,7 @@
--- `IsShaped` says that a concrete tree keeps the rules of precedence and associativity: every operand binds as tightly as the operator beside it requires.
--- The levels (Cool manual, section 11.1) are, from low to high, 0 `let`, 1 `<-`, 2 `not`, 3 comparisons, 4 `+ -`, 5 `* /`, 6 `isvoid`, 7 `~`; dispatches and
--- atoms bind more tightly. Arithmetic associates to the left, an assignment to the right, comparisons not at all, and a let extends as far to the right as it
--- can (section 7.8).
+-- `IsShaped` says that a concrete syntax tree keeps the rules of precedence and associativity: every operand binds as tightly as the operator beside it
+-- requires. The levels (Cool manual, section 11.1) are, from low to high, 0 `let`, 1 `<-`, 2 `not`, 3 comparisons, 4 `+ -`, 5 `* /`, 6 `isvoid`, 7 `~`;
+-- dispatches and atoms bind more tightly. Arithmetic associates to the left, an assignment to the right, comparisons not at all, and a let extends as far to
+-- the right as it can (section 7.8).
 use Rattle.std.specs.Prelude.{ℕ, ◌<◌, ◌≤◌, codes}
 use Rattle.std.proofs.Common.{arith}
 use Rattle.cool_syntax.specs.declared.place.Place.{Place}

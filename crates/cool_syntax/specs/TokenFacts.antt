@@ -1,5 +1,5 @@
--- The properties of tokens on which the layers above the lexer rely: names and constants are lexemes within the limits, places rise within their file, and
--- tokens take no more bytes than the file has.
+-- The properties of tokens that the parser and later phases may assume: names and constants are lexemes within the limits, source locations increase within a
+-- file, and tokens take no more bytes than the file has.
 use Rattle.std.specs.Prelude.{◌≡◌, ℕ, ◌+◌, ◌<◌, ◌≤◌, List, [], ◌∷◌, length, codes, Some, refl}
 use Rattle.std.specs.List.{AllByRecursion}
 use Rattle.cool_syntax.specs.declared.TheConstants.{MOST_BYTES, MOST_SOURCE_BYTES}

@@ -1,4 +1,4 @@
--- The trees of expressions, by the forms of the Cool manual (section 11): plain data, with no address in it.
+-- `Tree` defines the abstract syntax trees of expressions, by the forms of the Cool manual (section 11), as plain data without pointers.
 use Rattle.std.specs.Prelude.{ℕ, ◌+◌, Bool as Truth, List, [], ◌∷◌, Option, Some, None}
 use Rattle.cool_syntax.specs.declared.place.Place.{Place}
 use Rattle.cool_syntax.specs.declared.type_ref.TypeRef.{TypeRef}

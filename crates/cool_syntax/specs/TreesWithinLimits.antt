@@ -1,5 +1,5 @@
--- `IsTreeWithin` carries the lexer's promises about tokens over to trees: each name is a lexeme and no keyword, each string keeps its limit, and each place
--- is in one of so many files. An integer may be any 32-bit word: the source has only those below 2 ^ 31, and constant folding makes the others.
+-- `IsTreeWithin` states for trees what the lexer guarantees for tokens: each name is an identifier, each string keeps its limit, and each source location is in
+-- one of the given number of files. An integer may be any 32-bit word: the source has only those below 2 ^ 31, and constant folding makes the others.
 use Rattle.std.specs.Prelude.{ℕ, ◌<◌, ◌^◌, List, IfSome, codes, refl}
 use Rattle.std.specs.List.{AllByRecursion}
 use Rattle.cool_syntax.specs.declared.token.TokenKind.TheVariants as kind

@@ -1,5 +1,5 @@
--- `classes_weight` is a measure of the size of a text: it counts the classes with the bytes of their names, and the features with their formals, nodes, case
--- branches and bytes of string constants.
+-- `classes_weight` is a measure of the size of a program's classes: it counts the classes with the bytes of their names, and the features with their formal
+-- parameters, nodes, case branches and bytes of string constants.
 use Rattle.std.specs.Prelude.{◌≡◌, ℕ, ◌+◌, List, [], ◌∷◌, length, codes, Option, Some, None, refl}
 use Rattle.cool_syntax.specs.declared.place.Place.{Place}
 use Rattle.cool_syntax.specs.declared.type_ref.TypeRef.{TypeRef}

@@ -1,5 +1,5 @@
--- `written` is the list of tokens that writes a tree as source text: each operand that is not an atom stands in parentheses, and each token has the place of
--- its tree. A file can be written if no block and no case in it is empty.
+-- `written` is the list of tokens that writes a tree as source text: each operand that is not an atom stands in parentheses, and each token has the source
+-- location of its tree. A file can be written if no block and no case in it is empty.
 use Rattle.std.specs.Prelude.{◌≡◌, refl, Bool, true, false, if◌then◌else◌, List, [], ◌∷◌, ◌++◌, codes, Option, Some, None}
 use Rattle.std.specs.List.{AllByRecursion}
 use Rattle.cool_syntax.specs.declared.place.Place.{Place}

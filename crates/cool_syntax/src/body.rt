@@ -1,4 +1,4 @@
-//! The body of a method or the value of an attribute: one expression, as the list of its nodes.
+//! A body (the expression of a method or the initial value of an attribute), stored as the list of its nodes in postorder.
 
 ghost use Rattle.std.specs.Prelude.{◌≡◌, ◌-◌, ◌<◌, ◌^◌, Some, length};
 ghost use Rattle.std.specs.List.{slice_get};

@@ -1,4 +1,4 @@
-//! The classes of a source file with their features (the Cool manual, section 11).
+//! The syntax tree of a source file: its classes with their features (the Cool manual, section 11).
 
 use crate::body::Body;
 use crate::listed::Listed;

@@ -1,4 +1,4 @@
-//! The kinds of lexical faults.
+//! The kinds of lexical errors.
 
 /// The reason why a text has no list of tokens.
 #[derive(Clone, Copy)]

@@ -1,7 +1,7 @@
-//! Cool's source text as values: places in files, names, string constants, expressions and classes.
+//! Types for Cool's source text: source locations, names, string constants, expressions and classes.
 //!
-//! Input: bytes of source files. Output: small types that contracts see as lists of bytes and as trees. `specs/` defines which texts are programs, and
-//! which list of nodes a tree has, apart from any code that reads them.
+//! Input: bytes of source files. Output: small types that contracts see as lists of bytes and as trees. `specs/` defines which texts are programs, and which
+//! list of nodes a tree has, apart from any code that reads them.
 #![tactic(auto)]
 
 mod body;

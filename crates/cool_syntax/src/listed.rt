@@ -1,4 +1,4 @@
-//! Lists that contracts see as lists, with no address and no capacity in them.
+//! A list type whose value in contracts is the list of its elements, without its address and its capacity.
 
 ghost use Rattle.std.specs.Prelude.{◌≡◌, [], ◌∷◌, ◌++◌, if◌then◌else◌};
 ghost use Rattle.std.specs.Result.{is_ok};

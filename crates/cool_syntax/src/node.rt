@@ -1,4 +1,4 @@
-//! The nodes of a tree that is kept as a list: a node refers to each part by its number in the list.
+//! The nodes of a syntax tree that is stored as a list: a node refers to each of its parts by an index into the list.
 
 ghost use Rattle.std.specs.Prelude.{◌≡◌, List};
 ghost use Rattle.cool_syntax.specs.Tree.{Tree, place_of};

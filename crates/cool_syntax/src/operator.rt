@@ -1,4 +1,4 @@
-//! The operators between two numbers or two values.
+//! The binary operators: arithmetic on two numbers, and comparison of two values.
 
 /// An operator of arithmetic: `+`, `-`, `*` and `/`.
 #[derive(Clone, Copy, PartialEq, Eq)]

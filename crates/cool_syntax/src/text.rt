@@ -1,4 +1,4 @@
-//! Names and string constants: bytes of their own, which contracts see as lists.
+//! The types of names and string constants, which own their bytes, and which contracts see as lists of bytes.
 
 ghost use Rattle.std.specs.Prelude.{◌≡◌, ◌≤◌, ◌↔◌, length, bytes_eq, IfOk, IsTrue};
 ghost use Rattle.cool_syntax.specs.Spellings.{IsSpelled, spelled};

@@ -1,4 +1,4 @@
-//! Tokens: the lexemes of Cool (manual, section 10) with their places.
+//! Tokens: the lexemes of Cool (manual, section 10) with their source locations.
 
 use crate::{Bytes, Name, Place};
 

@@ -1,4 +1,4 @@
-//! A type as the source writes it.
+//! A type name where the source uses it, with its source location.
 
 ghost use Rattle.std.specs.Prelude.{◌≡◌, IfOk};
 

@@ -1,4 +1,4 @@
--- `short` returns a short name whose array is zero behind the bytes of the name, as `IsSpelled` of `Spellings.antt` demands.
+-- `short` returns a short name in an array that is zero after the bytes of the name, as `IsSpelled` of `Spellings.antt` demands.
 use Rattle.std.proofs.Common.{subst, ◌≡◌, ◌∙◌, ◌++◌, sym, ap, ℕ, List, length, drop, replicate, arith, refl}
 use Rattle.std.proofs.lemmas.List.{length-append, length-drop, drop_at, drop-replicate}
 use Rattle.cool_syntax.specs.declared.text.TheConstants.{MOST_SHORT_NAME}

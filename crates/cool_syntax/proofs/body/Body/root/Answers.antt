@@ -1,4 +1,4 @@
--- `Body::root` returns the number of the last node, which is the node of the whole tree.
+-- `Body::root` returns the index of the last node of the list, which is the root of the tree.
 use Rattle.std.proofs.Common.{ℕ, ◌-◌, ap, sym, ◌∙◌, arith}
 use Rattle.cool_syntax.proofs.TreesHaveNodes.{one_le_size}
 use Rattle.cool_syntax.specs.NodeLists.{tree_at}

@@ -1,4 +1,5 @@
--- `Name::is` compares two short names by their numbers of bytes and their arrays. The array of a short name is zero behind the bytes of the name.
+-- `Name::is` tells whether two names are equal. It may compare two short names by their numbers of bytes and their arrays, because the array is zero after the
+-- bytes of the name.
 use Rattle.std.proofs.Common.{◌≡◌, ◌≤◌, ◌∙◌, sym, ap, ℕ, List, length, take, drop, replicate, ◌-◌, subst}
 use Rattle.std.specs.Prelude.{bytes_eq}
 use Rattle.std.proofs.lemmas.Bool.{ne_eqb}
