@@ -1,4 +1,4 @@
--- The lines of the numbers up to k + 1 are those of the numbers up to k, and then those of k + 1.
+-- The generated lines for the numbers 1 to k + 1 are those for 1 to k, and then the line for k + 1.
 use Rattle.std.proofs.Common.{◌≡◌, ℕ, suc, ◌+◌, ◌++◌, ap, ◌∙◌, arith}
 use Rattle.cool_big.specs.declared.line.Line.{Line}
 use Rattle.cool_big.specs.BigPrograms.{line_text, line_texts}

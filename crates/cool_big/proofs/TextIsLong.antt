@@ -1,4 +1,4 @@
--- Lemmas on the number of bytes of the text of `big_program`: of its lines of each kind, of its class Main, and of the whole.
+-- The large Cool program that `big_program` generates from a number n has 154 + 151 n bytes. The lemmas before this give the lengths of its parts.
 use Rattle.std.proofs.Common.{◌≡◌, ℕ, zero, suc, ◌+◌, ◌*◌, List, ◌++◌, length, flat_map, codes, refl, arith}
 use Rattle.std.specs.List.{range_with_len}
 use Rattle.std.proofs.lemmas.List.{length-append}

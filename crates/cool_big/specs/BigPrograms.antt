@@ -1,6 +1,6 @@
--- `big_text` is the text of a large valid program, from a number n, in the syntax of the Cool manual, section 11. It has a chain of n + 1 classes, of which
--- all but the first redefine a method, and a class Main, which calls each of these methods once. For each i from 1 to n the program writes 2001 + 2 * i and a
--- newline.
+-- `big_text` defines the text of a large valid Cool program, from a number n (syntax: Cool manual, section 11). It has a chain of n + 1 classes, of which all
+-- but the first redefine a method, and a class Main, which calls each of these methods once. When run, the program writes 2001 + 2 * i and a newline for each i
+-- from 1 to n.
 use Rattle.std.specs.Prelude.{◌≡◌, ℕ, ◌+◌, ◌-◌, ◌/◌, ◌%◌, List, [], ◌∷◌, ◌++◌, length, flat_map, codes, refl}
 use Rattle.std.specs.List.{range_with_len}
 use Rattle.cool_big.specs.declared.line.Line.{Line}

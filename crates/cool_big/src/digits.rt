@@ -1,4 +1,4 @@
-//! Words with a number in four decimal digits after them.
+//! Appending given bytes and a number in four decimal digits to the generated text.
 
 ghost use Rattle.std.specs.Prelude.{◌≡◌, ◌+◌, ◌<◌, ◌++◌, OnOk};
 ghost use Rattle.cool_big.specs.BigPrograms.{four_digits, numbered};

@@ -1,6 +1,6 @@
 //! Large valid Cool programs, generated from a number.
 //!
-//! Input: a number. Output: the text of the program that `specs/BigPrograms.antt` names.
+//! Input: a number. Output: the text of the program that `specs/BigPrograms.antt` defines.
 #![tactic(auto)]
 
 mod digits;

@@ -1,4 +1,4 @@
-//! The lines that are written once for each number.
+//! The lines of the generated Cool program that are repeated for each number: a class, a method of Main, and the call of that method.
 
 ghost use Rattle.std.specs.Prelude.{◌≡◌, ◌≤◌, ◌++◌, OnOk};
 ghost use Rattle.cool_big.specs.declared.program.TheConstants.{MOST_BIG};

@@ -1,4 +1,4 @@
-//! The whole generated program.
+//! The function `big_program`, which generates the whole Cool program for a number.
 
 ghost use Rattle.std.specs.Prelude.{◌≡◌, ◌≤◌, ◌+◌, ◌*◌, ◌++◌, length, IfOk, OnOk};
 ghost use Rattle.cool_big.specs.BigPrograms.{big_text, body_text, main_text, root_text};

@@ -1,4 +1,4 @@
--- Each step of the loop of `push_lines` adds the lines of the next number.
+-- `push_lines` appends one generated line for each number from 1 to n, because each iteration of its loop appends the line of the next number.
 use Rattle.std.proofs.Common.{◌≡◌, ℕ, suc, ◌+◌, ◌-◌, List, ◌++◌, ap, ◌∙◌, sym, append_assoc, arith}
 use Rattle.cool_big.specs.BigPrograms.{line_text, line_texts}
 use Rattle.cool_big.proofs.LinesInOrder.{one_more}

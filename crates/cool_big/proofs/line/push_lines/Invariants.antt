@@ -1,4 +1,4 @@
--- In the loop of `push_lines`, the lines of the numbers below the present one are added.
+-- In the loop of `push_lines`, the lines of all numbers below the current one have been appended to the text.
 use Rattle.std.proofs.Common.{◌≡◌, ◌≤◌, ◌-◌, ◌++◌}
 use Rattle.cool_big.specs.BigPrograms.{line_texts}
 use Rattle.cool_big.proofs.line.push_lines.Given as goal

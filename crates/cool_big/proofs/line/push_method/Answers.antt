@@ -1,4 +1,4 @@
--- `push_method` adds the four parts of the text of a method, one after another.
+-- `push_method` appends the text of a method of the generated program, in four parts one after another.
 use Rattle.std.proofs.Common.{◌≡◌, ℕ, ◌+◌, List, ◌++◌, codes, if◌then◌else◌, Result, Ok, Err, OnOk, ap, ◌∙◌, append_assoc}
 use Rattle.std.specs.Result.{is_ok}
 use Rattle.cool_big.specs.BigPrograms.{numbered}

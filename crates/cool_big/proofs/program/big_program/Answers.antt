@@ -1,4 +1,4 @@
--- `big_program` returns a text of 154 + 151 n bytes, because `big_text` of `BigPrograms.antt` has this length for n.
+-- `big_program` returns a Cool program of 154 + 151 n bytes for the number n, because its definition `big_text` has this length.
 use Rattle.std.proofs.Common.{rules, ◌≡◌, ap, ◌∙◌, length}
 use Rattle.cool_big.specs.BigPrograms.{big_text}
 use Rattle.cool_big.proofs.TextIsLong.{big_length}
