@@ -1,4 +1,5 @@
--- The text and data that lines are assembled to, line by line.
+-- Lemmas on the second pass, one line after another: the words and bytes that a statement adds to text and data, the position after it, and its error if it has
+-- one.
 use Rattle.std.proofs.Common.{◌≡◌, refl, sym, ◌∙◌, ap, ℕ, suc, ◌+◌, ◌-◌, ◌*◌, ◌/◌, ◌%◌, ◌≤◌, ◌||◌, not, is_some, ℤ, nat_lt, List, [], ◌∷◌, ◌++◌, length, flat_map, replicate, Bool, true, false, Option, Some, None, if◌then◌else◌, arith, lit≤}
 use Rattle.std.proofs.lemmas.List.{append_assoc, length-append, length-map, length-replicate}
 use Rattle.std.proofs.Math.Nat.{mul_comm}

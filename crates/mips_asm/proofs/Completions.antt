@@ -1,4 +1,4 @@
--- Whether lines lack `__start`, by the segments of labels.
+-- The assembler must add a `__start` to lines if and only if no line has this label and the first label `main` stands in the text segment.
 use Rattle.std.specs.Prelude.{◌≡◌, ℕ, ◌&&◌, not, Bool, true, false, if◌then◌else◌, List, [], ◌∷◌, Option, Some, None, is_some, refl}
 use Rattle.std.proofs.Common.{ap, sym, ◌∙◌}
 use Rattle.mips_isa.specs.declared.place.Segment.{Segment}

@@ -1,4 +1,4 @@
--- Lemmas on the first pass over lines in two parts: their positions, items of data, table of labels, and first fault.
+-- Lemmas on the first pass of the assembler over lines in two parts: their positions, data items, symbol table (of labels), and first error.
 use Rattle.std.specs.Prelude.{◌≡◌, ℕ, suc, ◌+◌, List, [], ◌∷◌, ◌++◌, length, Option, Some, None, is_some, true, false, refl}
 use Rattle.std.proofs.Common.{ap, sym, ◌∙◌, append_assoc, append-nil, arith, length-append, flat_map, subst}
 use Rattle.mips_isa.specs.declared.asm_fault.AsmKind.{AsmKind}

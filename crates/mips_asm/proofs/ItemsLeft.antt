@@ -1,4 +1,4 @@
--- Lemmas on the items of `.word` that a loop has not passed: their bytes come after those so far, and their first fault is that of all items.
+-- The operands of `.word` that a loop has still to assemble give the bytes after those so far, and their first error is that of all operands.
 use Rattle.std.proofs.Common.{◌≡◌, ◌∙◌, ℕ, List, ◌∷◌, ◌++◌, flat_map, Option}
 use Rattle.std.specs.List.{AllByRecursion}
 use Rattle.mips_isa.specs.declared.place.Place.{Place}

@@ -1,4 +1,4 @@
--- The table of labels, and the labels of a line that are put into it.
+-- Lemmas on the symbol table of the assembler: a look-up finds each label in it, and a line's labels are added one by one, unless one was defined before.
 use Rattle.std.specs.Prelude.{◌≡◌, ℕ, ◌||◌, Bool, true, false, List, [], ◌∷◌, ◌++◌, Option, Some, None, is_some, refl, bytes_eq}
 use Rattle.std.specs.Map.{lookup}
 use Rattle.std.specs.HashMap.{get}

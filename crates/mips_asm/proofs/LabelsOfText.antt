@@ -1,4 +1,5 @@
--- The labels of a text, by the lines before they are completed.
+-- The address that a label in the text segment has, and the end of this segment, after the assembler has added `__start` where it is missing, follow from the
+-- program's own lines.
 use Rattle.std.proofs.Common.{◌≡◌, refl, sym, ◌∙◌, ap, ℕ, ◌+◌, ◌*◌, ◌&&◌, ◌||◌, not, is_some, nat_lt, List, [], ◌∷◌, ◌++◌, length, Bool, true, false, Option, Some, None, if◌then◌else◌, arith}
 use Rattle.std.specs.Prelude.{bytes_eq}
 use Rattle.mips_isa.specs.declared.place.Place.{Place}

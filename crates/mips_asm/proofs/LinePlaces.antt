@@ -1,4 +1,4 @@
--- If lines have no fault of the first pass, the text and the data fit into their segments after each line.
+-- If the first pass of the assembler finds no error in lines, the words of text and bytes of data fit into their segments after each line.
 use Rattle.std.specs.Prelude.{◌≡◌, ℕ, zero, suc, nat_lt, ◌||◌, Bool, true, false, if◌then◌else◌, List, [], ◌∷◌, ◌++◌, Option, Some, None, refl}
 use Rattle.std.proofs.Common.{true≢false}
 use Rattle.std.proofs.lemmas.Bool.{ltb-false}

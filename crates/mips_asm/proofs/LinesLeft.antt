@@ -1,4 +1,5 @@
--- Lemmas on the state of the second pass (`IsLeft`) at a line without a fault, at a line with a fault, and at a line after a fault.
+-- Lemmas on the invariant of the second pass (`IsLeft`, which says that the remaining lines lead to the result of all lines): at a line without an error, at
+-- one with an error, and after an error.
 use Rattle.std.specs.Prelude.{◌≡◌, ℕ, ◌+◌, List, [], ◌∷◌, ◌++◌, length, Option, Some, None, is_some, Bool, true, false, if◌then◌else◌, Result, Ok, Err, OnOk}
 use Rattle.std.proofs.Common.{ap, sym, ◌∙◌, subst, add-one}
 use Rattle.mips_isa.specs.declared.place.Place.{Place}

@@ -1,4 +1,4 @@
--- The numbers in the lines that a loop has not passed are in their ranges if those of all lines are.
+-- If the numbers in all lines of assembly are within their ranges, so are those of the lines that a loop has still to process.
 use Rattle.std.proofs.Common.{◌≡◌, ℕ, zero, suc, ◌+◌, ◌<◌, List, [], ◌∷◌, drop, ◌∙◌, true≢false, arith, subst}
 use Rattle.mips_isa.specs.declared.line.Line as declared_line
 use Rattle.mips_isa.specs.Lines.{line_of, lines_of, IsInRange, AreInRange}

@@ -1,4 +1,5 @@
--- The places of labels, computed from their marks.
+-- The segment and address of each label can be computed from the symbol table, which holds an address in text or the index of a data item, and from the
+-- addresses of the data items.
 use Rattle.std.specs.Prelude.{◌≡◌, ℕ, ◌+◌, ◌*◌, ◌||◌, ◌&&◌, not, is_some, Bool, true, false, if◌then◌else◌, List, [], ◌∷◌, ◌++◌, length, slice_get, Option, Some, None, refl, bytes_eq}
 use Rattle.std.specs.Map.{lookup}
 use Rattle.std.proofs.Common.{ap, sym, ◌∙◌, append_assoc, append-nil, length-append, cond}

@@ -1,4 +1,4 @@
--- The unit of `.align`, 2 to an exponent of at most 12, is above 0 and at most 4,096.
+-- The alignment that `.align` asks for, 2 to the power of its operand, is from 1 to 4,096, because the operand is at most 12.
 use Rattle.std.proofs.Common.{◌≡◌, ℕ, ◌*◌, ◌%◌, ◌^◌, ◌<◌, ◌≤◌, arith}
 use Rattle.std.proofs.Math.Nat.{pow-le-pow_right, mod-eq_of_lt}
 use Rattle.std.proofs.lemmas.Nat.{pow_pos}

@@ -1,4 +1,4 @@
--- The target of an instruction decides what the instruction is assembled to.
+-- The machine instructions for a line of assembly depend on no label but the instruction's target, and are in range if the target is no error.
 use Rattle.std.proofs.Common.{◌≡◌, refl, sym, ◌∙◌, ap, ℕ, ◌+◌, ◌/◌, ◌%◌, ◌<◌, ℤ, pos, negsuc, List, Bool, true, false, ◌&&◌, nat_lt, Option, Some, None, if◌then◌else◌, arith, lit<, subst}
 use Rattle.std.specs.List.{AllByRecursion}
 use Rattle.mips_isa.specs.declared.instr.Instr.{Instr}

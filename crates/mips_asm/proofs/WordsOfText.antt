@@ -1,4 +1,5 @@
--- The number of words of text that lines are assembled to, and that they fit.
+-- The text segment has as many machine words as `words_in` counts for its lines, and three more if the assembler adds `__start`. Lines without an error fit
+-- into the segment.
 use Rattle.std.proofs.Common.{◌≡◌, refl, ◌∙◌, ap, ℕ, suc, ◌+◌, ◌*◌, ◌≤◌, ◌&&◌, not, is_some, List, [], ◌∷◌, ◌++◌, length, map, Bool, true, false, Option, Some, None, if◌then◌else◌, arith, lit≤, subst}
 use Rattle.std.proofs.lemmas.List.{length-append, length-map}
 use Rattle.mips_isa.specs.declared.place.Segment.{Segment}

@@ -1,4 +1,4 @@
--- `HasTaken` is the invariant of the assembler's first pass: it knows the labels, items of data and position of the lines so far, or their first fault.
+-- `HasTaken` is the invariant of the assembler's first pass: it knows the labels, data items and position of the lines so far, or their first error.
 use Rattle.std.specs.Prelude.{◌≡◌, List, [], ◌++◌, length, Option, None, Some}
 use Rattle.mips_isa.specs.declared.asm_fault.AsmFault.{AsmFault}
 use Rattle.mips_isa.specs.Lines.{Line}

@@ -1,4 +1,4 @@
--- The assembly of one line: the address that it refers to, its faults, and its words and bytes.
+-- Definitions for assembling one line: the label that its instruction refers to, its errors, and the machine words and data bytes that it adds.
 use Rattle.std.specs.Prelude.{◌≡◌, ℕ, ◌+◌, ◌*◌, ◌%◌, ◌≤◌, true, if◌then◌else◌, List, [], ◌∷◌, ◌++◌, map, replicate, Option, Some, None, Result, Ok, Err}
 use Rattle.mips_isa.specs.declared.instr.Instr.{Instr}
 use Rattle.mips_isa.specs.declared.place.Place.{Place}

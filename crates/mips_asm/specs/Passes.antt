@@ -1,4 +1,4 @@
--- The results of the assembler's first pass: positions in text and data, the addresses of items of data, and the table of labels.
+-- The results of the assembler's first pass: positions in text and data, the addresses of data items, and the symbol table (the labels with their positions).
 use Rattle.std.specs.Prelude.{◌≡◌, ℕ, zero, suc, ◌+◌, ◌*◌, ◌<◌, ◌≤◌, ◌&&◌, not, is_some, bytes_eq, Bool, true, false, List, [], ◌∷◌, ◌++◌, length, map, Option, None, Some, Result, Ok, Err}
 use Rattle.std.specs.Global.{Vec}
 use Rattle.std.specs.Map.{lookup}

@@ -1,4 +1,4 @@
--- `places_of` gives the segment and the address of each label, from the table of labels and the addresses of the items of data.
+-- `places_of` gives the segment and the address of each label, from the symbol table and the addresses of the data items.
 use Rattle.std.specs.Prelude.{ℕ, List, Option, Some, None, slice_get, bytes_eq}
 use Rattle.std.specs.Map.{lookup}
 use Rattle.mips_isa.specs.declared.place.Place.{Place}

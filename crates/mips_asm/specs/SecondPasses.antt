@@ -1,4 +1,5 @@
--- `HasLeft` is the invariant of the assembler's second pass: the lines that are left, and the text and data assembled from those before.
+-- `HasLeft` is the invariant of the assembler's second pass: it relates the lines still to assemble, and the text and data assembled so far, to the result for
+-- all lines.
 use Rattle.std.specs.Prelude.{◌≡◌, ℕ, ◌≤◌, List, [], ◌++◌, length, Option, None, Some, Result, Ok, Err}
 use Rattle.mips_isa.specs.declared.place.Place.{Place}
 use Rattle.mips_isa.specs.declared.place.Segment.{Segment}

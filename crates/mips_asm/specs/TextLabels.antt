@@ -1,4 +1,4 @@
--- `text_label` gives the address of the instruction that a label names. A label of data, or of the end of the text, has none.
+-- `text_label` gives the address of the instruction that a label names. A label of data, or of the end of the text segment, has none.
 use Rattle.std.specs.Prelude.{◌≡◌, refl, ℕ, ◌+◌, ◌-◌, ◌*◌, ◌%◌, ◌==◌, ◌&&◌, nat_le, nat_lt, Bool, true, false, pos, if◌then◌else◌, List, [], ◌∷◌, length, codes, bytes_eq, Option, Some, None}
 use Rattle.mips_isa.specs.declared.address_map.TheConstants.{TEXT_START}
 use Rattle.mips_isa.specs.declared.place.Place.{Place}

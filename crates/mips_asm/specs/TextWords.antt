@@ -1,4 +1,4 @@
--- `words_in` is the number of words of text that lines are assembled to, and `words_before` that of the lines before a label.
+-- `words_in` is the number of machine words in the text segment that lines are assembled to, and `words_before` that of the lines before a label.
 use Rattle.std.specs.Prelude.{ℕ, ◌+◌, if◌then◌else◌, List, [], ◌∷◌}
 use Rattle.mips_isa.specs.Lines.{Name, Line}
 use Rattle.mips_isa.specs.Assembly.{Need, Nothing, Words, Item, Switch, Padding, need, has}

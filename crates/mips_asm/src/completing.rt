@@ -1,4 +1,4 @@
-//! The lines that are added where `main` is defined, and `__start` is not.
+//! The assembler adds a `__start`, which calls `main` and exits, to lines that define `main` but no `__start`.
 
 ghost use Rattle.std.specs.Prelude.{◌≡◌, ◌&&◌, [], not, is_some, if◌then◌else◌, IfOk, pos};
 ghost use Rattle.mips_isa.specs.Lines.{line_of, lines_of, statement_of, AreInRange, Instruction, Plain};

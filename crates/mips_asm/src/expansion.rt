@@ -1,4 +1,4 @@
-//! The expansion of instructions and pseudoinstructions.
+//! Expanding each instruction or pseudoinstruction of assembly into one or two machine instructions.
 
 ghost use Rattle.std.specs.Prelude.{◌≡◌, ◌≤◌, ◌/◌, [], ◌∷◌};
 ghost use Rattle.mips_isa.specs.declared.instr.Instr.TheVariants as instr;

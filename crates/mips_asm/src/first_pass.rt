@@ -1,4 +1,4 @@
-//! The first pass: it places the labels of lines.
+//! The first pass of the assembler: it computes the segment and position of each label.
 
 ghost use Rattle.std.specs.Prelude.{◌≡◌, ◌++◌, ◌∷◌, [], List, OnOk};
 ghost use Rattle.mips_isa.specs.Lines.{statement_of, line_of, lines_of, IsInRange, AreInRange};

@@ -1,4 +1,4 @@
-//! The bytes of items of data.
+//! Writing data items, such as the operands of `.word` and `.byte` and strings, as bytes with their alignment.
 
 ghost use Rattle.std.specs.Prelude.{◌≡◌, ◌≤◌, ◌+◌, ◌-◌, ◌*◌, ◌%◌, ◌^◌, [], ◌∷◌, ◌++◌, List, length, map, flat_map, replicate, Option, Some, None, OnOk, IfErr};
 ghost use Rattle.std.specs.List.{AllByRecursion};

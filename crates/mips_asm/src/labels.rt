@@ -1,4 +1,4 @@
-//! The labels of lines and their places.
+//! The labels of lines of assembly, with the segment and address of each.
 
 ghost use Rattle.std.specs.Prelude.{◌≡◌};
 ghost use Rattle.mips_isa.specs.Lines.{lines_of, AreInRange};

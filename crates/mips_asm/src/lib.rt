@@ -1,6 +1,6 @@
-//! The assembler.
+//! The assembler for MIPS assembly: from lines to an image (text, data and entry address).
 //!
-//! Input: lines of assembly. Output: an image, or the first fault. It implements `Assembly.antt` of `mips_isa`.
+//! Input: lines of assembly. Output: an image, or the first error. This crate implements `Assembly.antt` of `mips_isa`.
 #![tactic(auto)]
 
 mod completing;

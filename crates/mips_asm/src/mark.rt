@@ -1,4 +1,4 @@
-//! Marks: the positions of labels, before the addresses of data are known.
+//! Marks: the preliminary positions of labels in the first pass, an address in text or the index of a data item, whose address is not yet known.
 
 ghost use Rattle.std.specs.Prelude.{◌≡◌, ◌≤◌};
 ghost use Rattle.mips_asm.specs.Passes.{mark_in, marks_text};

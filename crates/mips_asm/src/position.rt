@@ -1,4 +1,4 @@
-//! Positions in the segments: how many words and bytes are filled, and the needs of statements.
+//! The position of the assembler: how many words of text and bytes of data are filled, and how much more each statement needs.
 
 ghost use Rattle.std.specs.Prelude.{◌≡◌, ◌+◌, ◌-◌, ◌*◌, ◌/◌, ◌<◌, ◌≤◌, MatchOption, true, false};
 ghost use Rattle.mips_isa.specs.Lines.{statement_of, instruction_of, data_item_of, directive_of, IsInRange, IsDirectiveInRange};

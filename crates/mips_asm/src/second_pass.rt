@@ -1,4 +1,4 @@
-//! The second pass: it assembles lines.
+//! The second pass of the assembler: it translates each line into machine words and data bytes.
 
 ghost use Rattle.std.specs.Prelude.{◌≡◌, ◌≤◌, ◌<◌, ◌+◌, ◌*◌, [], ◌∷◌, ◌++◌, List, length, map, replicate, Option, Some, None, OnOk, IfOk, IfErr};
 ghost use Rattle.std.specs.List.{AllByRecursion};

@@ -1,4 +1,4 @@
-//! The table of labels: each label with its mark.
+//! The symbol table of the assembler: each label with its position.
 
 ghost use Rattle.std.specs.Prelude.{◌≡◌, bytes_eq};
 ghost use Rattle.std.specs.Map.{lookup};

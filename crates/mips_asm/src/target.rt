@@ -1,4 +1,4 @@
-//! The target of an instruction: the place of its label, and whether the instruction can reach that place.
+//! The target of a branch, jump or `la`: the place of its label, and whether the instruction can reach that place.
 
 ghost use Rattle.std.specs.Prelude.{◌≡◌, ◌+◌, ◌≤◌, Some};
 ghost use Rattle.mips_isa.specs.Lines.{instruction_of};

@@ -1,4 +1,4 @@
-//! The addresses of the words of the text that labels name.
+//! The addresses of the instructions that labels in the text segment name.
 
 ghost use Rattle.std.specs.Prelude.{◌≡◌, ◌-◌, ◌^◌, ◌<◌, nat_lt, List, ℕ, Some, None, length, bytes_eq, if◌then◌else◌, IfOk};
 ghost use Rattle.mips_isa.specs.Lines.{lines_of, AreInRange};

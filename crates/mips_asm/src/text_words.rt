@@ -1,4 +1,4 @@
-//! The number of words of text that lines are assembled to.
+//! The number of machine words in the text segment that lines of assembly are assembled to.
 
 ghost use Rattle.std.specs.Prelude.{◌≡◌, ◌≤◌};
 ghost use Rattle.mips_isa.specs.Lines.{statement_of, lines_of};

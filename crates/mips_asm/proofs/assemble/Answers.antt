@@ -1,5 +1,5 @@
--- `assemble` gives all lines to the first pass in one part, and then all lines to the second pass in one part.
--- Its result is that of `SecondPass::finish`, which satisfies `Assembles` for all these lines.
+-- `assemble` passes all lines to the first pass at once, and then to the second pass at once. Its result is that of `SecondPass::finish`, which is the image or
+-- error that the definition `Assembles` demands.
 use Rattle.std.proofs.Common.{[], append-nil, sym, subst}
 use Rattle.mips_isa.specs.Lines.{lines_of}
 use Rattle.mips_asm.specs.SecondPasses.{HasLeft}

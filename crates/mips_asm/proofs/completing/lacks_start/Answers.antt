@@ -1,4 +1,5 @@
--- `lacks_start` returns whether `__start` is no label of the lines and `main` is one in text, by the segments that `segment_of` returns.
+-- `lacks_start` returns whether the assembler must add a `__start`: no line has this label, and `main` is a label in the text segment. It looks up the segment
+-- of each label with `segment_of`.
 use Rattle.std.proofs.Common.{Some, None, sym, ◌∙◌, refl}
 use Rattle.mips_isa.specs.declared.place.Segment.TheVariants.{Text}
 use Rattle.mips_isa.specs.Lines.{lines_of}

@@ -1,4 +1,4 @@
--- The loop of `segment_of` has passed only lines without the label, so the answer for the lines that are left is that for all lines.
+-- The loop of `segment_of` has passed only lines without the label that it searches for, so the answer for the remaining lines is the answer for all lines.
 use Rattle.std.proofs.Common.{◌≡◌, drop}
 use Rattle.mips_isa.specs.declared.place.Segment.TheVariants.{Text}
 use Rattle.mips_isa.specs.Lines.{lines_of}

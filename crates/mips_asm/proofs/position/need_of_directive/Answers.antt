@@ -1,4 +1,4 @@
--- `need_of_directive` returns a need that is small (`IsSmall`): the unit of `.align` is 2 to an exponent of at most 12.
+-- `need_of_directive` returns an alignment of at most 4,096 bytes for `.align` (`IsSmall`), because it is 2 to an exponent of at most 12.
 use Rattle.std.proofs.Common.{rules, ◌≤◌}
 use Rattle.mips_asm.proofs.SmallUnits.{shifted_unit}
 use Rattle.mips_asm.proofs.position.need_of_directive.Goals as goal

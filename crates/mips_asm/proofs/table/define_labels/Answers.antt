@@ -1,4 +1,4 @@
--- `define_labels` puts the labels of a line into the table one by one; a label that the table already has is a fault.
+-- `define_labels` adds the labels of a line to the symbol table one by one; a label that the table already has is an error.
 use Rattle.std.proofs.Common.{◌≡◌, ◌+◌, ◌∷◌, [], ◌++◌, drop, ap, sym, ◌∙◌, refl, subst, is_some, None, true, false, List}
 use Rattle.std.proofs.lemmas.List.{drop_all}
 use Rattle.mips_isa.specs.Lines.{Name}

@@ -1,4 +1,4 @@
--- `define_labels` has so far put the labels that its loop has passed into the table (`Defining`).
+-- In the loop of `define_labels`, the symbol table has the labels that the loop has passed (`Defining`).
 use Rattle.std.proofs.Common.{drop}
 use Rattle.mips_asm.specs.Passes.{shown}
 use Rattle.mips_asm.proofs.LabelTables.{Defining}

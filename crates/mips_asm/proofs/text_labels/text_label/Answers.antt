@@ -1,4 +1,4 @@
--- `text_label` returns the address of the word that a name is the label of, by the segment of the label and the words of text before it.
+-- `text_label` returns the address of the machine word that a label names, from the label's segment and the number of words of text before it.
 use Rattle.std.proofs.Common.{◌≡◌, sym, ◌∙◌, ap, ℕ, ◌+◌, ◌*◌, List, Option, Some, None, refl, arith}
 use Rattle.mips_isa.specs.declared.address_map.TheConstants.{TEXT_START}
 use Rattle.mips_isa.specs.declared.place.Segment.{Segment}

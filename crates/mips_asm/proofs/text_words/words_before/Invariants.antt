@@ -1,4 +1,4 @@
--- The count of `words_before` so far, with the words before the label in the lines that are left, is the number of words before it in all lines.
+-- In the loop of `words_before`, the count so far plus the words before the label in the remaining lines is the number of words before it in all lines.
 use Rattle.std.proofs.Common.{◌≡◌, ◌+◌, ◌≤◌, drop}
 use Rattle.mips_isa.specs.Lines.{lines_of}
 use Rattle.mips_asm.specs.TextWords.{words_in, words_before}

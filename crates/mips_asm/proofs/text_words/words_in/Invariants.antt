@@ -1,4 +1,4 @@
--- The count of `words_in` so far, with the words of the lines that are left, is the number of words of all lines.
+-- In the loop of `words_in`, the count so far plus the words of the remaining lines is the number of words of all lines.
 use Rattle.std.proofs.Common.{◌≡◌, ◌+◌, drop}
 use Rattle.mips_isa.specs.Lines.{lines_of}
 use Rattle.mips_asm.specs.TextWords.{words_in}

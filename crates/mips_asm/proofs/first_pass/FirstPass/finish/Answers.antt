@@ -1,4 +1,4 @@
--- `FirstPass::finish` takes the lines that `added_lines` returns, and begins the second pass with the labels of all lines taken.
+-- `FirstPass::finish` adds the lines that define `__start`, if they are missing, and begins the second pass with the labels of all lines.
 use Rattle.std.proofs.Common.{◌≡◌, ◌++◌, [], List, ap, sym, ◌∙◌, subst, rules}
 use Rattle.mips_isa.specs.Lines.{Line, lines_of, AreInRange}
 use Rattle.mips_isa.specs.Assembly.{start_position, first_pass, place_of}

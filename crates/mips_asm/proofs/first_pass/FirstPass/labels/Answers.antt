@@ -1,4 +1,5 @@
--- `FirstPass::labels` returns the labels of the lines that were taken, at the places that `place_of` defines, or their first fault.
+-- `FirstPass::labels` returns the labels of the lines that were taken, with the segments and addresses that `place_of` defines, or the first error of these
+-- lines.
 use Rattle.std.proofs.Common.{◌≡◌, ◌+◌, ◌++◌, ◌∷◌, [], ap, ◌∙◌, refl, arith, Some, None, Option}
 use Rattle.mips_isa.specs.declared.asm_fault.AsmFault.{AsmFault}
 use Rattle.mips_isa.specs.Assembly.{Position}

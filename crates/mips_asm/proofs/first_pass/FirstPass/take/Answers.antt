@@ -1,4 +1,4 @@
--- `FirstPass::take` takes lines: each step of its loop takes one, and after the last step all are taken (`HasTaken`).
+-- `FirstPass::take` keeps the invariant of the first pass (`HasTaken`) for all the lines that it is given, because each iteration of its loop takes one line.
 use Rattle.std.proofs.Common.{◌≡◌, ◌+◌, ◌∷◌, [], drop, List, subst}
 use Rattle.std.proofs.lemmas.List.{drop_all}
 use Rattle.mips_isa.specs.declared.line.Line as declared_line

@@ -1,4 +1,4 @@
--- `FirstPass::take` has so far taken the lines that its loop has passed (`Taking`).
+-- In the loop of `FirstPass::take`, the first pass knows the labels and positions of all lines that the loop has passed, or their first error (`Taking`).
 use Rattle.std.proofs.Common.{drop, List}
 use Rattle.mips_isa.specs.Lines.{Line, lines_of}
 use Rattle.mips_asm.specs.FirstPasses.{HasTaken}

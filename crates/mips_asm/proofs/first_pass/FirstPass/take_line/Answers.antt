@@ -1,4 +1,5 @@
--- `FirstPass::take_line` takes one line (`HasTaken`), in three cases: the line has no fault, it has one, or an earlier line has one.
+-- `FirstPass::take_line` keeps the invariant of the first pass (`HasTaken`) for one more line, in three cases: the line has no error, it has one, or an earlier
+-- line has one.
 use Rattle.std.proofs.Common.{◌≡◌, ◌∙◌, ◌+◌, ◌++◌, length, ap, sym, refl, subst, None, Err, rules}
 use Rattle.mips_isa.specs.declared.asm_fault.AsmError.{AsmError}
 use Rattle.mips_isa.specs.Lines.{line_of}

@@ -1,4 +1,4 @@
--- `Assembly::finish` returns the image or the first fault when no line is left (`IsLeft`).
+-- `Assembly::finish`, called after the last line, returns the image that the definition gives, or its first error.
 use Rattle.std.proofs.Common.{◌≡◌, [], refl, Some, None, Option}
 use Rattle.mips_isa.specs.declared.asm_fault.AsmFault.{AsmFault}
 use Rattle.mips_isa.specs.Assembly.{start_name}

@@ -1,4 +1,4 @@
--- `Assembly::take` assembles lines: each step of its loop assembles one, and the lines after it are left (`IsLeft`).
+-- `Assembly::take` assembles the lines that it is given and leaves the lines after them (`IsLeft`), because each iteration of its loop assembles one line.
 use Rattle.std.proofs.Common.{◌≡◌, ◌+◌, ◌∷◌, [], ◌++◌, drop, List, subst}
 use Rattle.std.proofs.lemmas.List.{drop_all}
 use Rattle.mips_isa.specs.declared.line.Line as declared_line

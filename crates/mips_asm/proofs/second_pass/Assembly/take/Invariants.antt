@@ -1,4 +1,4 @@
--- The lines that the loop of `Assembly::take` has not passed are left (`IsLeft`).
+-- In the loop of `Assembly::take`, the text and data so far, with the lines that the loop has still to assemble, lead to the result of all lines (`IsLeft`).
 use Rattle.std.proofs.Common.{◌++◌, drop, List}
 use Rattle.mips_isa.specs.Lines.{Line, lines_of}
 use Rattle.mips_asm.specs.Places.{places_of}

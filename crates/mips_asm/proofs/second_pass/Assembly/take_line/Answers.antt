@@ -1,4 +1,4 @@
--- `Assembly::take_line` assembles one line, in three cases: the line has no fault, it has one, or an earlier line has one.
+-- `Assembly::take_line` assembles one line, in three cases: the line has no error, it has one, or an earlier line has one.
 use Rattle.std.proofs.Common.{◌≡◌, ◌+◌, ◌∙◌, length, sym, refl, subst, rules}
 use Rattle.mips_isa.specs.declared.asm_fault.AsmError.{AsmError}
 use Rattle.mips_isa.specs.Lines.{line_of}

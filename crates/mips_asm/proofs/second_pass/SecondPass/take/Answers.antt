@@ -1,4 +1,4 @@
--- `SecondPass::take` assembles the lines that it is given; the lines to add are left after all others (`HasLeft`).
+-- `SecondPass::take` assembles the lines that it is given; the lines that define a missing `__start` stay to be assembled after all others (`HasLeft`).
 use Rattle.std.proofs.Common.{◌++◌, List, append_assoc, subst}
 use Rattle.mips_isa.specs.Lines.{Line, lines_of}
 use Rattle.mips_asm.specs.Places.{places_of}

@@ -1,4 +1,4 @@
--- `TextEnd::find` returns the end of the text of lines: the address after their words, or 12 bytes later if a start is added.
+-- `TextEnd::find` returns the end of the text segment: the address after the words of all lines, or 12 bytes later if the assembler adds `__start`.
 use Rattle.std.proofs.Common.{sym, ◌∙◌, ap, ℕ, ◌+◌, ◌*◌, refl, arith}
 use Rattle.mips_isa.specs.declared.address_map.TheConstants.{TEXT_START}
 use Rattle.mips_isa.specs.Lines.{lines_of}

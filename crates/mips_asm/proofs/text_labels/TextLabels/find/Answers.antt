@@ -1,4 +1,4 @@
--- `TextLabels::find` returns the labels of lines that have an image. Such lines have no fault, so the arm of a fault is not reached.
+-- `TextLabels::find` returns the labels of lines that can be assembled. Such lines have no error, so the branch for an error is not reached.
 use Rattle.std.proofs.Common.{◌≡◌, ◌∙◌, ap, sym, [], Option, Some, None, Err, subst}
 use Rattle.mips_isa.specs.declared.asm_fault.AsmError.{AsmError}
 use Rattle.mips_isa.specs.declared.place.Place.{Place}
