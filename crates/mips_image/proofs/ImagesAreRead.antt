@@ -1,4 +1,4 @@
--- The bytes of an image in a version are read as that image in that version.
+-- If an image (an executable program) is written as bytes in version 1 or 2, reading these bytes gives the same image and version.
 use Rattle.std.proofs.Common.{◌≡◌, ℕ, inl, inr, suc, ◌+◌, ◌*◌, ◌<◌, true, false, List, [], ◌∷◌, ◌++◌, length, take, drop, flat_map, None, refl, sym, ◌∙◌, arith}
 use Rattle.std.specs.Prelude.{nat_lt, bytes_eq}
 use Rattle.std.specs.List.{AllByRecursion}

@@ -1,4 +1,5 @@
--- The result of reading, as the contract of `read_image` states it.
+-- Unless memory runs out, `read_image` returns an image (an executable program) and its version if and only if the bytes are those of this image in this
+-- version.
 use Rattle.std.proofs.Common.{◌≡◌, ℕ, List, Some, None, sym, ◌∙◌, ap, subst}
 use Rattle.std.specs.Prelude.{Option, Result, Ok, Err, IfOk}
 use Rattle.mips_isa.specs.ImageBounds.{ImageParts, IsImage}

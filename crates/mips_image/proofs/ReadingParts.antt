@@ -1,4 +1,4 @@
--- The parts of an image are read from bytes without a fault.
+-- Bytes that pass the tests of the reader have as many words of text and bytes of data as the header says, and these sizes are those of a valid image.
 use Rattle.std.proofs.Common.{◌≡◌, ℕ, suc, zero, ◌+◌, ◌-◌, ◌*◌, ◌%◌, ◌<◌, ◌≤◌, true, List, [], ◌∷◌, ◌++◌, length, drop, refl, ◌∙◌, ap, append_assoc, arith}
 use Rattle.mips_isa.specs.declared.address_map.TheConstants.{TEXT_START}
 use Rattle.mips_isa.specs.ImageBounds.{ImageParts, IsImage}

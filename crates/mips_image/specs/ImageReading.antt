@@ -1,4 +1,4 @@
--- `parts_of` reads an image from the bytes of a file, and `first_fault` gives the first fault of bytes that are no image.
+-- `parts_of` reads an image (an executable program) from the bytes of a file, and `first_fault` gives the first error in bytes that are not an image.
 use Rattle.std.specs.Prelude.{◌≡◌, refl, ℕ, zero, suc, ◌+◌, ◌*◌, ◌%◌, ◌&&◌, ◌||◌, ◌==◌, not, nat_lt, nat_le, bytes_eq, if◌then◌else◌, Bool, true, List, [], ◌∷◌, length, take, drop, Option, Some, None, Result, Ok, Err}
 use Rattle.byteorder.specs.Endian.{little_number}
 use Rattle.mips_isa.specs.declared.address_map.TheConstants.{TEXT_START, MOST_TEXT_WORDS, MOST_DATA_BYTES}

@@ -1,4 +1,4 @@
-//! The errors of reading an image: why bytes are no image.
+//! The errors of reading an image (an executable program) from bytes.
 
 ghost use Rattle.std.specs.Prelude.{◌≡◌};
 ghost use Rattle.mips_image.specs.declared.image_error.ImageError.TheVariants.{Memory};

@@ -1,7 +1,7 @@
-//! Images as bytes.
+//! The file format of images (executable programs): writing an image as bytes, and reading it from bytes.
 //!
-//! Input: bytes, or an image and its version. Output: the other of the two, or the first fault of the bytes. It
-//! implements `specs/ImageBytes.antt`.
+//! Input: bytes, or an image and its version. Output: the image and version of the bytes or their first error, or the bytes of the image. This crate implements
+//! `specs/ImageBytes.antt`.
 #![tactic(auto)]
 
 mod image_error;

@@ -1,4 +1,4 @@
-//! Reading an image and its version from bytes.
+//! Reading an image (an executable program) and its version from bytes, with a test for each error.
 
 ghost use Rattle.std.specs.Prelude.{◌≡◌, ◌+◌, ◌*◌, ◌≤◌, ℕ, length, None, Some, MatchResult, IfOk, IsNone, take, drop, bytes_eq, true};
 ghost use Rattle.mips_isa.specs.ImageBounds.{ImageParts, IsImage};

@@ -1,4 +1,4 @@
-//! An image as it is stored: its version, and the numbers of the format.
+//! An image (an executable program) with its version, and the constants of the file format.
 
 use mips_isa::Image;
 

@@ -1,4 +1,4 @@
-//! Writing an image as bytes.
+//! Writing an image (an executable program) as bytes.
 
 ghost use Rattle.std.specs.Prelude.{◌≡◌, ◌++◌, IfOk, OnOk, flat_map, length, ◌<◌, ◌^◌};
 ghost use Rattle.mips_image.specs.ImageBytes.{word_bytes, image_bytes, IsVersion};
