@@ -1,4 +1,4 @@
--- A word that is decoded is the word of its instruction, which is in range.
+-- If a 32-bit word is decoded to an instruction, the instruction's fields are in range, and encoding it gives the word back.
 use Rattle.std.specs.Prelude.{◌≡◌, ℕ, ◌/◌, ◌%◌, ◌<◌, ◌==◌, ◌&&◌, if◌then◌else◌, Bool, true, false, ◌⊎◌, pos, Option, Some, None, refl}
 use Rattle.std.proofs.Common.{sym, subst, inl, inr, arith}
 use Rattle.std.proofs.lemmas.Bool.{eqb-true}

@@ -1,4 +1,5 @@
--- The result of `decode`, as its contract states it.
+-- `decode` returns an instruction if and only if the word is the encoding of this instruction, with its fields in range. This states the result as the
+-- function's contract does.
 use Rattle.std.proofs.Common.{◌≡◌, ℕ, ◌<◌, Some, None, sym, ◌∙◌, ap}
 use Rattle.std.specs.Prelude.{Option, IfSome, IfNone}
 use Rattle.mips_isa.specs.declared.instr.Instr.{Instr}

@@ -1,4 +1,4 @@
--- Fields that do not overlap are joined by `|` as by a sum.
+-- If the bit fields of an instruction word do not overlap, joining them by bitwise or gives the same word as adding them.
 use Rattle.std.proofs.Common.{◌≡◌, ℕ, ◌+◌, ◌*◌, ◌%◌, ◌^◌, ◌<◌, arith}
 use Rattle.std.specs.Prelude.{bit_or}
 use Rattle.std.proofs.lemmas.Nat.{or_shifted}

@@ -1,4 +1,4 @@
--- The output only grows: everything that a run wrote stays.
+-- A run of the machine only appends to its output: the output before is a prefix of the output after.
 use Rattle.std.specs.Prelude.{◌≡◌, ℕ, zero, suc, Bool, true, false, if◌then◌else◌, List, [], ◌∷◌, ◌++◌, Option, Some, None, refl, ◌%◌, ◌==◌, ◌||◌, nat_le, not, ◌+◌, ◌-◌}
 use Rattle.std.specs.Fmt.{signed_decimal}
 use Rattle.std.proofs.Common.{ap, sym, ◌∙◌, append_assoc, append-nil}

@@ -1,4 +1,4 @@
--- A run of m + n instructions is one of m, and then one of n.
+-- A run of m + n instructions is a run of m instructions, continued by a run of n instructions.
 use Rattle.std.specs.Prelude.{◌≡◌, ℕ, zero, suc, ◌+◌, List, refl}
 use Rattle.std.proofs.Common.{ap, arith, ◌∙◌}
 use Rattle.mips_isa.specs.Bytes.{Segments}

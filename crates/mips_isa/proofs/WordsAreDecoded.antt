@@ -1,4 +1,4 @@
--- The word of an instruction in range is decoded to that instruction.
+-- If the fields of an instruction are in range, its encoding as a 32-bit word is decoded to this instruction.
 use Rattle.std.specs.Prelude.{◌≡◌, ℕ, ◌+◌, ◌-◌, ◌*◌, ◌/◌, ◌%◌, ◌<◌, ℤ, pos, negsuc, Option, Some, None, refl}
 use Rattle.std.proofs.Common.{◌∙◌, ap, arith}
 use Rattle.mips_isa.specs.declared.instr.Instr.{Instr}

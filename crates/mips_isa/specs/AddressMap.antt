@@ -1,5 +1,5 @@
--- The address map of a machine (SPIM): the addresses at which text, data and heap begin and the stack ends, and the most words of text and bytes of data of
--- an image.
+-- The address map of a machine (SPIM): the addresses at which text, data and heap begin and the stack ends, and the maximal numbers of text words and data
+-- bytes of an image (an executable program).
 use Rattle.std.specs.Prelude.{◌≡◌, refl, ◌^◌}
 use Rattle.mips_isa.specs.declared.address_map.TheConstants.{TEXT_START, DATA_START, HEAP_START, STACK_END, MOST_TEXT_WORDS, MOST_DATA_BYTES}
 

@@ -1,5 +1,5 @@
 -- The definition of the assembler: `place_of` gives the addresses of labels, `image_of` the words and bytes that lines are assembled to, and `fault_of` the
--- first line with a fault.
+-- first line with an error.
 use Rattle.std.specs.Prelude.{◌≡◌, refl, ℕ, suc, ◌+◌, ◌-◌, ◌*◌, ◌/◌, ◌%◌, ◌^◌, ◌&&◌, ◌||◌, not, nat_le, nat_lt, ℤ, pos, negsuc, Bool, true, false, if◌then◌else◌, List, [], ◌∷◌, ◌++◌, length, map, flat_map, replicate, codes, bytes_eq, Option, Some, None, is_some, Result, Ok, Err}
 use Rattle.std.specs.List.{list_any}
 use Rattle.mips_isa.specs.declared.instr.Instr.{Instr}

@@ -1,4 +1,4 @@
--- The memory of a machine, as a function from addresses to bytes, and the segments in which a program may load and store. Numbers are little endian.
+-- The memory of a machine is defined as a function from addresses to bytes, with the segments in which a program may load and store. Numbers are little endian.
 use Rattle.std.specs.Prelude.{ℕ, ◌+◌, ◌-◌, ◌*◌, ◌/◌, ◌%◌, Bool, ◌&&◌, ◌||◌, ◌==◌, nat_le, nat_lt, if◌then◌else◌, length, get_or}
 use Rattle.mips_isa.specs.declared.address_map.TheConstants.{TEXT_START, DATA_START, HEAP_START, STACK_END}
 use Rattle.mips_isa.specs.ImageBounds.{ImageParts}

@@ -1,5 +1,5 @@
--- `decoded` gives the instruction of a word, by cases on its fields. `Words.antt` has the table; the contracts of `decode` say that this is just the
--- instruction whose word it is.
+-- `decoded` gives the instruction that a 32-bit word encodes, by cases on its fields. `Words.antt` has the encoding table; the contract of `decode` says that
+-- the result is exactly the instruction with this encoding.
 use Rattle.std.specs.Prelude.{ℕ, ◌-◌, ◌/◌, ◌%◌, ◌^◌, ℤ, pos, negsuc, Bool, ◌&&◌, ◌==◌, nat_lt, if◌then◌else◌, Option, Some, None}
 use Rattle.mips_isa.specs.declared.instr.Instr.{Instr}
 use Rattle.mips_isa.specs.declared.instr.Instr.TheVariants.{Three, Shift, ShiftReg, Jr, Jalr, Syscall, MoveFrom, MoveTo, MulDiv, Imm, Lui, BranchTwo, BranchOne, Jump, Mem}

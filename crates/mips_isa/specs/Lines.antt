@@ -1,4 +1,4 @@
--- `Line` is a line of assembly, as contracts see it: its labels, and its statement, which is an instruction, an item of data, a directive, or nothing.
+-- `Line` is a line of assembly, as contracts see it: its labels, and its statement, which is an instruction, a data item, a directive, or nothing.
 use Rattle.std.specs.Prelude.{ℕ, ◌^◌, ℤ, pos, negsuc, ◌<◌, ◌≤◌, List, map}
 use Rattle.std.specs.List.{AllByRecursion}
 use Rattle.mips_isa.specs.declared.address_map.TheConstants.{MOST_DATA_BYTES}

@@ -1,5 +1,5 @@
--- `step` defines one instruction of the integer R2000 on the machine's registers and memory. Registers and bytes are functions of their numbers and
--- addresses; a word of either has 32 bits.
+-- `step` defines the execution of one instruction of the integer R2000 (a MIPS processor) on the machine's registers and memory. Registers and bytes are
+-- functions of their numbers and addresses; a word of either has 32 bits.
 use Rattle.std.specs.Prelude.{◌≡◌, refl, ℕ, ◌+◌, ◌-◌, ◌*◌, ◌/◌, ◌%◌, ◌^◌, ℤ, negsuc, Bool, ◌&&◌, ◌||◌, ◌==◌, not, nat_le, nat_lt, if◌then◌else◌, List, get_or, Option, Some, None}
 use Rattle.std.specs.Int.Bits.{bit_and, bit_or, bit_xor}
 use Rattle.mips_isa.specs.declared.instr.Instr.{Instr}

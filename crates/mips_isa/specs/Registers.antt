@@ -1,4 +1,4 @@
--- The general registers (MIPS): the number of each, by its name.
+-- The general registers of MIPS: the number of each, by its name.
 use Rattle.std.specs.Prelude.{◌≡◌, refl}
 use Rattle.mips_isa.specs.declared.register.TheConstants.{ZERO, AT, V0, V1, A0, A1, A2, A3, T0, T1, T2, T3, T4, T5, T6, T7, S0, S1, S2, S3, S4, S5, S6, S7, T8, T9, K0, K1, GP, SP, FP, RA}
 

@@ -1,4 +1,5 @@
--- `run` executes n instructions of a machine, or fewer if it exits or traps, and gives the outcome. `run_image` starts with an image that was loaded.
+-- `run` executes n instructions of a machine, or fewer if it exits or traps, and gives the outcome. `run_image` starts with a loaded image (an executable
+-- program).
 use Rattle.std.specs.Prelude.{ℕ, zero, suc, ◌==◌, false, if◌then◌else◌, List, []}
 use Rattle.mips_isa.specs.declared.register.TheConstants.{S6, S7, GP, SP}
 use Rattle.mips_isa.specs.ImageBounds.{ImageParts}

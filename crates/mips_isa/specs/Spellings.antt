@@ -1,4 +1,4 @@
--- `spelled` gives the bytes of a label's name, from its representation: a short name in an array, or a long one in a vector.
+-- `spelled` gives the bytes of a label's name, from its representation in the code: a short name in an array, or a long one in a vector.
 use Rattle.std.specs.Prelude.{ℕ, ◌≤◌, List, take}
 use Rattle.mips_isa.specs.declared.label.Spelling as declared
 use Rattle.mips_isa.specs.declared.label.Spelling.TheVariants.{Short, Long}

@@ -1,4 +1,4 @@
--- The system calls (SPIM): the number of each, by its name.
+-- The system calls of SPIM: the number of each, by its name.
 use Rattle.std.specs.Prelude.{◌≡◌, refl}
 use Rattle.mips_isa.specs.declared.system_call.TheConstants.{PRINT_INT, PRINT_STRING, READ_INT, READ_STRING, SBRK, EXIT, PRINT_CHAR, READ_CHAR, EXIT2}
 

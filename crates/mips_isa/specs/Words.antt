@@ -1,5 +1,5 @@
--- `word_of` encodes an instruction as a word: the table of the integer R2000 (MIPS I). A word has the fields op (bits 31 to 26), rs (25 to 21), rt (20 to
--- 16), rd (15 to 11), sh (10 to 6), fn (5 to 0), imm (15 to 0) and index (25 to 0). A field that a row does not name is 0.
+-- `word_of` encodes an instruction as a 32-bit word, by the table of the integer R2000 (MIPS I). A word has the fields op (bits 31 to 26), rs (25 to 21), rt
+-- (20 to 16), rd (15 to 11), sh (10 to 6), fn (5 to 0), imm (15 to 0) and index (25 to 0). A field that a row does not name is 0.
 use Rattle.std.specs.Prelude.{◌≡◌, ℕ, ◌+◌, ◌-◌, ◌*◌, ◌%◌, ◌^◌, ◌<◌, ℤ, pos, negsuc, refl}
 use Rattle.mips_isa.specs.declared.instr.Instr.{Instr}
 use Rattle.mips_isa.specs.declared.instr.Instr.TheVariants.{Three, Shift, ShiftReg, Jr, Jalr, Syscall, MoveFrom, MoveTo, MulDiv, Imm, Lui, BranchTwo, BranchOne, Jump, Mem}

@@ -1,4 +1,4 @@
-//! The address map of a machine: the addresses of its segments, and the most text and data that an image may have.
+//! The address map of a machine: the addresses of its segments, and the maximal sizes of the text and data of an image (an executable program).
 
 /// The address of the first word of the text.
 pub const TEXT_START: u32 = 0x0040_0000;

@@ -1,4 +1,4 @@
-//! The errors of assembly: why lines cannot be read or assembled.
+//! The errors of assembly, with the line: why lines cannot be parsed or assembled.
 
 ghost use Rattle.std.specs.Prelude.{◌≡◌};
 ghost use Rattle.mips_isa.specs.declared.asm_fault.AsmError.TheVariants.{Memory};

@@ -1,4 +1,4 @@
-//! Decoding instruction words.
+//! Decoding 32-bit machine words into instructions.
 
 ghost use Rattle.std.specs.Prelude.{◌≡◌, ◌<◌, ◌==◌, IfSome, IfNone, Some};
 ghost use Rattle.mips_isa.specs.declared.instr.Instr.{Instr};

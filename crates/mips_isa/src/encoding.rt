@@ -1,4 +1,4 @@
-//! Encoding instructions as words.
+//! Encoding instructions as 32-bit machine words.
 
 ghost use Rattle.std.specs.Prelude.{◌≡◌, ◌<◌, ◌+◌, ◌*◌, ◌%◌};
 ghost use Rattle.mips_isa.specs.Words.{word_of, InRange, fields, special, half_of, three_number, shift_number, shift_reg_number, from_number, to_number, mul_div_number, imm_number, two_number, one_number, one_rt, jump_number, mem_number};

@@ -1,4 +1,4 @@
-//! The image that a machine loads: text, data and entry.
+//! The image (executable program) that a machine loads: text, data and entry address.
 
 use std::marker::Model;
 

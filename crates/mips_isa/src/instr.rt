@@ -1,4 +1,4 @@
-//! The instructions of the integer R2000, as values.
+//! The instructions of the integer R2000 (a MIPS processor), as an enum type.
 
 use crate::Reg;
 

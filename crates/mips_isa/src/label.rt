@@ -1,4 +1,4 @@
-//! The names of labels.
+//! The names of labels in assembly, stored without allocation if they are short.
 
 ghost use Rattle.std.specs.Prelude.{◌≡◌, ◌≤◌, length, IfOk, IsOk};
 ghost use Rattle.mips_isa.specs.Spellings.{IsSpelled, spelled};

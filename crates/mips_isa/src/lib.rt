@@ -1,7 +1,7 @@
-//! The instructions of the integer R2000, as values and as words, and the lines of assembly.
+//! The instructions of the integer R2000 (a MIPS processor), their encoding as words, and the lines of assembly.
 //!
-//! Input: words, or instructions. Output: the other of the two. It implements `specs/Words.antt`, the one table that the
-//! encoder, the decoder and everything about emitted code reads.
+//! Input: words, or instructions. Output: the instructions or the words for them. This crate implements `specs/Words.antt`, the one table that the encoder, the
+//! decoder and everything about emitted code reads.
 #![tactic(auto)]
 
 mod address_map;

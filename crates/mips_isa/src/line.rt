@@ -1,4 +1,4 @@
-//! Lines of assembly.
+//! Lines of assembly: labels, and an instruction, pseudoinstruction, data item or directive.
 
 ghost use Rattle.std.specs.Prelude.{◌≡◌, IfOk};
 ghost use Rattle.mips_isa.specs.declared.line.TheConstants.{LINE_BYTES};

@@ -1,4 +1,4 @@
-//! The labels of a line.
+//! The labels of a line of assembly, stored without allocation if there is at most one.
 
 ghost use Rattle.std.specs.Prelude.{◌≡◌, ◌++◌, ◌∷◌, [], IfOk};
 ghost use Rattle.mips_isa.specs.Listings.{listed};

@@ -1,4 +1,4 @@
-//! The places of labels of assembly: segment and address.
+//! The places of labels in assembly: segment and address.
 
 /// A segment that assembly fills.
 #[derive(Clone, Copy)]

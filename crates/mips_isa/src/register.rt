@@ -1,4 +1,4 @@
-//! Registers, and their numbers by name.
+//! Registers of the processor, and their numbers by name.
 
 ghost use Rattle.std.specs.Prelude.{◌≡◌, ◌<◌};
 

@@ -1,4 +1,4 @@
-//! Traps: why a machine stops at an instruction.
+//! Traps: the reasons why a machine stops at an instruction, with the address.
 
 /// Why a machine stops at an instruction.
 #[derive(Clone, Copy)]
