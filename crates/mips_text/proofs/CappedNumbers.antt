@@ -1,4 +1,4 @@
--- Numbers that are cut off at a bound, digit by digit.
+-- If the value of a number's digits is capped at a bound after each digit, the result is the same as capping the value of all digits at the end.
 use Rattle.std.proofs.Common.{◌≡◌, ap, sym, ◌∙◌, arith, ℕ, suc, ◌+◌, ◌*◌, ◌<◌, ◌≤◌, ◌⊎◌, inl, inr, List, [], ◌∷◌, length, drop, get_or, drop-cons, min, add-one}
 use Rattle.std.specs.List.{fold}
 use Rattle.mips_text.specs.Words.{digit_value}

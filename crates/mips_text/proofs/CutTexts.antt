@@ -1,4 +1,4 @@
--- The lines of a text are the text, cut at its newlines.
+-- The lines of an assembly text contain no newline, and with the newlines after them they are the text again.
 use Rattle.std.proofs.Common.{◌≡◌, ◌∙◌, ap, refl, arith, ℕ, ◌<◌, Bool, true, false, List, [], ◌∷◌, ◌++◌, length}
 use Rattle.std.specs.Prelude.{not, ◌&&◌, ◌==◌}
 use Rattle.std.specs.List.{AllByRecursion, list_all}

@@ -1,4 +1,4 @@
--- The search for a mnemonic by its name may pass over all mnemonics that begin with another letter.
+-- Searching for a mnemonic by its name only among those with the same first letter finds the same result as searching among all.
 use Rattle.std.proofs.Common.{◌≡◌, ◌≢◌, ap, refl, arith, ℕ, zero, suc, ◌+◌, ◌<◌, ◌≤◌, Bool, true, false, cond, List, [], ◌∷◌, length, map, take, drop, get_or, filter, find, Decides}
 use Rattle.std.specs.Prelude.{◌==◌, ◌||◌, not, bytes_eq, Some, None}
 use Rattle.std.specs.List.{list_all}

@@ -1,4 +1,4 @@
--- The scanning functions return the longest word at each place.
+-- The scanning functions return the longest token at each position of a line of assembly, as the definition demands.
 use Rattle.std.proofs.Common.{◌≡◌, ◌∙◌, sym, ap, refl, arith, ℕ, zero, suc, ◌-◌, ◌≤◌, ◌<◌, ◌⊎◌, ⊎_elim, Bool, false, List, [], ◌∷◌, take, if◌then◌else◌}
 use Rattle.std.specs.Prelude.{Option, Some, None, option_map}
 use Rattle.std.specs.List.{prefix_len}

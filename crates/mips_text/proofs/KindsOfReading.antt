@@ -1,4 +1,4 @@
--- The faults of reading are A1 to A4.
+-- Parsing assembly gives only errors of the kinds A1 to A4: unknown word, wrong operand, number out of range, unknown directive.
 use Rattle.std.proofs.Common.{subst, ℕ, Bool, true, false, List, [], ◌∷◌, ◌++◌, map, if◌then◌else◌, Result, Ok, Err}
 use Rattle.std.specs.Prelude.{Option, Some, None, is_some}
 use Rattle.std.specs.Option.{option_or}

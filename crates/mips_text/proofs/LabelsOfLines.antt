@@ -1,4 +1,4 @@
--- Lemmas on the words of a line: they begin with a label and its colon, or they are the rest of the line.
+-- The parser reads a line of assembly as labels, each with a colon, and then a statement. Each lemma is for one step: another label, or no more.
 use Rattle.std.proofs.Common.{◌≡◌, ◌∙◌, sym, ap, refl, arith, ℕ, zero, suc, ◌+◌, ◌-◌, Bool, true, false, List, [], ◌∷◌, ◌++◌, length, map, take, drop, length-drop, Result, Ok, Err}
 use Rattle.std.proofs.lemmas.List.{drop-map, take_all}
 use Rattle.std.specs.List.{slice_get}

@@ -1,4 +1,4 @@
--- The first line of a text, by where its newline is.
+-- The first line of an assembly text is the bytes before its first newline, or the whole text if there is no newline.
 use Rattle.std.proofs.Common.{◌≡◌, refl, ap, sym, ◌∙◌, arith, ℕ, suc, ◌+◌, ◌-◌, ◌<◌, ◌≤◌, Bool, true, false, List, [], ◌∷◌, length, take, drop}
 use Rattle.std.specs.Prelude.{◌==◌}
 use Rattle.std.specs.List.{prefix_len}

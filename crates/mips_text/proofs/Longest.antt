@@ -1,4 +1,4 @@
--- The longest form at the front of a list, and that the definition finds it.
+-- Lemmas on the longest prefix of a list of bytes that is a token of some form: it is the token that the definition of the scanner finds.
 use Rattle.std.proofs.Common.{◌≡◌, ◌∙◌, sym, ap, arith, ℕ, zero, suc, ◌≤◌, ◌<◌, ◌⊎◌, ⊎_elim, List, [], ◌∷◌, length, take}
 use Rattle.std.specs.Prelude.{Option, Some, None, option_map}
 use Rattle.mips_text.specs.declared.class.Start.{Start}

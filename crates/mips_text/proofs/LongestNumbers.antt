@@ -1,4 +1,4 @@
--- The longest number without a sign at a place.
+-- The scanner finds the longest decimal or hexadecimal number without a sign at the front of a text, or reports that no number stands there.
 use Rattle.std.proofs.Common.{◌≡◌, ◌∙◌, ap, refl, arith, ℕ, zero, suc, ◌+◌, ◌≤◌, ◌<◌, ◌⊎◌, ⊎_elim, Bool, true, false, List, [], ◌∷◌, length, take, nat_lt, if◌then◌else◌}
 use Rattle.std.specs.Prelude.{Option, Some, None, ◌&&◌, ◌==◌}
 use Rattle.std.specs.Option.{option_or}

@@ -1,4 +1,4 @@
--- The longest string at a place is the one up to its closing quote.
+-- The longest string constant at the front of a text is the one up to its closing quote.
 use Rattle.std.proofs.Common.{◌≡◌, ◌∙◌, sym, ap, refl, arith, ℕ, zero, suc, ◌+◌, ◌≤◌, ◌<◌, Bool, true, false, List, [], ◌∷◌, length, take, subst}
 use Rattle.std.specs.Prelude.{Option, Some, None, option_map}
 use Rattle.mips_text.specs.Strings.{closes_string, opens_escape}

@@ -1,4 +1,4 @@
--- The longest name, register and sign at a place.
+-- The longest name or register at a position ends before the first byte that cannot continue it, and a sign is one byte.
 use Rattle.std.proofs.Common.{◌≡◌, ◌∙◌, ap, refl, arith, ℕ, zero, suc, ◌≤◌, ◌<◌, Bool, true, false, List, [], ◌∷◌, length, take, length-take, nat_lt, if◌then◌else◌}
 use Rattle.std.specs.Prelude.{Some, None, ◌&&◌}
 use Rattle.std.specs.List.{list_all, prefix_len}

@@ -1,4 +1,4 @@
--- If an operand is expected and no word is there, the fault is A2.
+-- If a statement of assembly lacks an operand, the error is A2 (wrong operand).
 use Rattle.std.proofs.Common.{◌≡◌, refl, arith, List, [], ◌∷◌, length, map, ◌<◌}
 use Rattle.std.specs.Prelude.{Some}
 use Rattle.mips_isa.specs.declared.asm_fault.AsmKind.TheVariants.{A2}

@@ -1,4 +1,4 @@
--- Each mnemonic and each directive is found by its name.
+-- Searching for the name of a mnemonic or a directive finds that mnemonic or directive.
 use Rattle.std.proofs.Common.{◌≡◌, refl, true, false}
 use Rattle.std.specs.Prelude.{Some}
 use Rattle.mips_isa.specs.declared.instr.ThreeOp.TheVariants.{Add, Addu, Sub, Subu, And, Or, Xor, Nor, Slt, Sltu}

@@ -1,4 +1,4 @@
--- A prefix of `prefix_len` bytes or fewer has only bytes that pass the test, and no longer prefix has.
+-- `prefix_len` is the length of the longest prefix whose bytes all pass a test: each prefix up to this length passes, and no longer one does.
 use Rattle.std.proofs.Common.{◌≡◌, ◌∙◌, ap, refl, arith, ℕ, zero, suc, ◌≤◌, ◌<◌, Bool, true, false, List, [], ◌∷◌, length, take}
 use Rattle.std.specs.Prelude.{◌&&◌}
 use Rattle.std.specs.List.{list_all, prefix_len}

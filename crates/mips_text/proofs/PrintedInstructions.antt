@@ -1,4 +1,4 @@
--- Printed instructions are read as the instructions that they were.
+-- If a valid instruction, whose numbers are in range, is printed as assembly and parsed again, the result is the same instruction.
 use Rattle.std.proofs.Common.{◌≡◌, ◌∙◌, ap, refl, arith, ℕ, suc, ◌<◌, ℤ, pos, negsuc, Bool, true, false, List, [], ◌∷◌, nat_lt, if◌then◌else◌, Ok}
 use Rattle.std.specs.Prelude.{Some, None}
 use Rattle.std.specs.List.{AllByRecursion}

@@ -1,4 +1,4 @@
--- Printed texts are read as the lines that they were.
+-- If valid lines of assembly (`ArePrintable`) are printed and parsed again, the result is the same lines.
 use Rattle.std.proofs.Common.{◌≡◌, ◌∙◌, ap, refl, arith, ℕ, ◌≤◌, ◌<◌, ℤ, pos, negsuc, Bool, true, false, List, [], ◌∷◌, ◌++◌, append_assoc, length, map, flat_map, codes, nat_le, if◌then◌else◌, Ok}
 use Rattle.std.specs.Prelude.{Some, None, ◌&&◌, ◌==◌}
 use Rattle.std.specs.List.{AllByRecursion, list_all}

@@ -1,4 +1,4 @@
--- Lemmas on loops that write a text part by part, and on lists that contracts see through a function on their elements.
+-- Lemmas on loops that append a text part by part, and on lists whose elements contracts see through a conversion function.
 use Rattle.std.proofs.Common.{◌≡◌, ℕ, List, ◌∷◌, ◌++◌, ◌+◌, sym, ap, ◌∙◌, append_assoc, length, drop, map, flat_map, get_or, ◌<◌, add-one, suc, arith}
 use Rattle.std.proofs.lemmas.List.{length-map, get_or-map}
 use Rattle.std.proofs.Math.Seq.{drop-cons}

@@ -1,4 +1,4 @@
--- A text of assembly that is parsed line by line is parsed as the definition says.
+-- Parsing an assembly text line by line gives the result that the definition has for the whole text.
 use Rattle.std.proofs.Common.{◌≡◌, ◌∙◌, sym, ap, arith, ℕ, ◌≤◌, List, [], ◌∷◌, ◌++◌, append_assoc, length, map, Result, Ok}
 use Rattle.std.proofs.lemmas.List.{append-nil, map-append}
 use Rattle.mips_isa.specs.declared.asm_fault.AsmKind.{AsmKind}

@@ -1,4 +1,4 @@
--- The lines that a text is read as can be printed and read again.
+-- Lines that were parsed from an assembly text can be printed and parsed again: their names are valid and their numbers are in range.
 use Rattle.std.proofs.Common.{◌≡◌, ◌∙◌, sym, ap, subst, refl, arith, ℕ, ℤ, zero, suc, ◌<◌, Bool, true, false, List, [], ◌∷◌, length, map, take, nat_lt, if◌then◌else◌, Result, Ok, Err}
 use Rattle.std.specs.Prelude.{Option, Some, None, option_map, ◌&&◌}
 use Rattle.std.specs.Option.{option_or}

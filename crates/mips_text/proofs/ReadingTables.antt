@@ -1,4 +1,4 @@
--- The n-th reference of a list of references to texts refers to the n-th text.
+-- If a function follows every reference in a list of references to texts, its n-th text is the one that the n-th reference refers to.
 use Rattle.std.proofs.Common.{◌≡◌, ℕ, List, Bor, map, get_or, sym}
 use Rattle.std.proofs.Math.ListN.{get_or-map}
 

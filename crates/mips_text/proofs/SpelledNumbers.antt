@@ -1,4 +1,4 @@
--- The decimal text of a number is read as the number.
+-- If a number is printed in decimal and scanned again, the result is one token with the same number.
 use Rattle.std.proofs.Common.{◌≡◌, ◌∙◌, ap, refl, arith, ℕ, suc, ◌+◌, ◌-◌, ◌*◌, ◌/◌, ◌%◌, ◌^◌, ◌≤◌, ◌<◌, ℤ, pos, negsuc, Bool, true, false, List, [], ◌∷◌, ◌++◌, length, take, min, if◌then◌else◌}
 use Rattle.std.specs.Prelude.{Some, None, option_map, not, ◌&&◌, ◌==◌}
 use Rattle.std.specs.Option.{option_or}

@@ -1,4 +1,4 @@
--- The text of a register, and that of an operand in memory, is read as its words (`Spells`).
+-- If a register, or a memory operand such as `4($sp)`, is printed and scanned again, the result is its tokens (`Spells`).
 use Rattle.std.proofs.Common.{◌≡◌, ◌∙◌, ap, refl, arith, ℕ, zero, suc, ◌<◌, ℤ, Bool, true, List, [], ◌∷◌, ◌++◌, append_assoc, length, take, nat_lt, if◌then◌else◌}
 use Rattle.std.specs.Prelude.{Some, None, not, ◌&&◌}
 use Rattle.std.specs.List.{list_all, prefix_len}

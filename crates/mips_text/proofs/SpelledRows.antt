@@ -1,4 +1,4 @@
--- The printed text of a name and its operands is read as the words of these.
+-- If a mnemonic or directive and its operands are printed as a line and scanned again, the result is their tokens.
 use Rattle.std.proofs.Common.{◌≡◌, ◌∙◌, ap, refl, arith, ℕ, suc, ℤ, pos, negsuc, Bool, true, false, List, [], ◌∷◌, ◌++◌, map}
 use Rattle.std.specs.Prelude.{◌==◌}
 use Rattle.std.specs.List.{AllByRecursion, list_all}

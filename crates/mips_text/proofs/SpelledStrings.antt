@@ -1,4 +1,4 @@
--- The text of a printed string in its quotes is read as the bytes of the string.
+-- If a string is printed in quotes with escapes and scanned again, the result is a token that stands for the same bytes.
 use Rattle.std.proofs.Common.{◌≡◌, ◌∙◌, sym, ap, refl, arith, ℕ, ◌+◌, Bool, true, false, List, [], ◌∷◌, ◌++◌, append_assoc, length, take, flat_map, length-append, if◌then◌else◌}
 use Rattle.std.specs.Prelude.{Some, option_map, not, ◌&&◌, ◌==◌}
 use Rattle.std.specs.List.{list_all}

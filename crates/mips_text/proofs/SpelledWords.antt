@@ -1,4 +1,4 @@
--- Lemmas on `Spells`: a text is read as certain words if the text that follows it ends its last word.
+-- Lemmas on `Spells`: a text is scanned as certain tokens if the text that follows it ends its last token.
 use Rattle.std.proofs.Common.{◌≡◌, ◌∙◌, ap, refl, arith, ℕ, suc, Bool, true, false, List, [], ◌∷◌, ◌++◌, length}
 use Rattle.std.specs.Prelude.{Some, not, ◌&&◌, ◌==◌}
 use Rattle.std.specs.List.{list_all, prefix_len}

@@ -1,4 +1,4 @@
--- The numbers of the lines that are read are in their ranges.
+-- The numbers in lines that were parsed from an assembly text are within the ranges of their operands.
 use Rattle.std.proofs.Common.{◌≡◌, subst, refl, arith, ℕ, ℤ, pos, negsuc, ◌+◌, ◌≤◌, ◌<◌, Bool, true, false, List, [], ◌∷◌, length, map, nat_lt, if◌then◌else◌, Result, Ok, Err}
 use Rattle.std.specs.Prelude.{Option, Some, None, bytes_eq}
 use Rattle.std.specs.List.{AllByRecursion, slice_get}

@@ -1,4 +1,4 @@
--- The words of a line after its first bytes.
+-- The tokens of a line of assembly after its first bytes are the tokens of the rest of the line.
 use Rattle.std.proofs.Common.{◌≡◌, refl, ap, sym, ◌∙◌, arith, ℕ, zero, suc, ◌-◌, ◌<◌, List, [], ◌∷◌, length, take, drop, length-drop, get_or}
 use Rattle.std.specs.Prelude.{Option}
 use Rattle.std.proofs.lemmas.List.{take_all}

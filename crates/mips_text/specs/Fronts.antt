@@ -1,5 +1,5 @@
--- The longest word (token) at a position of a line of assembly, computed from its first byte and the bytes after it. A proof, not this file, shows that it is
--- the longest.
+-- `front_found` computes the longest token at a position of a line of assembly from its first byte and the bytes after it. A proof, not this file, shows that
+-- it is the longest.
 use Rattle.std.specs.Prelude.{ℕ, ◌+◌, ◌-◌, nat_lt, Bool, false, not, ◌&&◌, ◌==◌, if◌then◌else◌, List, [], ◌∷◌, take, Option, Some, None, option_map}
 use Rattle.std.specs.Option.{option_or}
 use Rattle.std.specs.List.{prefix_len}

@@ -1,5 +1,5 @@
--- The statements of theorems on parsing assembly: `HasReading` says that a text has lines or a first fault, `IsReadingKind` lists the faults of parsing, and
--- `AreLinesOf` cuts a text at its newlines.
+-- The statements of theorems on parsing assembly: `HasReading` says that a text has lines or a first error, `IsReadingKind` lists the errors of parsing, and
+-- `AreLinesOf` says that lines are a text, cut at its newlines.
 use Rattle.std.specs.Prelude.{◌≡◌, ◌⊎◌, ◌<◌, ◌==◌, not, true, ℕ, List, [], ◌∷◌, ◌++◌, length, flat_map}
 use Rattle.std.specs.List.{AllByRecursion, list_all}
 use Rattle.mips_isa.specs.declared.asm_fault.AsmKind.{AsmKind}

@@ -1,4 +1,4 @@
--- The classes of bytes in assembly: blanks, comments, and the bytes that begin or continue a name, a number, a register or a string.
+-- The classes of bytes in assembly: blanks, the begin of a comment, and the bytes that begin or continue a name, a number, a register or a string.
 use Rattle.std.specs.Prelude.{ℕ, Bool, ◌==◌, ◌||◌, if◌then◌else◌}
 use Rattle.std.specs.Char.{is_ascii_digit}
 use Rattle.std.specs.Int.{is_in_range}

@@ -1,4 +1,4 @@
--- The operands that statements of assembly take, with the ranges of numbers, and the fault of the first word that is no valid operand. The rule is in
+-- The operands that statements of assembly take, with the ranges of numbers, and the error for the first token that is not a valid operand. The rule is in
 -- `docs/assembly.md`, Statements and Faults.
 use Rattle.std.specs.Prelude.{ℕ, ◌+◌, ◌^◌, ℤ, pos, negsuc, nat_lt, nat_le, Bool, false, if◌then◌else◌, bytes_eq, List, [], ◌∷◌, codes, Option, Some, None, is_some}
 use Rattle.std.specs.Option.{option_or}

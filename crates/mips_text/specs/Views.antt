@@ -1,4 +1,4 @@
--- The conversions from the code's types for words (tokens) and their positions to those of the specification.
+-- Conversions from the types of tokens and their positions in the code to the types of the specification.
 use Rattle.mips_text.specs.declared.words.Word as declared_word
 use Rattle.mips_text.specs.declared.words.Word.TheVariants as words
 use Rattle.mips_text.specs.declared.fronts.Found as declared_found

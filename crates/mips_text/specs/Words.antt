@@ -1,5 +1,5 @@
--- The words (tokens) of a line of assembly: `Word` lists their kinds. The definitions give the longest word at a place, and all words up to the end, to a
--- comment, or to the first byte that begins none. The rule is in `docs/assembly.md`, Lines.
+-- `Word` lists the kinds of tokens in a line of assembly. The definitions give the longest token at a position, and all tokens up to the end, to a comment, or
+-- to the first byte that begins none. The rule is in `docs/assembly.md`, Lines.
 use Rattle.std.specs.Prelude.{◌≡◌, refl, ℕ, zero, suc, ◌+◌, ◌-◌, ◌*◌, ◌≤◌, min, ℤ, pos, negsuc, Bool, false, ◌&&◌, ◌==◌, nat_le, nat_lt, if◌then◌else◌, List, [], ◌∷◌, length, take, codes, Option, Some, None, option_map}
 use Rattle.std.specs.Option.{option_or}
 use Rattle.std.specs.List.{fold, list_all}

@@ -1,4 +1,4 @@
-//! The class of a byte: a blank, the begin of a comment, or the kind of word that the byte begins.
+//! The class of a byte in assembly: a blank, the begin of a comment, or the kind of token that the byte begins.
 
 ghost use Rattle.std.specs.Prelude.{◌≡◌};
 ghost use Rattle.mips_text.specs.Letters.{class_of, start_of};

@@ -1,4 +1,4 @@
-//! Statements that begin with a directive, made from the words after it.
+//! Parsing the statements of assembly that begin with a directive, from the tokens after it.
 
 ghost use Rattle.std.specs.Prelude.{◌≡◌, IfOk, map};
 ghost use Rattle.mips_isa.specs.Lines.{statement_of, item_of};

@@ -1,4 +1,4 @@
-//! The names of directives.
+//! The names of assembly directives, and the search for a directive by its name.
 
 ghost use Rattle.std.specs.Prelude.{◌≡◌, bytes_eq};
 ghost use Rattle.std.specs.List.{find};

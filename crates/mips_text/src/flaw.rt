@@ -1,4 +1,4 @@
-//! The reason why a line was not read: memory ran out, or a word is at fault.
+//! The reason why a line of assembly was not parsed: memory ran out, or a token is wrong.
 
 ghost use Rattle.std.specs.Prelude.{◌≡◌};
 ghost use Rattle.mips_text.specs.declared.flaw.Flaw.TheVariants.{Memory};

@@ -1,4 +1,4 @@
-//! Scanning the longest word at the front of a text.
+//! Scanning the longest token at the front of a line of assembly.
 
 ghost use Rattle.std.specs.Prelude.{◌≡◌, ◌∷◌, ◌≤◌, ◌<◌, Some, false, IfSome, length, option_map};
 ghost use Rattle.mips_text.specs.declared.class.Start.TheVariants as start;

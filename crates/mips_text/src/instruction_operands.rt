@@ -1,4 +1,4 @@
-//! The operands that instructions expect.
+//! The kinds of operands that each instruction of assembly expects.
 
 ghost use Rattle.std.specs.Prelude.{◌≡◌, ◌∷◌, [], map};
 ghost use Rattle.mips_text.specs.declared.mnemonics.Mnemonic.TheVariants.{Jalr};

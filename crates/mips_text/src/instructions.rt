@@ -1,4 +1,4 @@
-//! Instructions, made from the words after their mnemonics.
+//! Parsing instructions of assembly from the tokens after their mnemonics.
 
 ghost use Rattle.std.specs.Prelude.{◌≡◌, IfOk, map};
 ghost use Rattle.mips_isa.specs.Lines.{Plain, instruction_of};

@@ -1,4 +1,4 @@
-//! Laws on the reading of texts: each has one, each word is the longest at its place, and a printed text is read again.
+//! Theorems on parsing assembly: each text has one result, each token is the longest at its position, and a printed text is parsed as the same lines.
 
 ghost use Rattle.std.specs.Prelude.{◌≡◌, ℕ, List};
 ghost use Rattle.mips_isa.specs.declared.asm_fault.AsmFault.{AsmFault};

@@ -1,4 +1,4 @@
-//! The kinds of bytes: those that separate words, and those of which names and registers consist.
+//! The kinds of bytes in assembly: those that separate tokens, and those of which names and registers consist.
 
 ghost use Rattle.std.specs.Prelude.{◌≡◌};
 ghost use Rattle.std.specs.Char.{is_ascii_alphanumeric};

@@ -1,7 +1,7 @@
-//! Assembly as text.
+//! Assembly as text: the parser and the printer of lines of assembly.
 //!
-//! Input: the bytes of a text, or lines of assembly. Output: the other of the two. Reading finds the first word of the text that is at fault;
-//! `print_asm` has one spelling for each line. `is_name` and `value_of_digits` read single names and numbers.
+//! Input: the bytes of a text, or lines of assembly. Output: the parsed lines or the first error, or the printed text. Parsing finds the first wrong token of
+//! the text; `print_asm` has one spelling for each line. `is_name` and `value_of_digits` read single names and numbers.
 #![tactic(auto)]
 
 mod class;

@@ -1,4 +1,4 @@
-//! Reading a line of assembly: first its words, and from these its labels and its statement.
+//! Parsing a line of assembly: first its tokens, and from these its labels and its statement.
 
 ghost use Rattle.std.specs.Prelude.{◌≡◌, ◌≤◌, ◌+◌, IsTrue, length, map};
 ghost use Rattle.mips_isa.specs.Lines.{line_of, statement_of};

@@ -1,4 +1,4 @@
-//! Numbers without their sign, at the front of a text.
+//! Scanning a decimal or hexadecimal number without its sign, at the front of a text.
 
 ghost use Rattle.std.specs.Prelude.{◌≡◌, ◌≤◌, ◌<◌, IfSome, length, option_map};
 ghost use Rattle.mips_text.specs.Fronts.{capped_magnitude, decimal_found, hexadecimal_found, magnitude_found};

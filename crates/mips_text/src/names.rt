@@ -1,4 +1,4 @@
-//! The names of labels: which words are names.
+//! The names of labels: the test whether bytes are a valid name.
 
 ghost use Rattle.std.specs.Prelude.{◌≡◌};
 ghost use Rattle.mips_text.specs.Names.{is_name};

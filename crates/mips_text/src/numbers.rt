@@ -1,4 +1,4 @@
-//! The value of digits in a base; a value past the range of every operand is read as `LARGEST`.
+//! The value of digits in a base; a value beyond the range of every operand is returned as `LARGEST`.
 
 ghost use Rattle.std.specs.Prelude.{◌≡◌, ◌≤◌, min};
 ghost use Rattle.mips_text.specs.Words.{digit_value, value};

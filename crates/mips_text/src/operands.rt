@@ -1,4 +1,4 @@
-//! The operands of statements, by their places in the words of a line.
+//! Access to the operands of a statement by their positions in the list of the line's tokens.
 
 ghost use Rattle.std.specs.Prelude.{◌≡◌, map, option_map};
 ghost use Rattle.mips_text.specs.Statements.{has_colon, has_name, has_open, label_at, name_at, number_at, raw_at, register_at};

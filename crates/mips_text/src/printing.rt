@@ -1,4 +1,4 @@
-//! Printing the text of lines.
+//! Printing lines of assembly as text.
 
 ghost use Rattle.std.specs.Prelude.{◌≡◌, ◌++◌, IfOk, OnOk, flat_map};
 ghost use Rattle.mips_isa.specs.Lines.{line_of, lines_of, instruction_of, data_item_of, directive_of, statement_of};

@@ -1,4 +1,4 @@
-//! The numbers of operands, if they are in their ranges, and 0 otherwise.
+//! The conversion of a number to the type of its operand: the number if it is in the operand's range, and 0 otherwise.
 
 ghost use Rattle.std.specs.Prelude.{◌≡◌};
 ghost use Rattle.mips_text.specs.declared.wanted.Range.TheVariants.{Signed, Unsigned, Shift, Index, Word, Byte, Space, Power};

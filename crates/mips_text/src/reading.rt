@@ -1,4 +1,4 @@
-//! Reading a whole assembly text.
+//! Parsing a whole assembly text, line by line.
 
 ghost use Rattle.std.specs.Prelude.{◌≡◌, ◌∷◌, ◌≤◌, ◌<◌, IfOk, length, vec_len};
 ghost use Rattle.mips_isa.specs.Lines.{AreInRange, lines_of};

@@ -1,4 +1,4 @@
-//! The names of registers.
+//! The names of registers in assembly, such as `$sp`, and the search for a register by its name.
 
 ghost use Rattle.std.specs.Prelude.{◌≡◌, ◌<◌, ◌≤◌, IfSome, IsTrue, bytes_eq, drop, map, not, take};
 ghost use Rattle.std.specs.List.{list_all};

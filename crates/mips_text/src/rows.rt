@@ -1,4 +1,4 @@
-//! Rows of a printed text: a mnemonic or a directive, and its operands.
+//! Printing a line of assembly: a mnemonic or a directive, and its operands with the separators between them.
 
 ghost use Rattle.std.specs.Prelude.{◌≡◌, ◌++◌, ◌∷◌, [], OnOk, map};
 ghost use Rattle.std.specs.Fmt.{signed_decimal};

@@ -1,4 +1,4 @@
-//! The number of bytes of one kind at the front of a text.
+//! Counting the bytes at the front of a text that continue a name, a register or a comment.
 
 ghost use Rattle.std.specs.Prelude.{◌≡◌, ◌≤◌, length};
 ghost use Rattle.std.specs.List.{prefix_len};

@@ -1,4 +1,4 @@
-//! Strings: their escapes, and the bytes that they stand for.
+//! String constants of assembly: their escapes, and the bytes that they stand for.
 
 ghost use Rattle.std.specs.Prelude.{◌≡◌, false, IfOk};
 ghost use Rattle.mips_text.specs.Strings.{all_known, closes_string, is_known, letter, opens_escape, unescaped};

@@ -1,4 +1,4 @@
-//! The kinds of operands that an instruction expects, and the faults of other words.
+//! The kinds of operands that a statement of assembly expects, and the error for a token that is none of them.
 
 ghost use Rattle.std.specs.Prelude.{◌≡◌, map};
 ghost use Rattle.mips_text.specs.Operands.{each_fault, fault_unless, is_within, many_fault, misplaced, row_fault, word_fault};

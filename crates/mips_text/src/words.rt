@@ -1,4 +1,4 @@
-//! The words of a line: names, numbers, registers, strings and signs.
+//! Scanning the tokens of a line of assembly: names, numbers, registers, strings and signs.
 
 ghost use Rattle.std.specs.Prelude.{◌≡◌, ◌∷◌, [], ◌<◌, ◌≤◌, IfSome, MatchOption, OnOk, length, map, option_map};
 ghost use Rattle.mips_text.specs.Words.{words_behind, words_of, with_front};

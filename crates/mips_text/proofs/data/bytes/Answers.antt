@@ -1,4 +1,4 @@
--- `bytes` returns the operands of `.byte`; each step of its loop appends the number of one word.
+-- `bytes` returns the operands of `.byte`, because each iteration of its loop appends the number of one token.
 use Rattle.std.proofs.Common.{rules, ◌≡◌, ◌++◌, ◌∷◌, [], map, take, get_or, ap, sym, ◌∙◌}
 use Rattle.std.proofs.lemmas.List.{map-append, take_more}
 use Rattle.mips_text.specs.Statements.{byte_made}

@@ -1,4 +1,4 @@
--- `is_name` returns whether a word is a name: if its first byte begins a name, the answer depends on the bytes after it.
+-- `is_name` returns whether a token is a valid name: its first byte may begin a name, and each byte after it may continue one.
 use Rattle.std.proofs.Common.{◌≡◌, ◌∙◌, ◌-◌, ◌≤◌, sym, ap, refl, rules, tests, arith, Bool, true, ℕ, List, [], ◌∷◌, length, get_or, drop, take}
 use Rattle.std.specs.Prelude.{◌&&◌}
 use Rattle.std.specs.List.{list_all}
