@@ -1,4 +1,5 @@
--- Lemmas on runs of the processor: one instruction more, and fewer addresses at which a run stops.
+-- Lemmas on runs of the processor: a run of n instructions is continued by one more, and a run that stops at no address of a set stops at none of a smaller
+-- set.
 use Rattle.std.proofs.Common.{◌≡◌, ◌-◌, ◌<◌, ◌≤◌, subst, ℕ, zero, suc, Bool, false, List, arith}
 use Rattle.mips_isa.specs.Bytes.{Segments}
 use Rattle.mips_isa.specs.Machine.{Core, On, step}

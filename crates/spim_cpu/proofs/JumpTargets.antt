@@ -1,4 +1,4 @@
--- The address of a jump, put together by bit operations, is the sum of the start of its region and four times its index.
+-- The target address of a jump, computed by bit operations, is the start of the current region of 2^28 bytes plus four times the jump's index.
 use Rattle.std.proofs.Common.{◌≡◌, ℕ, ◌+◌, ◌*◌, ◌%◌, ◌/◌, ◌<◌, arith}
 use Rattle.std.specs.Prelude.{bit_and, bit_or}
 use Rattle.std.proofs.lemmas.Nat.{or_shifted}

@@ -1,4 +1,4 @@
--- The quotient and the remainder of signed numbers are those of their magnitudes, with a sign.
+-- The quotient and the remainder of two signed numbers can be computed from their absolute values, and then negated where needed.
 use Rattle.std.proofs.Common.{◌≡◌, ◌∙◌, refl, sym, ap, ap₂, ℕ, zero, suc, ◌%◌, ◌/◌, ◌-◌, ◌<◌, ◌≤◌, ◌⊎◌, inl, inr, Bool, true, false, not, ℤ, pos, negsuc, if◌then◌else◌, neg_ℤ, unsigned_abs, int_div, int_rem, w32, arith}
 use Rattle.std.specs.Int.{cast_signed, cast_unsigned, int_wrapping_div}
 use Rattle.std.proofs.lemmas.Int.{of_z-to_z}

@@ -1,4 +1,4 @@
--- The registers at the start of a run.
+-- At the start of a run, the processor's registers have the values that the machine's definition gives for the image (the loaded program).
 use Rattle.std.proofs.Common.{◌≡◌, ◌∙◌, ap, ℕ, ◌+◌, ◌-◌, ◌<◌, cond, List, [], ◌∷◌, get_or, slice_set, arith}
 use Rattle.std.specs.Prelude.{◌==◌}
 use Rattle.std.proofs.Math.Path.{fun_ext}

@@ -1,4 +1,4 @@
--- An operation that the processor executes is the next step of the definition of the machine.
+-- If the processor executes a decoded operation, it makes the next step of the machine's definition.
 use Rattle.std.proofs.Common.{◌≡◌, ◌∙◌, refl, sym, ap, subst, ℕ, ◌+◌, ◌-◌, ◌*◌, ◌/◌, ◌%◌, ◌<◌, ◌≤◌, Bool, true, false, List, length, get_or, arith}
 use Rattle.std.specs.Prelude.{Option, Ok, Err, IfSome, ◌==◌, if◌then◌else◌, not}
 use Rattle.mips_isa.specs.declared.instr.Instr.{Instr}

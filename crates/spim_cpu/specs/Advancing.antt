@@ -1,5 +1,5 @@
--- The execution of instructions one after another: `Acted` relates one operation of the simulator to the definition, and `Goes` says that n instructions lead
--- from one state to another.
+-- `Acted` and `Goes` define the execution of instructions one after another: `Acted` relates one operation of the simulator to the machine's definition, and
+-- `Goes` says that n instructions lead from one state to another.
 use Rattle.std.specs.Prelude.{◌≡◌, refl, ℕ, zero, suc, ◌+◌, ◌-◌, ◌*◌, ◌/◌, ◌%◌, ◌^◌, nat_lt, not, ◌||◌, Bool, true, false, List, [], ◌∷◌, get_or, Option, Some, None, Result, Ok, Err}
 use Rattle.mips_isa.specs.declared.address_map.TheConstants.{TEXT_START}
 use Rattle.mips_isa.specs.Bytes.{Segments}

@@ -1,4 +1,4 @@
-//! The results of the operations, on numbers of 32 bits.
+//! The results of the arithmetic and logic instructions on 32-bit numbers.
 
 ghost use Rattle.std.specs.Prelude.{◌≡◌, ◌<◌, ◌+◌, ◌*◌, ◌/◌, ◌%◌, ◌^◌};
 ghost use Rattle.mips_isa.specs.Words.{bits_of};

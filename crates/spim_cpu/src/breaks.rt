@@ -1,4 +1,4 @@
-//! Sets of addresses at which a run stops.
+//! Sets of breakpoint addresses, at which a run stops.
 
 ghost use Rattle.std.specs.Prelude.{◌≡◌, ◌<◌, ℕ, ◌^◌, Bool};
 ghost use Rattle.std.specs.Option.{option_copied};

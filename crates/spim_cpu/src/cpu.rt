@@ -1,4 +1,4 @@
-//! The processor: its registers, its memory, and the execution of instructions.
+//! The processor of the simulator: its registers, its memory, and the execution of instructions.
 
 ghost use Rattle.std.specs.Prelude.{◌≡◌, ◌<◌, ◌≤◌, ◌^◌};
 ghost use Rattle.mips_isa.specs.Bytes.{segments_of, bytes_of_image};

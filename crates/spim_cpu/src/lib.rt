@@ -1,6 +1,6 @@
-//! The processor of the integer R2000.
+//! The processor of the simulator, an integer R2000 (MIPS).
 //!
-//! Input: the memory of an image. Output: the state after each instruction, or why it stops. It implements `Machine.antt` of
+//! Input: the memory of an image (an executable program). Output: the state after each instruction, or why it stops. This crate implements `Machine.antt` of
 //! `mips_isa`.
 #![tactic(auto)]
 

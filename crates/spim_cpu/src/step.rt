@@ -1,4 +1,4 @@
-//! The outcome of an instruction.
+//! The outcome of executing an instruction: the next one follows, a system call, or a trap.
 
 use mips_isa::Trap;
 

@@ -1,4 +1,4 @@
-//! The instructions that load and store.
+//! The execution of the instructions that load and store.
 
 ghost use Rattle.std.specs.Prelude.{◌≡◌, ◌<◌, OnOk, OnErr};
 ghost use Rattle.mips_isa.specs.Bytes.{writable, set_byte};

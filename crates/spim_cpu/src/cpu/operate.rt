@@ -1,4 +1,4 @@
-//! The instruction table: what each operation does.
+//! The execution of one decoded operation, with a case for each instruction of the integer R2000.
 
 ghost use Rattle.std.specs.Prelude.{◌≡◌, ◌<◌, IfSome};
 ghost use Rattle.mips_isa.specs.declared.instr.Instr.TheVariants as instr;
