@@ -1,4 +1,4 @@
--- The instruction that `decoded` gives for a word has all its fields in range.
+-- If a 32-bit word is decoded to an instruction, all fields of this instruction are in range.
 use Rattle.std.proofs.Common.{◌≡◌, ◌∙◌, sym, ℕ, ◌/◌, ◌<◌, ◌≤◌, None, Some, arith}
 use Rattle.std.specs.Prelude.{◌==◌, if◌then◌else◌, Option, IfSome}
 use Rattle.mips_isa.specs.declared.instr.Instr.{Instr}

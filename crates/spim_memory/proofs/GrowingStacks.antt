@@ -1,4 +1,4 @@
--- A stack does not change if more of it is written with zeros.
+-- The contents of the stack do not change if more of its unwritten part, which counts as zeros, is written with zeros.
 use Rattle.std.proofs.Common.{◌≡◌, ◌∙◌, ap, ap₂, sym, ℕ, ◌+◌, ◌-◌, ◌≤◌, List, length, ◌++◌, replicate, take, drop, arith}
 use Rattle.std.proofs.lemmas.List.{take_all, append_assoc, replicate-append-replicate}
 use Rattle.std.proofs.Math.Seq.{drop-append_seam, take-append_seam}

@@ -1,4 +1,4 @@
--- A half or a word is the number in its bytes, in a segment and in the text.
+-- A half word or word that is read from a segment or from the text has the value of the two or four bytes there in the machine's memory, lowest byte first.
 use Rattle.std.proofs.Common.{◌≡◌, ◌∙◌, ℕ, ◌+◌, ◌-◌, ◌*◌, ◌/◌, ◌%◌, ◌^◌, ◌<◌, ◌≤◌, List, length, get_or, true, inl, inr, ◌⊎◌, refl, arith}
 use Rattle.std.specs.Prelude.{nat_lt}
 use Rattle.mips_isa.specs.declared.address_map.TheConstants.{TEXT_START, DATA_START, HEAP_START, STACK_END}

@@ -1,4 +1,4 @@
--- A load of a half or a word from a segment returns the number that the machine's bytes have there, or why the load is refused.
+-- A load of a half word or word returns the number that the machine's memory has at the address, or the reason why the load is refused.
 use Rattle.std.proofs.Common.{◌≡◌, ◌∙◌, ap, sym, ℕ, ◌+◌, ◌-◌, ◌*◌, ◌/◌, ◌%◌, ◌^◌, ◌<◌, ◌≤◌, List, length, true, false, None, Some, arith}
 use Rattle.std.specs.Prelude.{Result, Ok, Err}
 use Rattle.spim_memory.specs.declared.fault.MemFault.{MemFault}

@@ -1,4 +1,4 @@
--- The bytes of a memory that is made are those of its image.
+-- A new memory holds the bytes of the image (the executable program) from which it is made, and zeros elsewhere.
 use Rattle.std.proofs.Common.{◌≡◌, ◌∙◌, ap, ℕ, ◌+◌, ◌-◌, ◌*◌, ◌/◌, List, length, get_or, ◌++◌, replicate, arith}
 use Rattle.std.proofs.Math.Path.{fun_ext}
 use Rattle.std.proofs.Math.ListN.{get_or-append, get_or-eq_default}

@@ -1,4 +1,4 @@
--- A byte that is written into a segment is written into the machine's bytes.
+-- If a byte is written into the list of bytes of a segment, the machine's memory changes at the corresponding address only.
 use Rattle.std.proofs.Common.{◌≡◌, ◌∙◌, refl, sym, ap, ℕ, ◌+◌, ◌-◌, ◌/◌, ◌%◌, ◌<◌, ◌≤◌, cond, List, length, slice_set, Vec, Global, arith}
 use Rattle.std.specs.Vec.{with_items}
 use Rattle.std.specs.Prelude.{nat_lt, ◌==◌}

@@ -1,4 +1,4 @@
--- `instr_of` gives the instruction of each decoded operation of the simulator, or none for a word that is no instruction.
+-- `instr_of` gives the machine instruction of each decoded operation of the simulator, or none for a word that encodes no instruction.
 use Rattle.std.specs.Prelude.{◌≡◌, refl, ℕ, ◌<◌, pos, Option, Some, None, List, length, get_or}
 use Rattle.mips_isa.specs.declared.instr.Instr.{Instr}
 use Rattle.mips_isa.specs.declared.instr.Instr.TheVariants.{Three, Shift, ShiftReg, Jr, Jalr, Syscall, MoveFrom, MoveTo, MulDiv, Imm, Lui, BranchTwo, BranchOne, Jump, Mem}

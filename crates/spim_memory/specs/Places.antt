@@ -1,4 +1,4 @@
--- `IsPlace` gives the segment, and the offset in it, of the byte at an address; `set_two` and `set_four` store a half and a word in a list of bytes.
+-- `IsPlace` gives the segment, and the offset in it, of the byte at an address; `set_two` and `set_four` store a half word and a word in a list of bytes.
 use Rattle.std.specs.Prelude.{◌≡◌, ℕ, ◌+◌, ◌-◌, ◌*◌, ◌/◌, ◌%◌, ◌^◌, ◌<◌, true, false, Option, None, Some, Result, Ok, Err, List, ◌++◌, length, replicate, slice_set}
 use Rattle.mips_isa.specs.declared.address_map.TheConstants.{TEXT_START, DATA_START, HEAP_START, STACK_END}
 use Rattle.mips_isa.specs.Bytes.{lies, writable}

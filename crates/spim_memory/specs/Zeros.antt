@@ -1,4 +1,4 @@
--- A segment of which only a part was ever written: `and_zeros` and `zeros_and` give all its bytes, where the others are zeros.
+-- `and_zeros` and `zeros_and` give all bytes of a segment of which only a part was ever written: the other bytes are zeros.
 use Rattle.std.specs.Prelude.{◌≡◌, refl, ℕ, ◌+◌, ◌-◌, ◌*◌, ◌%◌, ◌≤◌, List, [], ◌∷◌, ◌++◌, length, replicate, get_or}
 
 -- a segment of so many bytes: the written ones, and zeros after them

@@ -1,4 +1,4 @@
-//! The reasons why an access is refused.
+//! The reasons why a load or store is refused.
 
 /// Why an access may not be, with its address.
 #[derive(Clone, Copy)]

@@ -1,7 +1,7 @@
-//! The segments of a machine.
+//! The memory of the simulated machine: text, data, heap and stack.
 //!
-//! Input: an image and the sizes of heap and stack, then addresses and numbers. Output: numbers and instructions, or why
-//! an access may not be. It implements `specs/Memory.antt`, and with it the bytes of the machine in `mips_isa`.
+//! Input: an image (an executable program) and the sizes of heap and stack, then addresses and numbers. Output: numbers and instructions, or why an access is
+//! refused. This crate implements `specs/Memory.antt`, and with it the bytes of the machine in `mips_isa`.
 #![tactic(auto)]
 
 mod fault;

@@ -1,4 +1,4 @@
-//! Halves and words in a segment, the lowest byte first.
+//! Reading and writing half words and words in a segment, the lowest byte first.
 
 ghost use Rattle.std.specs.Prelude.{◌≡◌, ◌+◌, ◌*◌, ◌≤◌, length, slice_index};
 ghost use Rattle.spim_memory.specs.Places.{set_two, set_four};

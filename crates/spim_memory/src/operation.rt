@@ -1,4 +1,4 @@
-//! The operations that the processor executes, one for each instruction of the text, decoded once.
+//! The decoded instructions that the processor executes: one operation for each machine word of the text segment.
 
 ghost use Rattle.std.specs.Prelude.{◌≡◌, ◌<◌, Some, IfSome};
 ghost use Rattle.mips_isa.specs.declared.instr.Instr.TheVariants as instr;

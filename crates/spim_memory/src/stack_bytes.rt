@@ -1,4 +1,4 @@
-//! The bytes of a stack, which are zeros until they are written.
+//! The bytes of the stack segment, which count as zeros until they are written.
 
 ghost use Rattle.std.specs.Prelude.{◌≡◌, ◌+◌, ◌%◌, ◌<◌, ◌≤◌, length, replicate, get_or, slice_set, vec_capacity, IfOk};
 ghost use Rattle.spim_memory.specs.Places.{set_two, set_four};

@@ -1,4 +1,4 @@
-//! Strings and buffers, as SPIM's system calls `print_string` and `read_string` need them.
+//! Access to strings and buffers in memory, as SPIM's system calls `print_string` and `read_string` need it.
 
 ghost use Rattle.std.specs.Prelude.{◌≡◌, ◌+◌, ◌<◌, ◌≤◌, ◌==◌, ◌&&◌, true, Some, None, IfSome, IfNone};
 ghost use Rattle.mips_isa.specs.Bytes.{readable};
