@@ -1,4 +1,4 @@
--- Instructions that the processor executes in one call are a part of the run.
+-- If the processor executes several instructions in one call, the machine's run of as many instructions leads to the same state.
 use Rattle.std.proofs.Common.{◌≡◌, ◌∙◌, sym, ap, subst, ℕ, zero, suc, ◌+◌, ◌-◌, Bool, List, arith}
 use Rattle.mips_isa.specs.Bytes.{Segments}
 use Rattle.mips_isa.specs.Machine.{Core}

@@ -1,4 +1,4 @@
--- A system call does what its number in $v0 says.
+-- Each system call has the effect that SPIM defines for the number in `$v0`.
 use Rattle.std.proofs.Common.{◌≡◌, refl, ℕ, ◌-◌, ◌%◌, List, [], ◌∷◌, Option, Some, arith}
 use Rattle.std.specs.Prelude.{Result, Ok, Err, false, ◌==◌}
 use Rattle.std.specs.Fmt.{signed_decimal}

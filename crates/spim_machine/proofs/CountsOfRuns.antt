@@ -1,4 +1,5 @@
--- The number of instructions that a run up to a break address executes, by the state in which it stands.
+-- Lemmas on the number of instructions that a run executes up to a breakpoint: it is at most the budget, 0 at a breakpoint, and grows by one with each
+-- instruction.
 use Rattle.std.proofs.Common.{◌≡◌, ◌∙◌, refl, sym, ap, ℕ, zero, suc, ◌+◌, ◌-◌, ◌<◌, ◌≤◌, Bool, true, false, if◌then◌else◌, List, arith}
 use Rattle.mips_isa.specs.Bytes.{Segments}
 use Rattle.mips_isa.specs.Machine.{Core}

@@ -1,4 +1,4 @@
--- The outcome of an instruction, by the result of the processor.
+-- The outcome of one instruction in the machine's definition follows from the processor's result: no system call, a system call, or a trap.
 use Rattle.std.proofs.Common.{◌≡◌, ◌∙◌, refl, sym, ap, subst, ℕ, List, Option}
 use Rattle.std.specs.Prelude.{Result, Ok, Err}
 use Rattle.mips_isa.specs.declared.trap.Trap.{Trap}

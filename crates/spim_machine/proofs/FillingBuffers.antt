@@ -1,4 +1,4 @@
--- A buffer that is filled with bytes of the input, one after another.
+-- If the bytes that `read_string` takes from the input are stored one after another, the memory is the one that the definition gives for the whole buffer.
 use Rattle.std.proofs.Common.{◌≡◌, ℕ, zero, suc, ◌+◌, ◌-◌, ◌<◌, ◌≤◌, Bool, true, false, List, [], ◌∷◌, ◌++◌, length, length-append, refl, sym, ◌∙◌, ap, subst, append-nil, arith}
 use Rattle.std.specs.Prelude.{Option, Some, None, Ok, Err, ◌==◌}
 use Rattle.std.proofs.lemmas.Bool.{and_parts}

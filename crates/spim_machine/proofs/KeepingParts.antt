@@ -1,4 +1,4 @@
--- The parts of a machine that no call changes, over several calls.
+-- If each of two steps of the machine keeps its text, its segments and its halted status, so do both together.
 use Rattle.std.proofs.Common.{◌≡◌, ◌∙◌, refl}
 use Rattle.spim_cpu.specs.Cpu.{KeepsSegments}
 use Rattle.spim_machine.specs.MachineStates.{MachineParts, Keeps}

@@ -1,4 +1,5 @@
--- A property of all runs of a machine that was loaded with an image holds for the run of the image.
+-- If a property holds for the runs of a machine from each state that it may be in after an image (an executable program) was loaded, it holds for the run of
+-- this image.
 use Rattle.std.proofs.Common.{◌≡◌, refl, sym, subst, ℕ, List, []}
 use Rattle.std.specs.Prelude.{Option, Some}
 use Rattle.cool_ports.proofs.GettingBytes.{appended-nil}

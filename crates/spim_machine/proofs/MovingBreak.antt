@@ -1,4 +1,4 @@
--- The outcome of sbrk: the break moves by $a0, or it would pass the heap's end.
+-- The system call `sbrk` moves the end of the heap by `$a0` and returns the old end, or returns -1 if the heap would be too large.
 use Rattle.std.proofs.Common.{◌≡◌, ◌∙◌, refl, ap, ℕ, ◌+◌, ◌<◌, ◌≤◌, true, false, List, arith}
 use Rattle.std.specs.Prelude.{nat_le, Option, Ok}
 use Rattle.mips_isa.specs.Machine.{set_register}

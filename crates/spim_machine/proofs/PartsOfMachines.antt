@@ -1,4 +1,4 @@
--- The parts of a machine that a system call reads: the value of `$a0`, and the memory.
+-- `a0_of` and `memory_of` give the parts of a machine that a system call reads: the value of `$a0`, and the memory.
 use Rattle.std.proofs.Common.{ℕ}
 use Rattle.spim_memory.specs.Memory.{MemoryParts}
 use Rattle.spim_cpu.specs.Cpu.{core_of}

@@ -1,4 +1,4 @@
--- The bytes of a memory one after another: all at once, and in two pieces.
+-- Reading bytes of memory piece by piece gives the same bytes as reading all of them at once.
 use Rattle.std.proofs.Common.{◌≡◌, ◌∙◌, refl, sym, ap, ap₂, ℕ, zero, suc, ◌+◌, ◌-◌, ◌<◌, ◌≤◌, min, List, [], ◌∷◌, ◌++◌, length, take, drop, get_or, arith}
 use Rattle.cool_ports.specs.SinkPuts.{pieces_of, PutUpTo}
 use Rattle.cool_ports.proofs.PuttingPieces.{put_piece, put_pieces_all}

@@ -1,4 +1,4 @@
--- The outcome of a call that prints: all of its bytes were put, or it trapped.
+-- Lemmas on the outcome of a system call that prints: all of its bytes were written to the output, or it trapped and changed nothing.
 use Rattle.std.proofs.Common.{◌≡◌, ◌∙◌, refl, sym, ap, ap₂, subst, ℕ, ◌-◌, List, ◌++◌}
 use Rattle.std.specs.Prelude.{Option, Some, None, Ok, Err}
 use Rattle.cool_ports.specs.SinkBytes.{appended}

@@ -1,4 +1,4 @@
--- The puts of a run, one after another, are the bytes that it adds to the output.
+-- The writes of a run, joined in order, are the bytes that the run appends to the output.
 use Rattle.std.proofs.Common.{◌≡◌, ◌∙◌, refl, sym, ap, ℕ, zero, suc, ◌+◌, ◌-◌, ◌%◌, ◌<◌, Bool, true, false, inl, inr, List, [], ◌∷◌, ◌++◌, append_assoc, append-nil, Option, Some, None, arith}
 use Rattle.std.specs.Prelude.{if◌then◌else◌, ◌==◌, ◌||◌, not, nat_le}
 use Rattle.std.specs.{Fmt.{signed_decimal}, List.{concat}}

@@ -1,4 +1,4 @@
--- The puts of a run, instruction by instruction, and of one run after another.
+-- The list of writes (puts) of a run is that of its first instructions, followed by that of the remaining run.
 use Rattle.std.proofs.Common.{◌≡◌, ◌∙◌, refl, sym, ap, subst, ℕ, zero, suc, ◌+◌, ◌-◌, ◌<◌, ◌≤◌, Bool, List, [], ◌++◌, append_assoc, append-nil, Option, arith}
 use Rattle.std.specs.Prelude.{Result, Ok, Err}
 use Rattle.cool_ports.specs.SinkPuts.{PutFront}

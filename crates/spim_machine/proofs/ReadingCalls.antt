@@ -1,4 +1,4 @@
--- The effect of a call that reads, from the bytes that it took of the source.
+-- The effect of a system call that reads is determined by the bytes that it took from the input stream, also if a read failed.
 use Rattle.std.proofs.Common.{◌≡◌, ℕ, Bool, false, List, ◌++◌, refl, sym, ◌∙◌, ap}
 use Rattle.std.specs.Prelude.{Option, Some, Ok, Err}
 use Rattle.cool_ports.specs.SinkBytes.{appended}

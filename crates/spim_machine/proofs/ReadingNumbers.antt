@@ -1,4 +1,4 @@
--- A number that is read from a line, byte after byte.
+-- If `read_int` reads a line byte by byte, the result is the number that the definition gives for the whole line.
 use Rattle.std.proofs.Common.{◌≡◌, ℕ, Bool, false, List, [], ◌∷◌, ◌++◌, refl, sym, ◌∙◌, ap, append_assoc}
 use Rattle.std.specs.Prelude.{Option, Some, None, Ok, Err, ◌==◌}
 use Rattle.cool_ports.specs.declared.Failed.{Failed}

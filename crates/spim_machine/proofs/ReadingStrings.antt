@@ -1,4 +1,4 @@
--- The effect of read_string, by its address and its size.
+-- The effect of the system call `read_string` is as the definition says for each size: it traps, reads nothing, or stores a line in the buffer.
 use Rattle.std.proofs.Common.{◌≡◌, ℕ, ◌-◌, ◌<◌, Bool, true, false, not, List, [], ◌∷◌, ◌++◌, ℤ, pos, w32, if◌then◌else◌, refl, sym, ◌∙◌, ap, arith}
 use Rattle.std.specs.Prelude.{Option, Result, Ok, Err, ◌==◌, ◌||◌, int_lt}
 use Rattle.std.specs.Int.{cast_signed, cast_unsigned}

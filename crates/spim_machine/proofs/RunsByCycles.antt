@@ -1,4 +1,5 @@
--- The rest of a run after an instruction or an end, for a machine that keeps its text and its segments.
+-- A machine that keeps its text and segments has the same outcome of an instruction as at the start of the run. Storing how the run ended changes neither its
+-- result nor the count of instructions.
 use Rattle.std.proofs.Common.{◌≡◌, ◌∙◌, refl, subst, ℕ, List, Option}
 use Rattle.std.specs.Prelude.{Result}
 use Rattle.mips_isa.specs.Bytes.{Segments}

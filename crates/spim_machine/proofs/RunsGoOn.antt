@@ -1,4 +1,5 @@
--- A run that goes on: one more instruction, the end in that instruction, and one budget after another.
+-- A run of n instructions is continued by the next one: the next instruction goes on, exits or traps, and a second budget of instructions continues the run
+-- after the first.
 use Rattle.std.proofs.Common.{◌≡◌, ◌≢◌, ◌∙◌, refl, sym, ap, ℕ, suc, ◌+◌, ◌-◌, ◌<◌, List, Option, Bool, arith}
 use Rattle.std.specs.Prelude.{Err}
 use Rattle.mips_isa.specs.declared.trap.Trap.{Trap}

@@ -1,4 +1,4 @@
--- A run up to a break address, turn by turn, of a machine that keeps its text and its segments.
+-- `Stands` is the invariant of the loop that runs a machine up to a breakpoint: it holds at the start, and each iteration of the loop keeps it or ends the run.
 use Rattle.std.proofs.Common.{◌≡◌, ◌∙◌, refl, sym, ap, subst, ℕ, suc, ◌+◌, ◌-◌, ◌<◌, ◌≤◌, Bool, List, Option, arith}
 use Rattle.std.specs.Prelude.{Ok, Err}
 use Rattle.mips_isa.specs.Bytes.{Segments}

@@ -1,4 +1,4 @@
--- A run that stops at no address is one of its whole budget.
+-- A run up to a breakpoint that has no breakpoints is a run with the whole budget of instructions.
 use Rattle.std.proofs.Common.{◌≡◌, ◌∙◌, refl, sym, ap, ℕ, zero, suc, ◌≤◌, Bool, false, List, Option, arith}
 use Rattle.mips_isa.specs.Bytes.{Segments}
 use Rattle.mips_isa.specs.Calls.{State, Outcome, Running, Exited, Trapped}

@@ -1,4 +1,4 @@
--- If two system calls have the same effect and store the same bytes in each state, a result of one is a result of the other.
+-- If two system calls have the same effect and store the same bytes in each state, a possible result of one is a possible result of the other.
 use Rattle.std.proofs.Common.{◌≡◌, ◌∙◌, sym, subst, ℕ, List, Option}
 use Rattle.std.specs.Prelude.{Result, Ok, Err}
 use Rattle.mips_isa.specs.Calls.{State, Outcome}

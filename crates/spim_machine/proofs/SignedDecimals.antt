@@ -1,4 +1,4 @@
--- A word that is printed as a signed number has the decimal text that the definition gives.
+-- If a 32-bit word is printed as a signed number, the text is the decimal text that the definition gives.
 use Rattle.std.proofs.Common.{◌≡◌, ◌∙◌, ap, ℕ, ◌-◌, ◌<◌, true, false, List, length, ℤ, pos, negsuc, w32, Bool, refl, if◌then◌else◌, arith}
 use Rattle.std.specs.Int.{cast_signed, cast_unsigned}
 use Rattle.std.specs.Fmt.{signed_decimal}

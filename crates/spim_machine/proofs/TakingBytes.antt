@@ -1,4 +1,4 @@
--- The bytes that a call takes of an input, one after another.
+-- Lemmas on the bytes that a system call takes from the input one after another, until it has enough, at a newline or at the end of the input.
 use Rattle.std.proofs.Common.{◌≡◌, ℕ, zero, suc, ◌<◌, Bool, true, false, List, [], ◌∷◌, ◌++◌, length, length-append, replicate, refl, sym, ◌∙◌, ap, append_assoc, append-nil, arith}
 use Rattle.std.specs.Prelude.{Option, Some, None, Ok, Err, if◌then◌else◌, ◌==◌}
 use Rattle.cool_ports.specs.declared.Failed.{Failed}

@@ -1,4 +1,4 @@
--- The results of system calls and of runs of the machine, where a read of the input (a source) or a write of the output (a sink) may fail.
+-- The results of system calls and of runs of the machine, if a read of the input (a source) or a write of the output (a sink) may fail.
 use Rattle.std.specs.Prelude.{◌≡◌, ℕ, ◌-◌, ◌<◌, ◌==◌, true, false, if◌then◌else◌, List, [], ◌++◌, Option, Some, Result, Ok, Err}
 use Rattle.cool_ports.specs.Counts.{Rose}
 use Rattle.cool_ports.specs.SinkBytes.{appended, GotPrefix}

@@ -1,5 +1,4 @@
--- `run_puts` lists the puts (writes) of a run of the machine: one for each number and each byte that is printed, and for a string one for each 64 of its
--- bytes.
+-- `run_puts` lists the writes (puts) of a run of the machine: one for each number and each byte that is printed, and for a string one for each 64 of its bytes.
 use Rattle.std.specs.Prelude.{◌≡◌, refl, ℕ, zero, suc, ◌%◌, ◌==◌, if◌then◌else◌, List, [], ◌∷◌, ◌++◌, Option, Some, None, Result, Ok, Err}
 use Rattle.std.specs.Fmt.{signed_decimal}
 use Rattle.cool_ports.specs.SinkPuts.{pieces_of, PutFront}

@@ -1,4 +1,4 @@
-//! The end of a run, and the number of instructions executed.
+//! The reasons why a run of the machine ends, and the number of instructions executed.
 
 use mips_isa::Trap;
 

@@ -1,4 +1,4 @@
-//! The reading system calls: the bytes that they take of a source.
+//! The system calls that read, and the bytes that they take from the input stream.
 
 ghost use Rattle.std.specs.Prelude.{◌≡◌, List, [], ℕ, IfOk, OnOk, OnErr, false};
 ghost use Rattle.cool_ports.specs.Counts.{Rose};

@@ -1,4 +1,4 @@
-//! Laws on runs, and on the bytes that they take of a source.
+//! Theorems on runs of the machine, their output, and the bytes that they take from the input stream.
 
 ghost use Rattle.std.specs.Prelude.{◌≡◌, ◌≢◌, ◌+◌, ◌++◌, List, [], ℕ, Bool, Option, Some};
 ghost use Rattle.std.specs.List.{concat};

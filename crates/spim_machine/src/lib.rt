@@ -1,7 +1,7 @@
-//! The machine: a processor with SPIM's system calls, and its runs.
+//! The simulated machine: a processor with SPIM's system calls, and its runs.
 //!
-//! Input: an image, the sizes of heap and stack, a source and a sink. Output: what the program prints, and how its run
-//! ends. It implements `Calls.antt` and `Run.antt` of `mips_isa`, by `specs/Ends.antt`.
+//! Input: an image (an executable program), the sizes of heap and stack, an input stream (source) and an output stream (sink). Output: what the program prints,
+//! and how its run ends. This crate implements `Calls.antt` and `Run.antt` of `mips_isa`, by `specs/Ends.antt`.
 #![tactic(auto)]
 
 mod halt;

@@ -1,4 +1,4 @@
-//! The machine, and its runs.
+//! The machine: a processor with the state of its system calls, and the functions that run it.
 
 ghost use Rattle.std.specs.Prelude.{◌≡◌, ◌≤◌, List, ℕ, Option, Some, None, [], IfOk};
 ghost use Rattle.mips_isa.specs.Bytes.{segments_of};

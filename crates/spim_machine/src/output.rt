@@ -1,4 +1,4 @@
-//! The printing system calls: the bytes that they put into a sink.
+//! The system calls that print: they write bytes to the output stream, strings in pieces of 64 bytes.
 
 ghost use Rattle.std.specs.Prelude.{◌≡◌, ◌+◌, ◌<◌, ◌++◌, length, OnOk, OnErr};
 ghost use Rattle.cool_ports.specs.Counts.{Rose};
