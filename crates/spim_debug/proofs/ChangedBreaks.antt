@@ -1,4 +1,4 @@
--- Break addresses that a command sets or takes away, and the other commands that leave the run where it is.
+-- Debugger commands that set or delete a breakpoint, or print registers, memory or output counts, leave the debugged run in the same state.
 use Rattle.std.proofs.Common.{◌≡◌, ◌⊎◌, inl, inr, ◌∙◌, refl, sym, ap, subst, ℕ, Bool, true, false, List, [], ◌∷◌, cond, arith}
 use Rattle.std.specs.Prelude.{◌==◌, ◌&&◌, ◌||◌, not, Option, Some}
 use Rattle.std.specs.List.{filter}

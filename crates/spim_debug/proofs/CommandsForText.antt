@@ -1,4 +1,5 @@
--- The commands of a script are those for a text, where each place is the address of a word of it.
+-- Each address in the parsed commands of a debugger script is the address of a machine word in the program's text segment, if all labels and addresses that the
+-- script may name are.
 use Rattle.std.proofs.Common.{subst, ℕ, suc, Bool, true, false, List, [], ◌∷◌}
 use Rattle.std.specs.Prelude.{◌||◌, if◌then◌else◌, codes, bytes_eq, Option, Some, None, IfSome, Result, Ok, Err, IfOk, Vec}
 use Rattle.std.specs.Global.{Global}

@@ -1,4 +1,4 @@
--- The debugger's count of output bytes stays right with each further put, up to the greatest value of the count.
+-- The debugger's count of output bytes stays right with each further write, up to the greatest value of the count.
 use Rattle.std.proofs.Common.{◌≡◌, ◌∙◌, ap, arith, ℕ, ◌+◌, List, [], ◌∷◌, ◌++◌, append-nil, length}
 use Rattle.std.specs.Prelude.{min}
 use Rattle.std.specs.List.{concat}

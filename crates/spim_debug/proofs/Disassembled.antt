@@ -1,4 +1,4 @@
--- The line of a word assembles to it.
+-- If a machine word is disassembled and the resulting line is assembled, the result is the same word.
 use Rattle.std.proofs.Common.{◌≡◌, ℕ, ◌<◌, [], ◌∷◌, Option, Some, None, refl, ap, ◌∙◌, subst}
 use Rattle.mips_isa.specs.declared.instr.Instr.{Instr}
 use Rattle.mips_isa.specs.Lines.{Line, Plain}

@@ -1,4 +1,5 @@
--- A script that is done command by command: the commands that are done, and the notes that were put.
+-- `SoFar` is the invariant of the debugger's loop over a script: after each command, the run stands where the commands so far lead, and their notes (messages)
+-- have been written.
 use Rattle.std.proofs.Common.{◌≡◌, inl, inr, ◌∙◌, refl, sym, ap, subst, ℕ, ◌+◌, ◌-◌, ◌<◌, ◌≤◌, List, [], ◌∷◌, ◌++◌, append_assoc, append-nil, length, drop, get_or, arith}
 use Rattle.std.specs.Prelude.{Option, Some, Ok, Err}
 use Rattle.std.specs.List.{concat}

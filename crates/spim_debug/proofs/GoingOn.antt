@@ -1,4 +1,5 @@
--- A debugged run goes on: by so many instructions, up to a break address, and to its end.
+-- If a debugger command executes instructions (a number of them, up to a breakpoint, or to the end), the debugged run stands where the definition says, or a
+-- read or write failed.
 use Rattle.std.proofs.Common.{◌≡◌, ◌≢◌, ◌∙◌, refl, sym, ap, subst, ℕ, ◌+◌, ◌-◌, ◌≤◌, Bool, List, length, arith}
 use Rattle.std.proofs.Math.Path.{fun_ext}
 use Rattle.std.specs.Prelude.{min, Option, Some, None}

@@ -1,4 +1,4 @@
--- Hexadecimal digits are text.
+-- The hexadecimal digits of bytes are valid UTF-8 text.
 use Rattle.std.proofs.Common.{◌≡◌, ℕ, true, List, [], ◌∷◌, nat_lt, refl}
 use Rattle.std.specs.List.{list_all}
 use Rattle.std.specs.Str.{IsAscii, IsUtf8}

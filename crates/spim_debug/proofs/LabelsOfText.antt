@@ -1,4 +1,4 @@
--- The labels of a text have the addresses of its words.
+-- If a label of an assembly program has an address in the text segment, this is the address of a machine word of the assembled program.
 use Rattle.std.proofs.Common.{◌≡◌, refl, arith, ℕ, ◌+◌, ◌*◌, ◌<◌, Bool, true, false, List, [], ◌∷◌, length}
 use Rattle.std.specs.Prelude.{if◌then◌else◌, nat_lt, ◌&&◌, Option, Some, None, IfSome}
 use Rattle.std.proofs.lemmas.Bool.{ltb-true}

@@ -1,4 +1,4 @@
--- The debugger prints the instruction of a word as the definition says: the text of the statement of its line.
+-- The debugger prints the instruction of a machine word as the definition says: as the text of the statement that the word disassembles to.
 use Rattle.std.proofs.Common.{◌≡◌, ◌∙◌, ap, ℕ, List}
 use Rattle.std.specs.Prelude.{Option, Some, None, Result, Ok, Err, IfOk}
 use Rattle.std.specs.Global.{Vec}

@@ -1,4 +1,5 @@
--- The words of a text from an address on, and the notes of them.
+-- The debugger's command that lists instructions takes the machine words of the text segment from an address on, and writes one note (message) for each of
+-- them.
 use Rattle.std.proofs.Common.{◌≡◌, ◌∙◌, sym, ap, ℕ, ◌+◌, ◌-◌, ◌/◌, ◌<◌, ◌≤◌, List, ◌∷◌, length, take, drop, get_or, arith}
 use Rattle.std.specs.Prelude.{min}
 use Rattle.std.proofs.lemmas.List.{at_drop_more, take_min, take_rest, length-drop}

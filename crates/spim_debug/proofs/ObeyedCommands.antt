@@ -1,4 +1,4 @@
--- The outcome of a command, from the outcomes of its parts: the position of the run, and whether its notes were put.
+-- The outcome of a debugger command follows from the outcomes of its parts: where the run stands, and whether its notes (messages) were written.
 use Rattle.std.proofs.Common.{◌≡◌, ◌⊎◌, inl, inr, ◌∙◌, refl, sym, ap, subst, ℕ, List, [], ◌∷◌}
 use Rattle.std.specs.Prelude.{Option, Some, None, Result, Ok, Err}
 use Rattle.cool_ports.specs.SinkPuts.{SinkSeen, after_puts, PutSome}

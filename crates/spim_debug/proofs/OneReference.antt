@@ -1,4 +1,5 @@
--- A counting sink refers to the same sink through a run: the number with which the list of its puts begins does not change.
+-- Throughout a run, the counting output stream refers to the same underlying stream. The number with which its list of writes begins identifies that stream,
+-- and does not change.
 use Rattle.std.proofs.Common.{◌≡◌, ◌∙◌, refl, sym, ap, subst, ℕ, ◌+◌, List, [], ◌∷◌, ◌++◌, length, arith}
 use Rattle.std.specs.Prelude.{Bool, Option, Some}
 use Rattle.std.specs.List.{concat}

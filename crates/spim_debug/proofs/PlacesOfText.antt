@@ -1,4 +1,4 @@
--- The words of a text that labels and addresses name have the addresses of its words.
+-- If labels name only machine words of the text segment, each label or address that a debugger script may use has the address of a word there.
 use Rattle.std.proofs.Common.{◌≡◌, refl, arith, ℕ, ◌+◌, ◌-◌, ◌*◌, ◌/◌, ◌<◌, Bool, true, false, List, length}
 use Rattle.std.specs.Prelude.{if◌then◌else◌, Option, Some, None, IfSome}
 use Rattle.std.proofs.lemmas.Bool.Decides.{nat_tests}

@@ -1,4 +1,4 @@
--- Reading the parts of a text at its newlines, by the addresses of a table, reads the script.
+-- Parsing the pieces between the newlines of a debugger script, with a table of label addresses, gives the commands that the definition has for the script.
 use Rattle.std.proofs.Common.{◌≡◌, ap, subst, ◌∙◌, ℕ, List}
 use Rattle.std.proofs.Math.Path.{fun_ext}
 use Rattle.std.specs.Prelude.{◌==◌, Option, Result, Vec}

@@ -1,4 +1,4 @@
--- The texts of the numbers below n + 1, joined in order, are those of the numbers below n and then the text of n.
+-- The texts of the numbers below n + 1, joined in order, are those of the numbers below n and then the text of n. The debugger prints registers in this order.
 use Rattle.std.proofs.Common.{◌≡◌, ◌∙◌, sym, ap, ℕ, suc, ◌+◌, List, ◌++◌, append_assoc, arith}
 use Rattle.std.specs.Prelude.{flat_map}
 use Rattle.std.specs.List.{range_with_len}

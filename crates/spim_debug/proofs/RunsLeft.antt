@@ -1,4 +1,5 @@
--- If a run is left after some of its instructions, the output and input up to there are parts of those of the whole run.
+-- If a run of the machine is stopped early, the output so far is a prefix of the whole run's output, and the input left at the end is a suffix of the input
+-- left so far.
 use Rattle.std.proofs.Common.{◌≡◌, ℕ, ◌+◌, ◌-◌, ◌≤◌, List, [], refl, ap, sym, ◌∙◌, subst, arith, append-nil}
 use Rattle.mips_isa.specs.Bytes.{Segments}
 use Rattle.mips_isa.specs.Calls.{State, Outcome, Running, Exited, Trapped}

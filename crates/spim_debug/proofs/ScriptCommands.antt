@@ -1,4 +1,4 @@
--- The commands of a script's lines, line by line.
+-- Parsing a debugger script line by line gives the commands of the whole script: each line appends its command to those before, or is the first error.
 use Rattle.std.proofs.Common.{◌≡◌, refl, sym, ap, ◌∙◌, arith, ℕ, suc, ◌+◌, ◌<◌, ◌≤◌, List, [], ◌∷◌, ◌++◌, append_assoc, length, map, drop, get_or}
 use Rattle.std.specs.Prelude.{Option, Some, None, Result, Ok, Err}
 use Rattle.std.proofs.lemmas.List.{drop_more}

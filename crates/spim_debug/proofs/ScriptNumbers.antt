@@ -1,4 +1,4 @@
--- Bounds on the numbers of a script by the count of their digits: eight hexadecimal digits are a number of 32 bits.
+-- Bounds on the numbers in a debugger script by the count of their digits: eight hexadecimal digits give a number of 32 bits.
 use Rattle.std.proofs.Common.{◌≡◌, ap, sym, ◌∙◌, arith, ℕ, suc, ◌+◌, ◌*◌, ◌^◌, ◌<◌, ◌≤◌, true, List, [], ◌∷◌, length}
 use Rattle.std.proofs.Math.Nat as nat
 use Rattle.std.specs.List.{fold, list_all}

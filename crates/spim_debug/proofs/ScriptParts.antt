@@ -1,4 +1,5 @@
--- The lines of a script are the parts of it, and a last line that is empty says nothing.
+-- The pieces between the newlines of a debugger script are its lines, except that the last piece may be empty. An empty line is no command, so both give the
+-- same commands.
 use Rattle.std.proofs.Common.{◌≡◌, refl, ap, sym, ◌∙◌, arith, ℕ, suc, ◌+◌, ◌≤◌, length, map, Bool, true, false, List, [], ◌∷◌, ◌++◌}
 use Rattle.std.specs.Prelude.{◌==◌, if◌then◌else◌, Option, Result, Ok, Err, IfOk, Vec}
 use Rattle.std.specs.Global.{Global}

@@ -1,4 +1,4 @@
--- The note of words in memory, word by word.
+-- The note (message) of the debugger that shows words in memory is written word by word, and stops at the first word that cannot be loaded.
 use Rattle.std.proofs.Common.{◌≡◌, ◌∙◌, sym, ap, ℕ, suc, ◌+◌, List, ◌++◌, append_assoc}
 use Rattle.std.specs.Prelude.{codes, Result, Ok, Err}
 use Rattle.mips_isa.specs.Bytes.{Bytes, Segments}

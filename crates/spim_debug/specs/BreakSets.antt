@@ -1,4 +1,4 @@
--- `in_set` says whether an address is a break address, given a mark for each word of the text.
+-- `in_set` says whether an address is a breakpoint, given a Boolean for each machine word of the text segment.
 use Rattle.std.specs.Prelude.{ℕ, ◌^◌, Bool, ◌&&◌, nat_lt, List}
 use Rattle.spim_cpu.specs.Advancing.{is_marked}
 

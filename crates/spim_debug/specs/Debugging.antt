@@ -1,4 +1,5 @@
--- `Debugged` is the result of debugging a run with a script: its output, the rest of its input, and the notes (messages), where reads and writes may fail.
+-- `Debugged` is the result of debugging a run with a script: its output, the rest of its input, and the notes (messages of the debugger), if reads and writes
+-- may fail.
 use Rattle.std.specs.Prelude.{◌≡◌, ◌⊎◌, ℕ, ◌≤◌, ◌<◌, ◌+◌, ◌*◌, List, ◌∷◌, ◌++◌, length, Option, Some}
 use Rattle.std.specs.List.{AllByRecursion, concat}
 use Rattle.cool_ports.specs.Counts.{Rose}

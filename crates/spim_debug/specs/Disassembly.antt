@@ -1,4 +1,4 @@
--- `disassembled` gives the line of assembly of a word: that of its instruction, without labels.
+-- `disassembled` gives the line of assembly of a machine word: that of its instruction, without labels.
 use Rattle.std.specs.Prelude.{◌≡◌, refl, ℕ, pos, negsuc, [], ◌∷◌, Option, Some, None}
 use Rattle.mips_isa.specs.declared.line.Line as declared_line
 use Rattle.mips_isa.specs.declared.instr.Instr.{Instr}

@@ -1,5 +1,5 @@
--- `moves` defines the effect of a debugger command on a run: the number of instructions executed after it, and the break addresses. It is defined only over
--- runs of the machine.
+-- `moves` defines the effect of a debugger command on a run: the number of instructions executed after it, and the breakpoints. It is defined only over runs of
+-- the machine.
 use Rattle.std.specs.Prelude.{ℕ, ◌+◌, ◌-◌, ◌==◌, min, not, Bool, false, List, [], ◌∷◌}
 use Rattle.std.specs.List.{filter, list_any}
 use Rattle.mips_isa.specs.Bytes.{Segments}

@@ -1,4 +1,4 @@
--- The notes (messages) that the debugger writes after each command, by the state that the run is in. The texts are in `docs/debugger.md`, Notes.
+-- The texts of the notes (messages) that the debugger writes after each command, by the state of the run. They are described in `docs/debugger.md`, Notes.
 use Rattle.std.specs.Prelude.{◌≡◌, refl, ℕ, zero, suc, ◌+◌, ◌-◌, ◌/◌, List, [], ◌∷◌, ◌++◌, length, flat_map, take, drop, codes, decimal, Option, Some, None, Result, Ok, Err}
 use Rattle.std.specs.Int.{w32, to_be_bytes}
 use Rattle.std.specs.List.{range_with_len}

@@ -1,4 +1,5 @@
--- `Stands` is the debugger's invariant at a position in its script, and `Obeyed` the outcome of one command.
+-- `Stands` is the debugger's invariant between two commands of a script: the machine is in the state to which the commands so far lead. `Obeyed` is the outcome
+-- of one command.
 use Rattle.std.specs.Prelude.{◌≡◌, ℕ, ◌-◌, ◌≤◌, List, [], ◌∷◌, length, Option, Some, None, Result, Ok, Err}
 use Rattle.cool_ports.specs.Counts.{Rose}
 use Rattle.cool_ports.specs.SinkPuts.{SinkSeen, after_puts, PutSome}

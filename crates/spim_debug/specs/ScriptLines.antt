@@ -1,5 +1,5 @@
--- The shared parts of the functions that parse a script's lines: the address that a label or a number names (`place_by`), the command at an address, and a
--- command added to a list.
+-- The shared parts of the functions that parse a debugger script: the address that a label or a number names (`place_by`), the command at an address, and a
+-- command appended to a list.
 use Rattle.std.specs.Prelude.{ℕ, List, [], ◌∷◌, ◌++◌, Option, Some, None}
 use Rattle.mips_asm.specs.TextLabels.{TextLabelParts, address_of}
 use Rattle.spim_debug.specs.declared.script.DebugCommand.{DebugCommand}

@@ -1,5 +1,5 @@
--- `commands_in` parses a debugger script: one command for each line that is not empty, or the first line that is no command or names no word of the program's
--- text. The rule is in `docs/debugger.md`, Scripts.
+-- `commands_in` parses a debugger script: one command for each line that is not empty, or the first line that is not a command or names no machine word of the
+-- program. The rule is in `docs/debugger.md`, Scripts.
 use Rattle.std.specs.Prelude.{◌≡◌, refl, ℕ, suc, ◌==◌, ◌&&◌, ◌||◌, nat_le, if◌then◌else◌, List, [], ◌∷◌, length, bytes_eq, codes, Option, Some, None, Result, Ok, Err}
 use Rattle.std.specs.Option.{is_some}
 use Rattle.mips_isa.specs.Lines as lines

@@ -1,4 +1,4 @@
-//! The break addresses of a text.
+//! The set of breakpoints of a program, with a Boolean for each machine word of its text.
 
 ghost use Rattle.std.specs.Prelude.{◌≡◌, ◌==◌, ◌&&◌, ◌||◌, not, ℕ, length, IfOk, false};
 ghost use Rattle.spim_debug.specs.BreakSets.{in_set};

@@ -1,4 +1,4 @@
-//! A run of the machine whose output is counted.
+//! A run of the machine that counts the bytes of its output.
 
 ghost use Rattle.std.specs.Prelude.{◌≡◌, ◌≤◌, List, ℕ, Option, Some, None};
 ghost use Rattle.cool_ports.specs.Taking.{Took, OfAnyInput};

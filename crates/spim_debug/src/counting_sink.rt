@@ -1,4 +1,4 @@
-//! A sink that counts the bytes that are put into another.
+//! An output stream (sink) that passes its bytes to another stream and counts them.
 
 ghost use Rattle.std.specs.Prelude.{◌≡◌, ◌++◌, ◌∷◌, [], length};
 ghost use Rattle.std.specs.List.{concat};

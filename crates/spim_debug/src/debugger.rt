@@ -1,4 +1,4 @@
-//! The debugger: a run of the machine that stops where it is asked to, and notes what it is asked for.
+//! The debugger: it runs a program, stops at breakpoints, and writes the notes (messages) that the commands of a script ask for.
 
 ghost use Rattle.std.specs.Prelude.{◌≡◌, ◌≤◌, ◌<◌, ◌+◌, ◌-◌, List, [], ◌∷◌, ℕ, Bool, Option, Some, false, length, IfOk, OnOk};
 ghost use Rattle.cool_ports.specs.Answers.{Leaves};

@@ -1,4 +1,4 @@
-//! The hexadecimal digits of a word.
+//! The eight hexadecimal digits of a machine word.
 
 ghost use Rattle.std.specs.Prelude.{◌≡◌};
 ghost use Rattle.arrayvec.specs.ArrayString.{array_string_len};

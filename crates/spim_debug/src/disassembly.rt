@@ -1,4 +1,4 @@
-//! Disassembly: the line of assembly of a word.
+//! Disassembly: converting a machine word to a line of assembly.
 
 ghost use Rattle.std.specs.Prelude.{◌≡◌};
 ghost use Rattle.spim_debug.specs.Disassembly.{line_of_option, disassembled};

@@ -1,4 +1,4 @@
-//! Laws of disassembly.
+//! The theorem that a disassembled machine word, assembled again, gives the same word.
 
 ghost use Rattle.std.specs.Prelude.{◌≡◌, ◌<◌, ◌∷◌, [], ℕ, ◌^◌, Some, None};
 ghost use Rattle.mips_isa.specs.Lines.{Line};

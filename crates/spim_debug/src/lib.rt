@@ -1,8 +1,8 @@
-//! The debugger of the machine.
+//! The debugger of the simulated machine, controlled by a script.
 //!
-//! Input: an image, a script, a source and two sinks. Output: what the program prints, the notes that the script asks for, and
-//! how the run ends. It implements `Moves.antt`, `Notes.antt` and `Debugging.antt`; the reading of a script meets `Scripts.antt`, and
-//! disassembly `Decoding.antt` of `mips_isa`.
+//! Input: an image (an executable program), a script, an input stream (source) and two output streams (sinks). Output: what the program prints, the notes
+//! (messages) that the script asks for, and how the run ends. This crate implements `Moves.antt`, `Notes.antt` and `Debugging.antt`; the parsing of a script
+//! meets `Scripts.antt`, and disassembly `Decoding.antt` of `mips_isa`.
 #![tactic(auto)]
 
 mod break_set;

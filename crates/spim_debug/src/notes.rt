@@ -1,4 +1,4 @@
-//! The texts of the debugger's notes.
+//! The texts of the debugger's notes (messages): the current address, registers, memory, instructions and output counts.
 
 ghost use Rattle.std.specs.Prelude.{◌≡◌, ◌+◌, ◌≤◌, ◌++◌, IfOk, decimal, codes, Result};
 ghost use Rattle.arrayvec.specs.ArrayString.{array_string_len};

@@ -1,4 +1,4 @@
-//! The address of the word of a program's text that a label or an address of a script names.
+//! The address of the machine word that a label or an address in a debugger script names.
 
 ghost use Rattle.std.specs.Prelude.{◌≡◌, ◌||◌};
 ghost use Rattle.std.specs.Option.{is_some};

@@ -1,4 +1,4 @@
-//! Scripts: the commands of a debugger, line by line.
+//! Debugger scripts: the commands that a script may have, and parsing a script.
 
 ghost use Rattle.std.specs.Prelude.{◌≡◌, ◌-◌, ◌^◌, ◌<◌, ◌≤◌, length, IfOk, None};
 ghost use Rattle.mips_isa.specs.Lines.{lines_of, AreInRange};

@@ -1,4 +1,4 @@
-//! Reading the lines of a script, each by itself.
+//! Parsing the lines of a debugger script, one command for each.
 
 ghost use Rattle.std.specs.Prelude.{◌≡◌, ◌≤◌, IfOk, length, map, suc};
 ghost use Rattle.spim_debug.specs.Scripts.{IsReadAs, address_in, alone, commands_from, number_in, said, said_by, with_number, with_numbers, with_operand, with_operands, with_place};

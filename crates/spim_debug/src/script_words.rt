@@ -1,4 +1,4 @@
-//! The words of a script's lines: parts of a text, and numbers.
+//! Splitting the lines of a debugger script into words, and reading its numbers and addresses.
 
 ghost use Rattle.std.specs.Prelude.{◌≡◌, ◌≤◌, ◌<◌, ◌+◌, ◌==◌, true, length, map, IfOk, IfSome};
 ghost use Rattle.std.specs.Char.{is_ascii_digit};

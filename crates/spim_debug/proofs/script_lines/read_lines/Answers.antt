@@ -1,4 +1,4 @@
--- `read_lines` returns the commands of the lines of a script; each step of its loop appends the command of one line, if it has one.
+-- `read_lines` returns the commands of the lines of a debugger script, because each iteration of its loop appends the command of one line, if it has one.
 use Rattle.std.proofs.Common.{sym, ◌∙◌}
 use Rattle.spim_debug.specs.ScriptLines.{place_by}
 use Rattle.spim_debug.proofs.ScriptCommands.{line_on}
