@@ -1,4 +1,4 @@
--- Scanning after an opening quote finds the string constant there, or its lexical error. No longer text is a string constant.
+-- Scanning after an opening quote finds the string constant there, or its lexical error. At most one prefix of a text is a string constant.
 use Rattle.std.proofs.Common.{◌≡◌, ◌∙◌, ap, refl, arith, ℕ, zero, suc, ◌+◌, ◌≤◌, Bool, true, false, List, [], ◌∷◌, ◌++◌, length, take, append_assoc, length-append}
 use Rattle.std.specs.Prelude.{Option, Some, None, option_map, ◌==◌, if◌then◌else◌}
 use Rattle.cool_syntax.specs.declared.TheConstants.{MOST_BYTES}

@@ -1,4 +1,4 @@
--- `BeginsWithItem` says that a text begins with a good item (a lexeme, white space or a comment) of some size.
+-- `BeginsWithItem` says that a text begins with a valid lexeme, white space or a comment of the given number of bytes.
 use Rattle.std.specs.Prelude.{ℕ, List}
 use Rattle.cool_syntax.specs.Lexemes.{Form}
 use Rattle.cool_syntax.specs.LexicalStructure.{IsItem}

@@ -1,4 +1,4 @@
-//! The steps of the parser for the heads of classes, and of their methods and attributes.
+//! The steps of the parser for classes, and for the heads and ends of their methods and attributes.
 
 ghost use Rattle.std.specs.Prelude.{◌≡◌, ◌-◌, ◌<◌, ◌^◌, length, IfOk};
 ghost use Rattle.cool_syntax.specs.NodeLists.{IsPostorder};

@@ -1,4 +1,5 @@
--- `nodes` lists the nodes of a tree in postorder, `tree_of` makes the tree of a list again, and `tree_at` is the subtree whose root has a given number.
+-- `nodes` lists the nodes of a syntax tree in postorder, `tree_of` recovers the tree from its list, and `tree_at` is the subtree whose root is at a given index
+-- of the list.
 use Rattle.std.specs.Prelude.{◌≡◌, ℕ, ◌+◌, ◌-◌, ◌<◌, List, [], ◌∷◌, ◌++◌, Option, Some, None, IfSome, length, map, get_or, refl}
 use Rattle.std.specs.List.{AllByRecursion}
 use Rattle.std.specs.Option.{option_map}

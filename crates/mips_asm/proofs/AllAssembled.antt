@@ -1,4 +1,4 @@
--- The second pass of the assembler returns the image that the definition gives after the last line, or the definition's first error.
+-- The second pass of the assembler returns the image (the executable program) that the definition gives after the last line, or the definition's first error.
 use Rattle.std.proofs.Common.{◌≡◌, sym, ◌∙◌, ap, subst, ℕ, suc, ◌+◌, List, [], ◌∷◌, ◌<◌, add-one, length, Bool, true, false, Option, Some, None, Result, Ok, Err, if◌then◌else◌, arith}
 use Rattle.std.proofs.lemmas.List.{append-nil}
 use Rattle.std.specs.Result.{OnOk, IfOk, IfErr}

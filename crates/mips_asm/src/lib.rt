@@ -1,4 +1,4 @@
-//! The assembler for MIPS assembly: from lines to an image (text, data and entry address).
+//! The assembler: from lines of MIPS assembly to an image (an executable program: text, data and entry address).
 //!
 //! Input: lines of assembly. Output: an image, or the first error. This crate implements `Assembly.antt` of `mips_isa`.
 #![tactic(auto)]

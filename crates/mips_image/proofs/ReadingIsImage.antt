@@ -1,4 +1,4 @@
--- Bytes in which the reader finds no error are exactly the bytes of the image that it reads from them.
+-- Bytes in which the reader finds no error are exactly the bytes of the image (the executable program) that it reads from them.
 use Rattle.std.proofs.Common.{◌≡◌, ℕ, suc, zero, ◌+◌, ◌*◌, ◌^◌, ◌<◌, ◌≤◌, Bool, true, false, not, cond, List, [], ◌∷◌, ◌++◌, length, take, drop, get_or, flat_map, Some, None, inl, inr, refl, sym, ◌∙◌, ap, append_assoc, arith}
 use Rattle.std.specs.Prelude.{Option, nat_lt, bytes_eq, ◌==◌}
 use Rattle.std.specs.List.{AllByRecursion}

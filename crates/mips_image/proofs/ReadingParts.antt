@@ -1,4 +1,5 @@
--- Bytes that pass the tests of the reader have as many words of text and bytes of data as the header says, and these sizes are those of a valid image.
+-- Bytes that pass the tests of the reader have as many words of text and bytes of data as their header says, and these sizes are those of a valid image (an
+-- executable program).
 use Rattle.std.proofs.Common.{◌≡◌, ℕ, suc, zero, ◌+◌, ◌-◌, ◌*◌, ◌%◌, ◌<◌, ◌≤◌, true, List, [], ◌∷◌, ◌++◌, length, drop, refl, ◌∙◌, ap, append_assoc, arith}
 use Rattle.mips_isa.specs.declared.address_map.TheConstants.{TEXT_START}
 use Rattle.mips_isa.specs.ImageBounds.{ImageParts, IsImage}

@@ -1,4 +1,4 @@
--- A run only consumes input: the input left is a suffix of the input before.
+-- A run of the machine only consumes input: the input left after it is a suffix of the input before.
 use Rattle.std.specs.Prelude.{◌≡◌, ℕ, zero, suc, Bool, true, false, if◌then◌else◌, List, [], ◌∷◌, ◌++◌, length, Option, Some, None, refl, ◌==◌, ◌||◌, nat_le, not, ◌+◌, ◌-◌}
 use Rattle.std.proofs.Common.{ap, sym, ◌∙◌, append_assoc}
 use Rattle.mips_isa.specs.Bytes.{Segments}

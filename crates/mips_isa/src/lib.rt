@@ -1,4 +1,4 @@
-//! The instructions of the integer R2000 (a MIPS processor), their encoding as words, and the lines of assembly.
+//! The instructions of the integer R2000 (a MIPS processor), their encoding as 32-bit words, and the lines of assembly.
 //!
 //! Input: words, or instructions. Output: the instructions or the words for them. This crate implements `specs/Words.antt`, the one table that the encoder, the
 //! decoder and everything about emitted code reads.

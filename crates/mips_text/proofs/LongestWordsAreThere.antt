@@ -1,4 +1,4 @@
--- The token that the definition finds at a position of a line is the longest one there: no longer piece of the line is a token.
+-- The token that the definition finds at a position of a line is the longest one there: longer pieces of the line are not tokens.
 use Rattle.std.proofs.Common.{◌≡◌, ◌∙◌, sym, ap, refl, arith, ℕ, zero, suc, ◌≤◌, ◌⊎◌, ⊎_elim, List, [], length, take}
 use Rattle.std.specs.Prelude.{Option, Some, None}
 use Rattle.mips_text.specs.declared.class.Start.{Start}

@@ -1,4 +1,4 @@
--- `prefix_len` is the length of the longest prefix whose bytes all pass a test: each prefix up to this length passes, and no longer one does.
+-- `prefix_len` is the length of the longest prefix of a text whose bytes all pass a test: each prefix up to this length passes, and each longer one fails.
 use Rattle.std.proofs.Common.{◌≡◌, ◌∙◌, ap, refl, arith, ℕ, zero, suc, ◌≤◌, ◌<◌, Bool, true, false, List, [], ◌∷◌, length, take}
 use Rattle.std.specs.Prelude.{◌&&◌}
 use Rattle.std.specs.List.{list_all, prefix_len}

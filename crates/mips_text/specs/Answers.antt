@@ -1,4 +1,4 @@
--- The results of the functions that parse assembly: those of the definition (`Reading.antt`), unless memory ran out.
+-- `Meets` and `TextReadsAs` say that the functions that parse assembly return the results of the definition (`Reading.antt`), unless memory ran out.
 use Rattle.std.specs.Prelude.{◌≡◌, ℕ, List, [], ◌∷◌, Result, Ok, Err, Vec}
 use Rattle.mips_isa.specs.declared.asm_fault.AsmKind.{AsmKind}
 use Rattle.mips_isa.specs.declared.asm_fault.AsmError.{AsmError}

@@ -1,4 +1,4 @@
--- The text of each mnemonic, directive and register of assembly.
+-- The name of each mnemonic, directive and register of assembly, as text.
 use Rattle.std.specs.Prelude.{ℕ, List, [], ◌∷◌, codes, get_or, bytes_eq, Option, Bool, false, ◌&&◌, ◌==◌}
 use Rattle.std.specs.List.{find, list_all}
 use Rattle.mips_text.specs.Letters.{name_rest, name_start}

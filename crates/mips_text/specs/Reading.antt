@@ -1,4 +1,4 @@
--- The parsing of assembly: `Reads` gives the lines of a text, and `FirstFault` the first line that is not valid, with the kind of its first bad word. The
+-- The parsing of assembly: `Reads` gives the lines of a text, and `FirstFault` the first line that is not valid, with the error of its first wrong token. The
 -- rule is in `docs/assembly.md`, Lines, Statements and Faults.
 use Rattle.std.specs.Prelude.{◌≡◌, refl, ℕ, pos, negsuc, ◌+◌, Bool, false, ◌==◌, ◌&&◌, if◌then◌else◌, List, [], ◌∷◌, ◌++◌, length, map, codes, Option, Some, None, Result, Ok, Err}
 use Rattle.mips_isa.specs.declared.asm_fault.AsmKind.{AsmKind}

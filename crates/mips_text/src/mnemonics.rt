@@ -1,4 +1,4 @@
-//! The mnemonics of instructions and pseudoinstructions, and the search for one by its name.
+//! The mnemonics (names) of instructions and pseudoinstructions, and the search for one by its name.
 
 ghost use Rattle.std.specs.Prelude.{◌≡◌, bytes_eq};
 ghost use Rattle.std.specs.List.{find};

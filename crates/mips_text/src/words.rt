@@ -1,4 +1,4 @@
-//! Scanning the tokens of a line of assembly: names, numbers, registers, strings and signs.
+//! The tokens of a line of assembly (names, numbers, registers, strings and signs), and scanning them.
 
 ghost use Rattle.std.specs.Prelude.{◌≡◌, ◌∷◌, [], ◌<◌, ◌≤◌, IfSome, MatchOption, OnOk, length, map, option_map};
 ghost use Rattle.mips_text.specs.Words.{words_behind, words_of, with_front};

@@ -1,4 +1,4 @@
--- `CpuParts` is the processor as contracts see it, and `core_of` converts it to the state of the machine's definition.
+-- `CpuParts` is the simulator's processor as contracts see it, and `core_of` converts it to the state of the machine's definition.
 use Rattle.std.specs.Prelude.{◌≡◌, ℕ, ◌+◌, List, length, get_or, Result, Ok, Err}
 use Rattle.mips_isa.specs.declared.register.TheConstants.{ZERO}
 use Rattle.mips_isa.specs.declared.trap.Trap.{Trap}

@@ -1,4 +1,4 @@
--- `counted` is the debugger's count of output bytes, which stays at its greatest value, and `GrewBy` relates the count to the output of a run.
+-- `counted` is the debugger's count of output bytes, which stops at its greatest value, and `GrewBy` relates the count to the output of a run.
 use Rattle.std.specs.Prelude.{◌≡◌, ℕ, ◌+◌, min, List, length}
 use Rattle.cool_ports.specs.Counts.{last_count}
 use Rattle.spim_machine.specs.declared.halt.Halt.{Halt}

@@ -1,4 +1,4 @@
-//! An output stream (sink) that passes its bytes to another stream and counts them.
+//! An output stream (sink) that passes its bytes to another output stream and counts them.
 
 ghost use Rattle.std.specs.Prelude.{◌≡◌, ◌++◌, ◌∷◌, [], length};
 ghost use Rattle.std.specs.List.{concat};

@@ -1,5 +1,5 @@
--- If a run reaches a system call whose read or write may fail, the output so far is a prefix of the whole run's output, and the input left at the run's end is
--- a suffix of the input left there.
+-- If a run reaches a system call whose read or write may fail, the output so far is a prefix of the whole run's output. The input left at the run's end is a
+-- suffix of the input left there.
 use Rattle.std.specs.Prelude.{if◌then◌else◌, ◌==◌, ◌||◌, not, nat_le}
 use Rattle.std.proofs.Common.{◌≡◌, ℕ, zero, suc, ◌+◌, ◌-◌, ◌≤◌, Bool, true, false, List, [], ◌∷◌, ◌++◌, length, Option, Some, None, ap, sym, ◌∙◌, subst, arith, append_assoc}
 use Rattle.std.proofs.lemmas.List.{length-append}

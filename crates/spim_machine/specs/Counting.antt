@@ -1,4 +1,5 @@
--- The number of instructions that a run executes before it stops: at its end, at a break address, or when it may execute no more.
+-- `before_break`, `moved` and `executed_in` count the instructions that a run executes before it stops: at its end, at a breakpoint, or when its budget is
+-- spent.
 use Rattle.std.specs.Prelude.{◌≡◌, ℕ, zero, suc, Bool, if◌then◌else◌, List, Option}
 use Rattle.mips_isa.specs.Bytes.{Segments}
 use Rattle.mips_isa.specs.Calls.{State, Outcome, Running, Exited, Trapped}

@@ -1,4 +1,4 @@
--- `MachineParts` is the machine as contracts see it, and `IsIn` relates it, with its input and output, to a state of the machine's definition.
+-- `MachineParts` is the simulated machine as contracts see it, and `IsIn` relates it, with its input and output, to a state of the machine's definition.
 use Rattle.std.specs.Prelude.{◌≡◌, ℕ, Bool, List, Option, Some, None}
 use Rattle.cool_ports.specs.SinkBytes.{appended}
 use Rattle.mips_isa.specs.Calls.{State}

@@ -1,5 +1,5 @@
--- `assemble` passes all lines to the first pass at once, and then to the second pass at once. Its result is that of `SecondPass::finish`, which is the image or
--- error that the definition `Assembles` demands.
+-- `assemble` passes all lines to the first pass at once, and then to the second pass at once. It returns the image (the executable program) or the first error
+-- that the definition `Assembles` demands, because `SecondPass::finish` does.
 use Rattle.std.proofs.Common.{[], append-nil, sym, subst}
 use Rattle.mips_isa.specs.Lines.{lines_of}
 use Rattle.mips_asm.specs.SecondPasses.{HasLeft}

@@ -1,4 +1,4 @@
-//! SPIM's system calls: one function for each.
+//! The execution of SPIM's system calls: one function for each.
 
 ghost use Rattle.std.specs.Prelude.{◌≡◌, ◌+◌, ◌-◌, ◌%◌, ◌<◌, ◌≤◌, List, ℕ, length, Option, Ok, IfOk, OnOk, OnErr, true, false, ◌++◌, [], ◌∷◌};
 ghost use Rattle.std.specs.Fmt.{signed_decimal};

@@ -1,4 +1,4 @@
--- `add_bytes` appends the lowest byte of each number of `.byte`; each step of its loop appends one byte.
+-- `add_bytes` appends the lowest byte of each operand of `.byte`, because each iteration of its loop appends one byte.
 use Rattle.std.proofs.Common.{◌≡◌, ◌∙◌, ap, ℕ, ℤ, List, [], ◌∷◌, ◌+◌, ◌<◌, ◌%◌, ◌++◌, map, drop, get_or, length, add-one, sym, pos, rules}
 use Rattle.std.proofs.lemmas.List.{append_assoc}
 use Rattle.std.proofs.Math.Seq.{drop-cons}

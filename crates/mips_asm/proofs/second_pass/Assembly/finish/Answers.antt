@@ -1,4 +1,4 @@
--- `Assembly::finish`, called after the last line, returns the image that the definition gives, or its first error.
+-- `Assembly::finish`, called after the last line, returns the image (the executable program) that the definition gives, or its first error.
 use Rattle.std.proofs.Common.{◌≡◌, [], refl, Some, None, Option}
 use Rattle.mips_isa.specs.declared.asm_fault.AsmFault.{AsmFault}
 use Rattle.mips_isa.specs.Assembly.{start_name}

@@ -1,4 +1,5 @@
--- `SecondPass::finish` assembles the lines that define a missing `__start`, after all other lines, and returns the image or the first error.
+-- `SecondPass::finish` assembles the lines that define a missing `__start`, after all other lines, and returns the image (the executable program) or the first
+-- error.
 use Rattle.std.proofs.Common.{◌≡◌, ◌++◌, [], List, append-nil, ap, sym, ◌∙◌, subst}
 use Rattle.mips_isa.specs.Lines.{Line, lines_of, AreInRange}
 use Rattle.mips_asm.specs.Places.{places_of}
