@@ -1,5 +1,5 @@
--- `plan_of` defines the plan (the parsed command line: a command with its files and limits) of a list of arguments. There is none if clap, the library that
--- parses arguments, rejects them, or if a number or file name is out of bounds.
+-- `plan_of` defines the plan (the parsed command line: a command with its files and limits) of a list of arguments. There is none if the first argument is no
+-- command, if clap, the library that parses arguments, rejects the others, or if a number or file name is out of bounds.
 use Rattle.std.specs.Prelude.{◌≡◌, ◌&&◌, ◌==◌, ℕ, Bool, true, false, not, List, [], ◌∷◌, length, map, nat_le, nat_lt, if◌then◌else◌, Option, Some, None, option_map, option_and_then, bytes_eq, codes, String, string_bytes, Result, MatchResult, ⊤, refl}
 use Rattle.std.specs.List.{list_all, list_any, repeat}
 use Rattle.std.specs.Global.{Global}

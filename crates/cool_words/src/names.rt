@@ -1,4 +1,4 @@
-//! The check of file names in the arguments: at most 4,096 bytes, and no byte 0.
+//! Checking and copying the file names in the arguments: each has at most 4,096 bytes, and no byte 0.
 
 ghost use Rattle.std.specs.Prelude.{◌≡◌, IfOk};
 ghost use Rattle.clap.specs.Walk.{texts};

@@ -1,4 +1,5 @@
--- The effect of the system call `read_string` is as the definition says for each size: it traps, reads nothing, or stores a line in the buffer.
+-- The system call `read_string` has the effect that the definition gives for each size: it does nothing, traps, or stores a line in the buffer, unless a read
+-- fails.
 use Rattle.std.proofs.Common.{◌≡◌, ℕ, ◌-◌, ◌<◌, Bool, true, false, not, List, [], ◌∷◌, ◌++◌, ℤ, pos, w32, if◌then◌else◌, refl, sym, ◌∙◌, ap, arith}
 use Rattle.std.specs.Prelude.{Option, Result, Ok, Err, ◌==◌, ◌||◌, int_lt}
 use Rattle.std.specs.Int.{cast_signed, cast_unsigned}
