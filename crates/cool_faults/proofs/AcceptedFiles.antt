@@ -1,4 +1,4 @@
--- Files that are accepted have no fault: no phase finds one.
+-- Accepted source files have no compile-time errors: no phase of the front end finds one in them.
 use Rattle.std.proofs.Common.{◌≡◌, ℕ, List, [], ◌∷◌, sym, refl, subst, arith}
 use Rattle.cool_syntax.specs.declared.file_tree.ClassDef.{ClassDef}
 use Rattle.cool_syntax.specs.declared.place.Place.{Place}

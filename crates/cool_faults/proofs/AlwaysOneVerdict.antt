@@ -1,4 +1,4 @@
--- Files within the limits are a program, or are refused with their fault list.
+-- Source files within the limits on their number and size are either accepted as a program or rejected with their list of compile-time errors.
 use Rattle.std.proofs.Common.{◌≡◌, ◌≢◌, ◌⊎◌, inl, inr, ℕ, ◌<◌, ◌≤◌, List, [], ◌∷◌, map, length, refl, sym, subst, arith}
 use Rattle.std.specs.List.{AllByRecursion}
 use Rattle.std.specs.List.Sorted.{IsPermutation}

@@ -1,4 +1,4 @@
--- The definitions of whole files keep the limits, and are few.
+-- The class definitions of parsed files satisfy the limits on sizes and source locations, and there are fewer than 2^32 of them.
 use Rattle.std.proofs.Common.{◌≡◌, ℕ, ◌+◌, ◌-◌, ◌<◌, ◌≤◌, ◌^◌, List, [], ◌∷◌, ◌++◌, length, arith}
 use Rattle.std.specs.List.{AllByRecursion}
 use Rattle.cool_syntax.specs.declared.TheConstants.{MOST_SOURCE_BYTES}

@@ -1,4 +1,4 @@
--- The faults of the lexer, of the parser, of classes and of features are those of phases before typing.
+-- The compile-time errors from the lexer, the parser and the checks of classes and features are errors of phases before type checking.
 use Rattle.std.specs.Prelude.{ℕ, List, [], ◌∷◌}
 use Rattle.std.specs.List.{AllByRecursion}
 use Rattle.cool_lexer.specs.declared.lexer.Lexed.{Lexed}

@@ -1,4 +1,4 @@
--- No files are both faultless before typing and refused by a phase before it.
+-- No source files are both free of errors before type checking and rejected by a phase before type checking.
 use Rattle.std.proofs.Common.{◌≡◌, inl, inr, ℕ, List, [], ◌∷◌, map, Contains, sym, refl, subst}
 use Rattle.std.specs.List.{AllByRecursion}
 use Rattle.std.specs.List.Sorted.{IsPermutation}

@@ -1,4 +1,4 @@
--- Definitions without a fault of classes and features make a whole table that keeps the rules of classes and the limits.
+-- Class definitions without errors of classes or features have a class table that satisfies the rules for classes and the compiler's limits.
 use Rattle.std.proofs.Common.{◌≡◌, ◌≢◌, ℕ, zero, suc, ◌+◌, ◌<◌, ◌≤◌, List, [], ◌∷◌, ◌++◌, take, length, get_or, Option, Some, None, Bool, true, false, Contains, ap, sym, ◌∙◌, refl, subst, arith}
 use Rattle.std.specs.Prelude.{slice_get, nat_lt}
 use Rattle.std.specs.List.{AllByRecursion}

@@ -1,4 +1,4 @@
--- The first fault of an expression or a feature stands at one of its places.
+-- The first type error of a feature is at one of the source locations in the feature's syntax tree.
 use Rattle.std.proofs.Common.{ℕ, List, [], ◌∷◌, ◌++◌, Option, Some, None, Bool, true, false}
 use Rattle.std.specs.Prelude.{Ok, Err, IfErr, IfSome, nat_eq, length, if◌then◌else◌, not, ◌&&◌, ◌||◌}
 use Rattle.std.specs.Option.{option_or}

@@ -1,4 +1,4 @@
--- The number of bytes of files together.
+-- The total size of a list of files with one file appended is the total size of the list plus the size of that file.
 use Rattle.std.proofs.Common.{◌≡◌, ℕ, ◌+◌, List, [], ◌∷◌, ◌++◌, length, arith}
 use Rattle.cool_faults.specs.Files.{total}
 

@@ -1,4 +1,4 @@
--- The lexer and the parser give for each file its tokens or its first fault, and then its tree or its first fault.
+-- Each file has either tokens or a first lexical error, and the tokens of each file have either a syntax tree or a syntax error.
 use Rattle.std.proofs.Common.{◌≡◌, ◌⊎◌, inl, inr, ℕ, ◌+◌, ◌≤◌, List, [], ◌∷◌, length, ap, sym, refl, subst, arith}
 use Rattle.std.specs.Global.{Vec}
 use Rattle.cool_syntax.specs.declared.TheConstants.{MOST_SOURCE_BYTES}

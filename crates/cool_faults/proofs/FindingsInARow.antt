@@ -1,4 +1,4 @@
--- The findings of a phase, one file after another.
+-- The results and errors of a phase for the inputs so far, followed by those for the inputs that are left, are its results and errors for all inputs.
 use Rattle.std.proofs.Common.{◌≡◌, inl, inr, ℕ, ◌+◌, List, [], ◌∷◌, ◌++◌, ap, sym, ◌∙◌, refl, subst, append_assoc}
 use Rattle.std.proofs.lemmas.List.{append-nil}
 use Rattle.std.specs.Prelude.{Result, Ok, Err, MatchResult}

@@ -1,5 +1,5 @@
--- The walks over definitions end: each list of parents has the definitions on its cycles and, where there are none, the depth of each
--- definition.
+-- Following the parent of each class ends: it finds the classes on inheritance cycles and, if there are none, the depth of each class in the class
+-- hierarchy.
 use Rattle.std.proofs.Common.{◌≡◌, inl, inr, ℕ, zero, suc, ◌+◌, ◌-◌, ◌<◌, ◌≤◌, List, [], ◌∷◌, ◌++◌, length, get_or, set, Option, Some, None, Bool, true, false, ap, sym, ◌∙◌, refl, subst, arith}
 use Rattle.std.specs.Prelude.{IsSome, nat_lt, replicate}
 use Rattle.std.specs.List.{AllByRecursion}

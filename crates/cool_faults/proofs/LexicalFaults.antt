@@ -1,4 +1,4 @@
--- The findings of the lexer are the lexical faults, in the order of files.
+-- The errors that the lexing phase finds are the first lexical errors of the files, in the order of the files.
 use Rattle.std.proofs.Common.{◌≡◌, inl, inr, ℕ, ◌+◌, ◌<◌, ◌≤◌, ◌==◌, List, [], ◌∷◌, length, take, get_or, zero, suc, ap, arith, min}
 use Rattle.std.specs.List.{count_by}
 use Rattle.std.specs.Global.{Vec}

@@ -1,4 +1,4 @@
--- The class table of definitions is unique: it is the one that `classes_meant` makes of them.
+-- The class table of a list of class definitions is unique: it is the one that `classes_meant` computes from the definitions.
 use Rattle.std.proofs.Common.{◌≡◌, ℕ, zero, suc, ◌<◌, List, [], ◌∷◌, ◌++◌, map, length, drop, get_or, Option, Some, None, ap, sym, ◌∙◌, refl, arith}
 use Rattle.std.specs.Prelude.{slice_get}
 use Rattle.std.proofs.lemmas.List.{take-append-drop}

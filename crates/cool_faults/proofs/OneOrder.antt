@@ -1,4 +1,5 @@
--- Two ordered lists of the same faults are the same list if no two of the faults have the same standing, which is a place and a rank.
+-- Two sorted lists of the same compile-time errors are equal if no two of the errors have the same sort key, which is a source location and the rank of the
+-- kind of error.
 use Rattle.std.proofs.Common.{◌≡◌, ◌⊎◌, inl, inr, ℕ, ◌+◌, ◌<◌, ◌≤◌, List, [], ◌∷◌, sum_by, ap, sym, ◌∙◌, refl, subst, arith}
 use Rattle.std.proofs.lemmas.Bool.{cases_eq}
 use Rattle.std.specs.List.{AllByRecursion}

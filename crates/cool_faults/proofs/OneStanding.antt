@@ -1,4 +1,4 @@
--- Two faults before typing with the same place and rank are the same fault, because each kind has its own rank.
+-- Two errors found before type checking that have the same source location and rank are the same error, because each kind of error has its own rank.
 use Rattle.std.proofs.Common.{◌≡◌, ℕ, ◌+◌, ◌<◌, List, [], ◌∷◌, Some, slice_get, ap, sym, ◌∙◌, refl, arith}
 use Rattle.std.proofs.lemmas.Option.{same_Some, slice_get_within}
 use Rattle.cool_syntax.specs.declared.lexical.LexKind.{LexKind}

@@ -1,4 +1,4 @@
--- Files have one fault list, and one verdict: no files are both a program and refused, and no two programs.
+-- Source files have at most one list of compile-time errors and at most one program, and they are never both accepted and rejected.
 use Rattle.std.proofs.Common.{◌≡◌, ◌≢◌, ℕ, ◌+◌, List, [], ◌∷◌, map, ap, sym, ◌∙◌, refl, subst}
 use Rattle.std.specs.List.{AllByRecursion}
 use Rattle.std.specs.List.Sorted.{IsPermutation}

@@ -1,4 +1,4 @@
--- Faults of rising files stand in order; so do the faults of classes and of typing as faults of files.
+-- Errors in files of increasing number are sorted, and sorted errors of classes or of typing stay sorted as errors of files.
 use Rattle.std.proofs.Common.{◌≡◌, ◌≢◌, inl, inr, ℕ, ◌+◌, ◌<◌, ◌≤◌, List, [], ◌∷◌, map, ap, refl, sym, subst, arith}
 use Rattle.std.specs.List.{AllByRecursion}
 use Rattle.std.proofs.lemmas.List.Sorted.{IsPermutation-map}

@@ -1,4 +1,5 @@
--- The place of an error of a class or a feature, or of typing, is in the source file that defines this class or feature.
+-- The errors of classes, features and typing have valid source locations (a file among those given, and a line within the limit) if the class definitions
+-- have only such locations.
 use Rattle.std.proofs.Common.{◌≡◌, ℕ, zero, suc, ◌<◌, List, [], ◌∷◌, ◌++◌, map, length, get_or, Option, Some, subst, arith}
 use Rattle.std.specs.Prelude.{Ok, Err, IfErr, IfSome, slice_get}
 use Rattle.std.specs.List.{AllByRecursion}

@@ -1,4 +1,4 @@
--- If all tokens of an expression or a feature are at places with a property, all places of its tree have this property.
+-- If the source locations of all tokens of an expression or a feature have a property, all locations in its syntax tree have this property.
 use Rattle.std.proofs.Common.{ℕ, List, [], ◌∷◌, ◌++◌, Option, Some, None, true, false}
 use Rattle.std.specs.Prelude.{IfSome}
 use Rattle.std.specs.List.{AllByRecursion}

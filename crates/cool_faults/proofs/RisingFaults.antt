@@ -1,5 +1,5 @@
--- The typing faults of files that are trees, class by class and feature by feature, stand in rising places: the tokens of a feature stand
--- behind those of the features before it. So two of them at one place are one.
+-- The type errors of parsed files are at increasing source locations, class by class and feature by feature, because the tokens of a feature follow those
+-- of the features before it. So two type errors at one location are the same error.
 use Rattle.std.proofs.Common.{◌≡◌, ◌⊎◌, inl, inr, ℕ, ◌+◌, ◌<◌, ◌≤◌, suc, List, [], ◌∷◌, ◌++◌, map, length, ap, sym, ◌∙◌, refl, subst, arith, append_assoc, append-nil}
 use Rattle.std.specs.Prelude.{Ok, Err, IfErr}
 use Rattle.std.specs.List.{AllByRecursion}

@@ -1,4 +1,5 @@
--- The faults of classes and features in the fault list of files are those of the rows.
+-- The errors of classes and features in the error list of files are exactly those that the rules of `cool_classes` define, which have one case for each
+-- kind of error.
 use Rattle.std.proofs.Common.{◌≡◌, ◌≢◌, inl, inr, ℕ, suc, List, [], ◌∷◌, map, Contains, ap, refl, subst, arith}
 use Rattle.std.specs.List.{AllByRecursion}
 use Rattle.std.specs.List.Sorted.{IsPermutation}

@@ -1,4 +1,5 @@
--- One more byte of a text, and its first byte as `shown` writes it.
+-- If the loop of `shown`, which replaces terminal control characters of a text by `?`, has converted the bytes so far, its next step converts one more
+-- byte.
 use Rattle.std.proofs.Common.{◌≡◌, ℕ, ◌+◌, ◌-◌, ◌<◌, List, [], ◌∷◌, ◌++◌, length, get_or, drop, ap, sym, ◌∙◌, append_assoc}
 use Rattle.std.proofs.lemmas.List.{drop_more}
 use Rattle.cool_faults.specs.Shown.{obeyed_from, shown_first, shown_from}

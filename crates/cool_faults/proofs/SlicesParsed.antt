@@ -1,4 +1,4 @@
--- The parser's result for a slice of tokens holds for the tokens.
+-- If the slice of tokens that the parser gets is the tokens of a file, the tree or the syntax error of the slice is that of the file.
 use Rattle.std.proofs.Common.{◌≡◌, ℕ, ◌≤◌, List, subst}
 use Rattle.std.specs.List.{AllByRecursion}
 use Rattle.cool_syntax.specs.declared.token.Token.{Token}

@@ -1,4 +1,4 @@
--- Each list of faults has an order.
+-- Each list of compile-time errors has a sorted permutation, by source location and by the rank of the kind of error.
 use Rattle.std.proofs.Common.{◌⊎◌, inl, inr, ℕ, List, [], ◌∷◌, arith}
 use Rattle.std.specs.List.Sorted.{IsPermutation}
 use Rattle.std.proofs.lemmas.Bool.{cases_order}

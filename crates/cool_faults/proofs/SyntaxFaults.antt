@@ -1,4 +1,4 @@
--- The findings of the parser, from the lexer's findings: the trees of the files, or their syntax faults in rising files.
+-- The results of the parsing phase are the syntax trees of the lexed files, or else the first syntax errors of the files, in the order of the files.
 use Rattle.std.proofs.Common.{◌≡◌, inl, inr, ℕ, ◌+◌, ◌<◌, ◌≤◌, List, [], ◌∷◌, ◌++◌, length, refl, sym, subst, arith}
 use Rattle.std.specs.List.{AllByRecursion}
 use Rattle.cool_syntax.specs.declared.TheConstants.{MOST_SOURCE_BYTES}

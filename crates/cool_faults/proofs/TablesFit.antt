@@ -1,4 +1,4 @@
--- If definitions keep the limits on sizes, names, constants and places, so does their class table.
+-- If class definitions satisfy the limits on sizes, names, constants and source locations, so does their class table.
 use Rattle.std.proofs.Common.{◌≡◌, ℕ, ◌≤◌, List, [], ◌∷◌, length, take, drop, refl, ap, sym, subst, arith}
 use Rattle.std.specs.List.{AllByRecursion}
 use Rattle.std.proofs.lemmas.List.{take-append-drop}

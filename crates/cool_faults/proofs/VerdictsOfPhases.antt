@@ -1,4 +1,4 @@
--- The result of each phase on the files: they are refused, or their table fits.
+-- If a phase of the front end finds errors, the files are rejected with these errors; if type checking finds none, they are accepted.
 use Rattle.std.proofs.Common.{◌≡◌, ℕ, ◌+◌, ◌<◌, ◌≤◌, List, [], ◌∷◌, length, map, inl, inr, refl, sym, subst, arith}
 use Rattle.std.specs.List.{AllByRecursion}
 use Rattle.std.specs.Prelude.{Result, Ok, Err, MatchResult, IfOk, IfErr, OnOk}

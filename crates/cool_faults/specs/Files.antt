@@ -1,4 +1,4 @@
--- Files as lists of bytes, and the number of bytes that they have together.
+-- `bytes_of` gives source files as lists of bytes, and `total` is the number of bytes of all files.
 use Rattle.std.specs.Prelude.{ℕ, ◌+◌, List, [], ◌∷◌, map, length}
 use Rattle.std.specs.Global.{Vec}
 

@@ -1,4 +1,5 @@
--- Laws on the faults and the verdict of files: there is one of each, and faults of classes and features are those of the rows.
+-- The theorems about source files are stated here: files have one error list and one result of the front end, and their errors of classes and features are
+-- exactly those that the rules define.
 use Rattle.std.specs.Prelude.{◌≡◌, ◌⊎◌, ℕ, ◌≤◌, List, [], length, Contains}
 use Rattle.cool_syntax.specs.declared.TheConstants.{MOST_FILES, MOST_SOURCE_BYTES}
 use Rattle.cool_syntax.specs.declared.file_tree.ClassDef.{ClassDef}

@@ -1,4 +1,5 @@
--- The findings of a phase in its inputs, one after the other: a result of each good one, and a fault of each of the others.
+-- `AreFound` defines the results and the errors of a phase of the front end: in order, each valid input gives a result, and each other input gives an
+-- error.
 use Rattle.std.specs.Prelude.{◌≡◌, ◌≢◌, ◌⊎◌, ℕ, ◌+◌, ◌<◌, ◌≤◌, List, [], ◌∷◌, ◌++◌, map, length}
 use Rattle.std.specs.List.{AllByRecursion}
 use Rattle.std.specs.List.Sorted.{IsPermutation}

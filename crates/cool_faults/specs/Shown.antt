@@ -1,5 +1,5 @@
--- A text with `?` for each byte of a character that a terminal obeys. Such a character is a control character of ASCII or Unicode, which may begin an escape
--- sequence, or one of Unicode's marks of text direction (its property Bidi_Control).
+-- `shown` writes `?` for each byte of a character in a text that would control a terminal. Such a character is a control character of ASCII or Unicode,
+-- which may begin an escape sequence, or one of Unicode's marks of text direction (its property Bidi_Control).
 use Rattle.std.specs.Prelude.{◌≡◌, refl, ℕ, zero, suc, ◌-◌, Bool, ◌&&◌, ◌||◌, List, [], ◌∷◌, codes, nat_eq, if◌then◌else◌}
 use Rattle.std.specs.{Char.{is_ascii_control}, Int.{is_in_range}}
 

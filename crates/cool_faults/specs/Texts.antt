@@ -1,4 +1,5 @@
--- The lines that are written for faults: `NAME:LINE: KIND: WORDS`. `shown` replaces the bytes of NAME that a terminal obeys.
+-- `fault_line` is the message line of a compile-time error: `NAME:LINE: KIND: WORDS`. In the file name NAME, `shown` replaces characters that would control
+-- a terminal.
 use Rattle.std.specs.Prelude.{ℕ, List, [], ◌++◌, codes, decimal, get_or}
 use Rattle.cool_syntax.specs.declared.lexical.LexKind.{LexKind}
 use Rattle.cool_syntax.specs.declared.lexical.LexKind.TheVariants.{L1, L2, L3, L4, L5, L6, L7, L8}

@@ -1,4 +1,5 @@
--- Files before typing: their tokens, their trees and the table of their classes, or the faults of the first phase before typing that finds any.
+-- `IsUntyped` defines the tokens, the trees and the class table of files before type checking, and `IsRefusedEarly` the errors with which an earlier phase
+-- rejects them.
 use Rattle.std.specs.Prelude.{◌≡◌, ℕ, List, []}
 use Rattle.std.specs.List.{AllByRecursion}
 use Rattle.cool_syntax.specs.declared.TheConstants.{MOST_FILES}

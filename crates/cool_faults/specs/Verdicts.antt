@@ -1,4 +1,5 @@
--- The verdict of the front end on source files: their trees, a class table and its program, or the faults of the first part that finds any.
+-- `IsAccepted` and `IsRefused` define the result of the front end for source files: a program with its trees and class table, or the errors of the first
+-- phase that finds any.
 use Rattle.std.specs.Prelude.{◌≡◌, ◌≢◌, ℕ, ◌+◌, ◌<◌, List, [], ◌∷◌, map, length}
 use Rattle.std.specs.List.{AllByRecursion}
 use Rattle.std.specs.List.Sorted.{IsPermutation}

@@ -1,4 +1,4 @@
-//! The verdict on files: whether they are a program.
+//! `accept` decides whether source files are a valid Cool program, and returns the program or its compile-time errors.
 
 ghost use Rattle.std.specs.Prelude.{◌≤◌, IfOk, MatchResult, length};
 ghost use Rattle.cool_syntax.specs.declared.TheConstants.{MOST_FILES, MOST_SOURCE_BYTES};

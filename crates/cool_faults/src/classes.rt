@@ -1,4 +1,4 @@
-//! The class table of all trees.
+//! `class_table` builds the class table from the syntax trees of all files, or returns the errors of classes and features.
 
 ghost use Rattle.std.specs.Prelude.{◌≡◌, ◌<◌, ℕ, [], map, IfOk, IfErr, OnOk};
 ghost use Rattle.cool_syntax.specs.TreesWithinLimits.{AreClassesWithin};

@@ -1,4 +1,4 @@
-//! Faults of all phases, and the verdict on files.
+//! A `Fault` is a compile-time error of any phase, and a `Verdict` is the result of the front end: a program, or a list of such errors.
 
 ghost use Rattle.std.specs.Prelude.{◌≡◌};
 ghost use Rattle.cool_faults.specs.declared.fault.Refusal.TheVariants as refusal;

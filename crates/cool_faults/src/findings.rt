@@ -1,4 +1,4 @@
-//! The findings of a phase: its results and its faults, added file by file.
+//! `Findings` collects the results and the errors of a phase of the front end, file by file.
 
 ghost use Rattle.std.specs.Prelude.{◌≡◌, [], MatchResult};
 ghost use Rattle.cool_faults.specs.Phases.{AreFaultsOf};

@@ -1,4 +1,5 @@
-//! Theorems about files: they have one fault list and one verdict, and their faults of classes and features are those of the rows of `cool_classes`.
+//! Theorems about source files: they have one error list and one result of the front end, and their errors of classes and features are exactly those that
+//! the rules of `cool_classes` define.
 
 ghost use Rattle.cool_faults.specs.Laws.{AreAcceptedWhereFaultless, AreFaultlessWhereAccepted, AreNeverBoth, AreNeverBothUntyped, AreOneProgram, HaveFaultsOfRows, HaveOneFaultList, HaveVerdicts};
 

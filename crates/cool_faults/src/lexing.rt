@@ -1,4 +1,4 @@
-//! Lexing all files.
+//! `lex_files` lexes all source files and returns their tokens, or the first lexical error of each file that has one.
 
 ghost use Rattle.std.specs.Prelude.{◌≡◌, ◌≤◌, [], length, MatchResult};
 ghost use Rattle.cool_syntax.specs.declared.TheConstants.{MOST_FILES, MOST_SOURCE_BYTES};

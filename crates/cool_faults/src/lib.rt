@@ -1,4 +1,4 @@
-//! The front end's verdict: whether source files are a program, and if not, which faults they have at which places.
+//! The front end decides whether source files are a valid Cool program, and if not, which compile-time errors they have at which source locations.
 //!
 //! Input: the bytes of source files. Output: the program, or the faults of the first phase that finds any, and their lines. `specs/Verdicts.antt` and
 //! `specs/Texts.antt` define them, and `specs/Phases.antt` the findings of each phase.

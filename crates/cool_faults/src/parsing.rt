@@ -1,4 +1,4 @@
-//! Parsing all files.
+//! `parse_files` parses the tokens of all files and returns their syntax trees, or the syntax error of each file that has one.
 
 ghost use Rattle.std.specs.Prelude.{◌≡◌, ◌≤◌, [], length, MatchResult};
 ghost use Rattle.std.specs.List.{AllByRecursion};

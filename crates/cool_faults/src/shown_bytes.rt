@@ -1,4 +1,4 @@
-//! A text without the characters that a terminal obeys.
+//! `shown` replaces the characters of a text that would control a terminal, such as escape characters, by `?`.
 
 ghost use Rattle.std.specs.Prelude.{◌≡◌, IfOk, length};
 ghost use Rattle.cool_faults.specs.Shown.{obeyed, obeyed_from, shown, shown_byte, shown_first};

@@ -1,4 +1,4 @@
-//! The lines of faults.
+//! `fault_text` writes the message line of a compile-time error: `NAME:LINE: KIND: WORDS`.
 
 ghost use Rattle.std.specs.Prelude.{◌≡◌, ◌<◌, IfOk, length, map, string_bytes};
 ghost use Rattle.cool_faults.specs.Verdicts.{place_of};

@@ -1,4 +1,4 @@
-//! Typing all features.
+//! `typed_program` type-checks all features of a class table, and returns the typed program or the first type error of each feature.
 
 ghost use Rattle.std.specs.Prelude.{◌≡◌, ℕ, [], map, IfOk, IfErr, OnOk};
 ghost use Rattle.cool_syntax.specs.declared.TheConstants.{MOST_FILES};

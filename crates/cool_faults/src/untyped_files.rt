@@ -1,4 +1,4 @@
-//! Files before typing: their tokens and the table of their classes, or the faults of the first phase that finds any.
+//! `class_phase` lexes and parses files and builds their class table, or returns the errors of the first of these phases that finds any.
 
 ghost use Rattle.std.specs.Prelude.{◌≤◌, IfOk, MatchResult, length};
 ghost use Rattle.cool_syntax.specs.declared.TheConstants.{MOST_FILES, MOST_SOURCE_BYTES};

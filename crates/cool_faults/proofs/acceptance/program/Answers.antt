@@ -1,4 +1,5 @@
--- `program` returns the refusal of the phases before typing. If they refuse nothing, the result of `typed_program` decides.
+-- `program` returns the failure (errors, or out of memory) of the phases before type checking if there is one, and otherwise the result of `typed_program`,
+-- which type-checks the class table.
 use Rattle.std.proofs.Common.{◌≤◌, length, arith}
 use Rattle.std.proofs.lemmas.Result.{err_from_is_err_and}
 use Rattle.cool_syntax.specs.declared.TheConstants.{MOST_FILES}

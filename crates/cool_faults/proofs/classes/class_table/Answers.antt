@@ -1,4 +1,4 @@
--- `class_table` returns the faults that `table` finds as faults of files, in the same order and with the same places.
+-- `class_table` returns the errors that `table` of `cool_classes` finds, as errors of files, in the same order and with the same source locations.
 use Rattle.std.proofs.Common.{List, map, ap, ◌∙◌, sym, subst}
 use Rattle.std.specs.List.{AllByRecursion}
 use Rattle.cool_syntax.specs.TokenFacts.{IsPlaced}

@@ -1,4 +1,4 @@
--- If the lexer returns tokens, `lex_file` adds them to the results and adds no fault, as `Adds` of `Phases.antt` defines.
+-- If the lexer returns tokens, `lex_file` adds them to the results and adds no error, as `Adds` of `Phases.antt` defines.
 use Rattle.std.proofs.Common.{inl, refl, ◌∷◌, []}
 use Rattle.std.proofs.lemmas.Slice.{pushed}
 use Rattle.cool_faults.proofs.lexing.lex_file.Goals as goal

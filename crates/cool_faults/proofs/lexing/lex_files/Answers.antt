@@ -1,4 +1,4 @@
--- Each step of the loop of `lex_files` adds the tokens or the first fault of the next file, as the lexer returns them.
+-- Each step of the loop of `lex_files` adds the tokens or the first lexical error of the next file, as the lexer returns them.
 use Rattle.std.proofs.Common.{ℕ, ◌+◌, List, ◌∷◌, length, drop, ap, ◌∙◌, sym, arith}
 use Rattle.std.proofs.lemmas.List.{drop_all}
 use Rattle.cool_faults.specs.Files.{bytes_of}

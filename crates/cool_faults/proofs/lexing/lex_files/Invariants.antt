@@ -1,4 +1,4 @@
--- In the loop of `lex_files`, the findings so far, followed by those of the files that are left, are the findings of all files.
+-- In the loop of `lex_files`, the tokens and errors of the files so far, followed by those of the files that are left, are those of all files.
 use Rattle.std.proofs.Common.{drop}
 use Rattle.cool_faults.specs.Files.{bytes_of}
 use Rattle.cool_faults.specs.Phases.{IsLexed, IsLexical}

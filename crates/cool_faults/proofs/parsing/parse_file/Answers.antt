@@ -1,4 +1,4 @@
--- `parse_file` adds the tree of a file to the results, or its fault to the faults, as `Adds` of `Phases.antt` defines.
+-- `parse_file` adds the syntax tree of a file to the results, or its syntax error to the errors, as `Adds` of `Phases.antt` defines.
 use Rattle.std.proofs.Common.{inl, inr, refl, ◌∷◌, []}
 use Rattle.std.proofs.lemmas.Slice.{pushed}
 use Rattle.cool_faults.specs.declared.fault.Fault.TheVariants.{Syntax}

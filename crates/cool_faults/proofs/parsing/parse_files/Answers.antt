@@ -1,4 +1,4 @@
--- Each step of the loop of `parse_files` adds the tree or the fault of the next file, as the parser returns it.
+-- Each step of the loop of `parse_files` adds the syntax tree or the syntax error of the next file, as the parser returns it.
 use Rattle.std.proofs.Common.{◌+◌, drop}
 use Rattle.std.proofs.lemmas.List.{drop_all}
 use Rattle.cool_faults.specs.Phases.{IsParsed, IsSyntactic}

@@ -1,4 +1,5 @@
--- The bytes so far, and those that `shown` makes of the rest, are those of the whole text.
+-- In the loop of `shown`, the bytes so far, followed by the converted rest of the text, are the whole converted text, in which `?` stands for the bytes of
+-- terminal control characters.
 use Rattle.std.proofs.Common.{◌≡◌, ◌++◌, drop, length}
 use Rattle.cool_faults.specs.Shown.{shown_from}
 use Rattle.cool_faults.proofs.shown_bytes.shown.Given as goal

@@ -1,4 +1,4 @@
--- `typed_program` returns the faults that `check` finds as faults of files, in the same order and with the same places.
+-- `typed_program` returns the type errors that `check` finds, as errors of files, in the same order and with the same source locations.
 use Rattle.std.proofs.Common.{List, map, ap, ◌∙◌, sym, subst}
 use Rattle.std.specs.List.{AllByRecursion}
 use Rattle.std.specs.List.Sorted.{IsPermutation}

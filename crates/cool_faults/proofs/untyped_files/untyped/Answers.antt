@@ -1,4 +1,5 @@
--- `untyped` returns the refusal of the first phase that refuses the files. The result of any other phase satisfies the precondition of the next phase.
+-- `untyped` returns the failure of the first phase before type checking that fails, because the result of each phase that succeeds satisfies the
+-- precondition of the next phase.
 use Rattle.std.proofs.Common.{◌≤◌, List, length, ap, sym, subst, arith}
 use Rattle.std.specs.List.{AllByRecursion}
 use Rattle.std.proofs.lemmas.Result.{err_from_is_err_and}
