@@ -1,4 +1,5 @@
--- The extents that are found are those of the expressions: by induction over the expressions, at each place of the tokens.
+-- The extents (first and last token) that `found_extents` computes are those of the subexpressions, by induction over the expression at each position in
+-- the list of tokens.
 use Rattle.std.proofs.Common.{◌≡◌, ℕ, ◌+◌, ◌≤◌, false, true, List, [], ◌∷◌, ◌++◌, length, Some, None, codes, refl, ap, sym, ◌∙◌, subst, append_assoc, append-nil, length-append, arith}
 use Rattle.cool_syntax.specs.declared.place.Place.{Place}
 use Rattle.cool_syntax.specs.declared.token.Token.{Token}

@@ -1,4 +1,4 @@
--- Extents from places that are the same, and extents found one after the other.
+-- Extents (first and last token) with equal places are equal, and the extents of a list of nodes are computed one after another.
 use Rattle.std.proofs.Common.{◌≡◌, refl, arith, ℕ, ◌+◌, ◌<◌, ◌≤◌, List, [], ◌∷◌, ◌++◌, length, drop, ap, sym, ◌∙◌}
 use Rattle.std.proofs.lemmas.List.{drop_all}
 use Rattle.std.proofs.lemmas.Option.{get_or_from_slice_get, slice_get_within}

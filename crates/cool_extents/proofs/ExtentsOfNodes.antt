@@ -1,4 +1,4 @@
--- The extent of a node is that of its tokens, if its parts have theirs.
+-- If the computed extents (first and last token) of the parts of a node are right, so is the computed extent of the node.
 use Rattle.std.proofs.Common.{◌≡◌, ℕ, suc, ◌+◌, subst, ◌≤◌, if◌then◌else◌, false, List, [], ◌∷◌, ◌++◌, length, drop, Option, refl, ap, sym, ◌∙◌, append_assoc, arith}
 use Rattle.cool_syntax.specs.declared.place.Place.{Place}
 use Rattle.cool_syntax.specs.declared.operator.ArithOp.TheVariants as arith_op

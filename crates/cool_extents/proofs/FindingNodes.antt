@@ -1,4 +1,4 @@
--- The extents that are found of a list of nodes, by those of its parts.
+-- The extents (first and last token) computed for two lists of nodes, one behind the other, are those of the first list, followed by those of the second.
 use Rattle.std.proofs.Common.{◌≡◌, ℕ, ◌+◌, List, [], ◌∷◌, ◌++◌, length, refl, ap, sym, ◌∙◌, append_assoc, append-nil, length-append, arith}
 use Rattle.cool_syntax.specs.declared.token.Token.{Token}
 use Rattle.cool_syntax.specs.declared.node.Node.{Node}

@@ -1,4 +1,4 @@
--- As many extents are found as there are nodes.
+-- The number of extents (first and last token) that are computed is the number of nodes of the expression.
 use Rattle.std.proofs.Common.{◌≡◌, ℕ, ◌+◌, List, [], ◌∷◌, ◌++◌, length, arith}
 use Rattle.std.proofs.lemmas.List.{length-append}
 use Rattle.cool_syntax.specs.declared.node.Node.{Node}

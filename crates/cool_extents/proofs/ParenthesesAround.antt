@@ -1,4 +1,5 @@
--- The extent of an expression within the tokens that it takes: those tokens, without the parentheses around them.
+-- The extent of an expression is the range of the tokens that it takes, without the parentheses around it: as many open before the extent as close behind
+-- it.
 use Rattle.std.proofs.Common.{◌≡◌, ℕ, ◌+◌, ◌-◌, ◌≤◌, List, [], ◌∷◌, ◌++◌, length, drop, refl, ap, sym, ◌∙◌, append_assoc, length-append, arith}
 use Rattle.cool_syntax.specs.declared.place.Place.{Place}
 use Rattle.cool_syntax.specs.declared.token.Token.{Token}

@@ -1,4 +1,5 @@
--- A search by halves among tokens in rising places: where a token stands before a place, and where it does not.
+-- In a binary search for the number of tokens before a place, a token before this place gives a lower bound of that number, and any other token gives an
+-- upper bound.
 use Rattle.std.proofs.Common.{◌≡◌, ℕ, zero, suc, ◌+◌, ◌<◌, ◌≤◌, Bool, true, false, cond, List, [], ◌∷◌, length, get_or, ap, ◌∙◌, refl, arith}
 use Rattle.std.specs.Prelude.{nat_lt}
 use Rattle.std.proofs.lemmas.Bool.{lt-ltb, le-ltb}

@@ -1,4 +1,4 @@
--- Tokens that stand in rising places: the number of each, and the first and the last place of some of them.
+-- If tokens stand at increasing places, the number of tokens before the place of a token is the index of this token.
 use Rattle.std.proofs.Common.{◌≡◌, ℕ, zero, suc, ◌+◌, ◌≤◌, nat_lt, Bool, true, false, cond, List, [], ◌∷◌, ◌++◌, length, drop, slice_get, Option, Some, refl, ap, sym, ◌∙◌, subst, append_assoc, length-append, drop_at, arith, lt-ltb, le-ltb}
 use Rattle.std.specs.List.{fold}
 use Rattle.cool_syntax.specs.declared.token.Token.{Token}

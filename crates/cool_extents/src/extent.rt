@@ -1,4 +1,4 @@
-//! Extents: where an expression begins and ends.
+//! An `Extent` holds the places of the first and the last token of an expression, without parentheses around it.
 
 use cool_syntax::Place;
 

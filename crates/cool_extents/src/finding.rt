@@ -1,4 +1,4 @@
-//! Finding the extents of an expression, from its nodes and the tokens of its file.
+//! `extents` computes the first and the last token of each subexpression, from the nodes of an expression and the tokens of its file.
 
 ghost use Rattle.std.specs.Prelude.{◌≡◌, ◌+◌, ◌-◌, ◌≤◌, ℕ, IfOk, IsTrue, Some, length, drop};
 ghost use Rattle.std.specs.List.{slice_get};

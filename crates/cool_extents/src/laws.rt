@@ -1,4 +1,4 @@
-//! The law on extents: those that are found are those of the expressions.
+//! The theorem on extents says that the first and the last token computed for each subexpression are those that the definition gives it.
 
 ghost use Rattle.std.specs.Prelude.{◌≡◌, ℕ, List};
 ghost use Rattle.cool_syntax.specs.declared.token.Token.{Token};

@@ -1,4 +1,4 @@
--- The notices of a tree, as those at each of its nodes in turn.
+-- The notices (warnings) of an expression are those at each of its nodes, in the order of the nodes.
 use Rattle.std.proofs.Common.{◌≡◌, ℕ, ◌+◌, ◌-◌, ◌<◌, zero, suc, List, [], ◌∷◌, ◌++◌, map, length, take, get_or, Bool, Option, refl, sym, ap, ◌∙◌, append_assoc, append-nil, length-append, arith}
 use Rattle.std.specs.List.{flat_map}
 use Rattle.std.specs.Option.{option_to_list}

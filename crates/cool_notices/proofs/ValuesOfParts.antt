@@ -1,4 +1,5 @@
--- The value places of an expression are those of its parts that give its value, and these parts are smaller than the expression.
+-- The subexpressions that give the value of an expression are those of its parts that give its value, such as the branches of an `if`, and these parts are
+-- smaller than the expression.
 use Rattle.std.proofs.Common.{◌≡◌, ℕ, ◌+◌, ◌-◌, ◌<◌, ◌≤◌, suc, List, [], ◌∷◌, ◌++◌, map, length, drop, refl, sym, ap, ◌∙◌, subst, append_assoc, append-nil, arith}
 use Rattle.std.specs.List.{AllByRecursion, flat_map}
 use Rattle.std.proofs.lemmas.Grind.{flat_map-append}

@@ -1,5 +1,5 @@
--- The expressions of a body, by their numbers, that are left while its value places are collected: `places_at` gives the value places of one, and
--- `size_left` counts the nodes of all.
+-- While the value places of a body are collected, some expressions, given by node numbers, are still to be visited. `places_at` gives the value places of
+-- one, and `size_left` counts the nodes of all.
 use Rattle.std.specs.Prelude.{ℕ, ◌+◌, ◌-◌, ◌<◌, List, [], ◌∷◌, length, drop}
 use Rattle.std.specs.List.{AllByRecursion}
 use Rattle.cool_syntax.specs.declared.node.NodeId.{NodeId}

@@ -1,4 +1,4 @@
-//! Kinds of notices.
+//! `NoticeKind` lists the kinds of warnings about legal but likely wrong code, such as a division by the constant 0 or a value that is not used.
 
 ghost use Rattle.std.specs.Prelude.{◌≡◌};
 ghost use Rattle.cool_notices.specs.Notices.{words};

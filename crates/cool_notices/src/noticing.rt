@@ -1,4 +1,4 @@
-//! The notices of a body.
+//! `body_notices` finds the notices (warnings about legal but likely wrong code) in the body of a feature.
 
 ghost use Rattle.std.specs.Prelude.{◌≡◌, ◌<◌, take, option_map, OnOk, IfOk};
 ghost use Rattle.std.specs.Option.{option_to_list};

@@ -1,4 +1,4 @@
-//! The places of the expressions that give the value of an expression.
+//! `value_places` finds the places of the subexpressions that give the value of an expression, such as the branches of an `if`.
 
 ghost use Rattle.std.specs.Prelude.{◌≡◌, ◌<◌, ◌+◌, [], ◌∷◌, ◌++◌, map, reverse, IfOk, OnOk};
 ghost use Rattle.std.specs.List.{flat_map};

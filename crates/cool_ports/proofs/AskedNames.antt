@@ -1,4 +1,4 @@
--- The names that a shelf was asked for, as a prefix of a list of names.
+-- The names of the files that a shelf (file system) is asked for, one after another, are a prefix of the list of names to read.
 use Rattle.std.proofs.Common.{◌≡◌, ℕ, List, [], ◌∷◌, ◌++◌, refl, sym, ◌∙◌, ap, append_assoc, append-nil}
 use Rattle.cool_ports.specs.ShelfFiles.{AskedFront}
 

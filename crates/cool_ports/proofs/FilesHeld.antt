@@ -1,4 +1,4 @@
--- A shelf (file system) that has the files read so far, and one more, has all of them.
+-- A shelf (file system) that holds the files read so far and one more file holds all of these files.
 use Rattle.std.specs.Prelude.{ℕ, List, [], ◌∷◌, ◌++◌, Option}
 use Rattle.cool_ports.specs.ShelfFiles.{FileMap, MayHold, AreHeld}
 

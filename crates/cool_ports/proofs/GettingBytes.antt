@@ -1,4 +1,4 @@
--- Lemmas on the bytes that a sink (an output stream) holds after several puts.
+-- After several writes, a sink (output stream) holds its earlier bytes, followed by the bytes of these writes in order.
 use Rattle.std.proofs.Common.{◌≡◌, ℕ, List, [], ◌∷◌, ◌++◌, refl, sym, ◌∙◌, ap, append_assoc, append-nil}
 use Rattle.std.specs.Prelude.{Option, Some, None}
 use Rattle.std.specs.List.{concat}

@@ -1,4 +1,4 @@
--- Lemmas on the bytes that a source (an input stream) gave over several takes.
+-- The bytes that a source (input stream) gave over several reads, followed by those that are left, are the bytes that it had before.
 use Rattle.std.proofs.Common.{◌≡◌, ℕ, ◌+◌, ◌<◌, Bool, true, false, List, [], ◌∷◌, ◌++◌, replicate, refl, sym, ◌∙◌, ap, append_assoc}
 use Rattle.std.specs.Prelude.{Option, Some, None, Ok, Err}
 use Rattle.std.proofs.lemmas.List.{replicate_more}

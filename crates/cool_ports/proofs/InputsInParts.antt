@@ -1,4 +1,4 @@
--- The bytes that a source gave in parts, one after the other.
+-- If a source (input stream) gives bytes in two parts, one after the other, it gives in all the bytes of the first part and then those of the second.
 use Rattle.std.proofs.Common.{◌≡◌, ℕ, ◌+◌, ◌<◌, ◌≤◌, Bool, true, false, List, [], ◌∷◌, ◌++◌, refl, sym, ◌∙◌, ap, append_assoc, append-nil, arith}
 use Rattle.std.specs.Prelude.{Option, Some, None}
 use Rattle.std.proofs.lemmas.List.{append_cancel_left}

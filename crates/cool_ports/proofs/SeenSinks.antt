@@ -1,4 +1,4 @@
--- The known state of a sink (`SinkSeen`), over several puts.
+-- The state of a sink (output stream) that contracts see, its bytes and its writes, is after two lists of writes the same as after both lists joined.
 use Rattle.std.proofs.Common.{◌≡◌, ℕ, List, [], ◌∷◌, ◌++◌, refl, sym, ◌∙◌, ap, append_assoc, append-nil}
 use Rattle.std.specs.Prelude.{Option}
 use Rattle.std.specs.List.{concat}

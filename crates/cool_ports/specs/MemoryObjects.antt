@@ -1,5 +1,5 @@
--- The source and the sink that hold their bytes in memory, as contracts see them: `SourceState` and `SinkState`. A `Schedule` lists the calls that are to
--- fail in a test.
+-- `SourceState` and `SinkState` are the states, as contracts see them, of the source (input stream) and the sink (output stream) that hold their bytes in
+-- memory. A `Schedule` lists the calls that are to fail in a test.
 use Rattle.std.specs.Prelude.{ℕ, ◌+◌, min, List, ◌++◌, [], ◌∷◌, Contains}
 use Rattle.cool_ports.specs.Answers.{Past}
 use Rattle.cool_ports.specs.Counts.{last_count}

@@ -1,4 +1,5 @@
--- The shelf (file system) that holds its files in memory, as contracts see it: the bytes of each file by its name, and the names that it was asked for.
+-- The state of the shelf (file system) that holds its files in memory, as contracts see it: the bytes of each file by its name, and the names of the files
+-- that it was asked for.
 use Rattle.std.specs.Prelude.{List, ℕ, Option, option_map}
 use Rattle.std.specs.BTreeMap.{get_by_text}
 use Rattle.cool_ports.specs.declared.mem_shelf.MemShelf.{MemShelf}

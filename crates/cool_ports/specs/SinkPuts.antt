@@ -1,5 +1,5 @@
--- The puts of a sink: the bytes of each write to an output stream, in order, including those of writes that failed. `pieces_of` cuts bytes into pieces of one
--- size, and `PutFront` says that the first texts of a list were put.
+-- The puts of a sink are the bytes of each write to an output stream, in order, including those of writes that failed. `pieces_of` cuts bytes into pieces
+-- of one size, and `PutFront` says that the first texts of a list were written.
 use Rattle.std.specs.Prelude.{◌≡◌, ℕ, ◌*◌, List, [], ◌∷◌, ◌++◌, length, take, drop, map, Option, refl}
 use Rattle.std.specs.Int.{div_ceil}
 use Rattle.std.specs.List.{range_with_len, concat}

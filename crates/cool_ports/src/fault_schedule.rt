@@ -1,4 +1,4 @@
-//! Failures of the objects in memory, as a test orders them.
+//! `FaultSchedule` decides which calls of a file system or stream in memory fail in a test.
 
 ghost use Rattle.std.specs.Prelude.{◌≡◌, ◌≤◌, ◌↔◌, IsTrue, OnOk, OnErr};
 ghost use Rattle.cool_ports.specs.Counts.{last_count};

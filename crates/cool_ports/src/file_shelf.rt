@@ -1,4 +1,4 @@
-//! A shelf over the files of the system.
+//! `FileShelf` implements the trait `Shelf` (a file system from which files are read by name) with the files of the operating system.
 
 ghost use Rattle.std.specs.Prelude.{◌≡◌, ◌<◌, ◌≤◌, ◌^◌, [], IfOk, None, vec_len};
 

@@ -1,4 +1,4 @@
-//! The answers of a source so far, kept only for clauses.
+//! `History` records, for contracts only, the bytes that a source (input stream) gave and how often it answered that nothing is left.
 
 ghost use Rattle.std.specs.Prelude.{◌≡◌};
 ghost use Rattle.std.specs.Borrow.{ftrue};

@@ -1,4 +1,4 @@
-//! The outside of the program: files, input and output.
+//! Files, input streams and output streams as three traits, with implementations over the operating system and in memory.
 //!
 //! Input: the data of std's files and streams, or bytes in memory. Output: three traits, `Shelf`, `Source` and `Sink`, whose contracts say what is read and
 //! written, and count every failure. `specs/` defines the terms.

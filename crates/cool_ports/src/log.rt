@@ -1,4 +1,4 @@
-//! The calls of an object so far, kept only for clauses.
+//! `Log` records, for contracts only, the bytes that each call of an object named, such as the name of the file to read or the bytes to write.
 
 ghost use Rattle.std.specs.Prelude.{◌≡◌, ℕ, List, [], ◌∷◌, ◌++◌};
 ghost use Rattle.std.specs.Borrow.{ftrue};

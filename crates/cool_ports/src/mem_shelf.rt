@@ -1,4 +1,4 @@
-//! A shelf in memory.
+//! `MemShelf` is a file system in memory. A test can order that some of its calls fail.
 
 ghost use Rattle.std.specs.Prelude.{◌≡◌, ℕ, ◌<◌, ◌≤◌, ◌^◌, ◌⊎◌, ◌↔◌, List, [], ◌∷◌, ◌++◌, IfOk, IsErrOf, OnOk, OnErr, Some, vec_len, if◌then◌else◌, bytes_eq};
 ghost use Rattle.cool_ports.specs.Counts.{GoesOn, Rose};

@@ -1,4 +1,4 @@
-//! A sink in memory.
+//! `MemSink` is an output stream that keeps its bytes in memory. A test can order that some of its calls fail.
 
 ghost use Rattle.std.specs.Prelude.{◌≡◌, ℕ, ◌+◌, ◌<◌, ◌≤◌, ◌⊎◌, ◌↔◌, ◌++◌, [], ◌∷◌, List, length, IfOk, IsErr, OnOk, OnErr, Some};
 ghost use Rattle.cool_ports.specs.Counts.{GoesOn, Rose};

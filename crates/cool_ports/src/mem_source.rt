@@ -1,4 +1,4 @@
-//! A source in memory.
+//! `MemSource` is an input stream that gives bytes from memory. A test can order that some of its calls fail.
 
 ghost use Rattle.std.specs.Prelude.{◌≡◌, ◌<◌, ◌↔◌, IfOk, IsErr, OnOk, OnErr, Some, length};
 ghost use Rattle.cool_ports.specs.Counts.{GoesOn, Rose};

@@ -1,4 +1,4 @@
-//! Output in pieces.
+//! `put_pieces` writes bytes to a sink (output stream) in pieces of a given size.
 
 ghost use Rattle.std.specs.Prelude.{◌≡◌, ◌<◌, ◌≤◌, ◌++◌, OnOk, OnErr};
 ghost use Rattle.cool_ports.specs.Counts.{Rose};

@@ -1,4 +1,4 @@
-//! The trait of a shelf: reads files by name.
+//! The trait `Shelf` is a file system: it reads files by name.
 
 ghost use Rattle.std.specs.Prelude.{◌≡◌, ℕ, ◌<◌, ◌≤◌, ◌^◌, List, [], ◌∷◌, ◌++◌, vec_len, IfOk, OnOk, OnErr, IsErrOf, Option};
 ghost use Rattle.cool_ports.specs.Counts.{GoesOn, Rose};

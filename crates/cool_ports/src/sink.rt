@@ -1,4 +1,4 @@
-//! The trait of a sink: takes output.
+//! The trait `Sink` is an output stream: it writes bytes.
 
 ghost use Rattle.std.specs.Prelude.{◌≡◌, ℕ, ◌<◌, List, [], ◌∷◌, ◌++◌, length, OnOk, OnErr, Option};
 ghost use Rattle.cool_ports.specs.Counts.{GoesOn, Rose};

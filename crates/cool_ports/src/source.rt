@@ -1,4 +1,4 @@
-//! The trait of a source: gives input.
+//! The trait `Source` is an input stream: it gives one byte after another.
 
 ghost use Rattle.std.specs.Prelude.{◌≡◌, ℕ, List, IfOk, OnOk, OnErr, Option};
 ghost use Rattle.cool_ports.specs.Answers.{Past, after_answer};

@@ -1,4 +1,4 @@
-//! A sink over a writer of std.
+//! `StdSink` implements the trait `Sink` (an output stream) with a writer of the standard library, such as standard output.
 
 ghost use Rattle.std.specs.Prelude.{◌≡◌, ◌<◌, [], ◌∷◌, ◌++◌, length, OnOk, OnErr, Some};
 ghost use Rattle.std.specs.List.{concat};

@@ -1,4 +1,4 @@
-//! A source over a reader of std.
+//! `StdSource` implements the trait `Source` (an input stream) with a reader of the standard library, such as standard input.
 
 ghost use Rattle.std.specs.Prelude.{◌≡◌, ◌-◌, None, IfOk, OnOk, OnErr};
 ghost use Rattle.std.specs.Io.Iter.{bytes_remaining};

@@ -1,4 +1,4 @@
-//! A sink that never fails.
+//! `SureSink` is an output stream that discards its bytes and never fails.
 
 ghost use Rattle.std.specs.Prelude.{◌≡◌, ℕ, ◌<◌, List, [], ◌∷◌, ◌++◌, length, IsOk, OnOk, Option, None};
 ghost use Rattle.cool_ports.specs.SinkBytes.{appended};

@@ -1,4 +1,4 @@
-//! A source in memory that never fails.
+//! `SureSource` is an input stream that gives bytes from memory and never fails.
 
 ghost use Rattle.std.specs.Prelude.{◌≡◌, IfOk, IsOk, Some, length};
 ghost use Rattle.cool_ports.specs.Answers.{nothing_yet, after_answer};

@@ -1,4 +1,4 @@
-//! Reading bytes from a source, without those that are 0.
+//! `next_byte` reads the next byte other than 0 from a source (input stream).
 
 ghost use Rattle.std.specs.Prelude.{◌≡◌, ◌<◌, IfOk, IfSome, OnOk, OnErr};
 ghost use Rattle.cool_ports.specs.Counts.{Rose};

@@ -1,4 +1,5 @@
--- In the loop of `closes`, the count so far and the closing parentheses at the front of the tokens that are left make the whole count.
+-- In the loop of `closes`, which counts the closing parentheses that a list of tokens begins with, the count so far and those that are left make the whole
+-- count.
 use Rattle.std.proofs.Common.{◌≡◌, ◌+◌, drop}
 use Rattle.cool_extents.specs.FoundExtents.{closes}
 use Rattle.cool_extents.proofs.finding.closes.Given as goal

@@ -1,4 +1,4 @@
--- Each step of the loop of `extents` adds the extent of the next node.
+-- Each step of the loop of `extents` adds the extent (first and last token) of the next node.
 use Rattle.std.proofs.Common.{◌∙◌, List, ap, arith}
 use Rattle.cool_syntax.specs.NodeLists.{nodes}
 use Rattle.cool_syntax.proofs.TreesOfLists.{length-nodes}

@@ -1,4 +1,4 @@
--- In the loop of `extents`, the extents so far, followed by those of the nodes that are left, are the extents of all nodes.
+-- In the loop of `extents`, the extents (first and last token) so far, followed by those of the nodes that are left, are the extents of all nodes.
 use Rattle.std.proofs.Common.{◌≡◌, drop}
 use Rattle.cool_syntax.specs.NodeLists.{nodes}
 use Rattle.cool_extents.specs.FoundExtents.{found_after, found_extents}

@@ -1,4 +1,4 @@
--- `from` returns an extent whose last token is the one that `from` of `FoundExtents.antt` counts to.
+-- `from` returns an extent whose last token is a given number of tokens behind the last part of the node, with the parentheses around that part.
 use Rattle.std.proofs.Common.{ℕ, ◌+◌, ◌∙◌, ap, refl}
 use Rattle.cool_extents.specs.FoundExtents.{token_place, latest, outer_last}
 use Rattle.cool_extents.proofs.ExtentsMade.{same_extent}

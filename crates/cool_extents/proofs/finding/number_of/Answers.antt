@@ -1,4 +1,4 @@
--- Each step of the loop of `number_of` halves the range that contains the number of the token.
+-- Each step of the loop of `number_of`, a binary search for the number of tokens before a place, halves the range that contains this number.
 use Rattle.std.proofs.Common.{ℕ, ◌+◌, ◌-◌, ◌/◌, arith}
 use Rattle.cool_extents.proofs.SearchingByHalves.{low_is_less, high_is_more}
 use Rattle.cool_extents.proofs.finding.number_of.Goals as goal

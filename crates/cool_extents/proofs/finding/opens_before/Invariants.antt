@@ -1,4 +1,4 @@
--- In the loop of `opens_before`, the parentheses passed and those right before them make the whole count.
+-- In the loop of `opens_before`, which counts the opening parentheses right before a token, those passed so far and those before them make the whole count.
 use Rattle.std.proofs.Common.{◌≡◌, ◌≤◌, ◌+◌}
 use Rattle.cool_extents.specs.FoundExtents.{opens_before}
 use Rattle.cool_extents.proofs.finding.opens_before.Given as goal

@@ -1,4 +1,4 @@
--- Each step of the loop of `body_notices` adds the notices of the next node. The nodes of a body are the parts of its tree in order.
+-- Each step of the loop of `body_notices` adds the warnings about the next node. The nodes of a body are the subexpressions of its tree in order.
 use Rattle.std.proofs.Common.{◌≡◌, [], ◌-◌, take, take_all, ap, arith, ◌∙◌}
 use Rattle.std.specs.List.{flat_map}
 use Rattle.cool_syntax.specs.Bare.{nowhere}

@@ -1,4 +1,4 @@
--- In the loop of `body_notices`, the notices at the nodes before the present one are added, up to the limit.
+-- In the loop of `body_notices`, the warnings about the nodes before the present one are added, up to the limit.
 use Rattle.std.proofs.Common.{◌≡◌, take, []}
 use Rattle.std.specs.List.{flat_map}
 use Rattle.cool_syntax.specs.NodeLists.{all_trees}

@@ -1,4 +1,4 @@
--- `notice_at` returns the notice of a node as `own_notice` of `Notices.antt` defines it for the tree of the node.
+-- `notice_at` returns the notice (warning) about a node as `own_notice` of `Notices.antt` defines it for the tree of the node.
 use Rattle.std.proofs.Common.{ap, sym, ◌∙◌}
 use Rattle.cool_syntax.specs.NodeLists.{all_trees, made}
 use Rattle.cool_notices.specs.Notices.{own_notice}

@@ -1,4 +1,4 @@
--- In the loop of `add_bodies`, the numbers of the bodies of the branches before the present one are added.
+-- In the loop of `add_bodies`, the node numbers of the bodies of the `case` branches before the present one are added.
 use Rattle.std.proofs.Common.{◌≡◌, ◌++◌, map, drop}
 use Rattle.cool_syntax.specs.declared.node.NodeBranch.{NodeBranch}
 use Rattle.cool_notices.proofs.values.add_bodies.Given as goal

@@ -1,4 +1,5 @@
--- `add_places` leaves the parts that give the value of an expression, or adds the place of the expression.
+-- `add_places` adds the parts that give the value of an expression to the expressions still to be visited, or adds the place of the expression if it gives
+-- its value itself.
 use Rattle.std.proofs.Common.{◌∙◌, [], ◌∷◌, ap, arith, subst, sym}
 use Rattle.std.proofs.lemmas.Result.{on_ok_weaker}
 use Rattle.cool_syntax.specs.declared.node.Node.TheVariants as node

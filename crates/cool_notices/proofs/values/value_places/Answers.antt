@@ -1,4 +1,5 @@
--- In each step of the loop of `value_places` one expression goes, and smaller parts of it come.
+-- Each step of the loop of `value_places` takes one expression from those still to be visited and adds smaller parts of it, or adds its place to the
+-- result.
 use Rattle.cool_notices.proofs.ValuesOfParts.{step_smaller}
 use Rattle.cool_notices.proofs.values.value_places.Goals as goal
 

@@ -1,5 +1,5 @@
--- In the loop of `value_places`, the places of the expressions that are left come before those that were collected, and together they are all places. The
--- expressions that are left become smaller.
+-- In the loop of `value_places`, the places from the expressions still to be visited, followed by the places collected so far, are all places. The number
+-- of nodes of these expressions decreases.
 use Rattle.std.proofs.Common.{◌≡◌, ◌++◌}
 use Rattle.std.specs.List.{flat_map}
 use Rattle.std.specs.Prelude.{reverse}

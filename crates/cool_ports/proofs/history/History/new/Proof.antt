@@ -1,4 +1,4 @@
--- `new` makes a value of no bytes, whose ghost field says that nothing was answered.
+-- `History::new` returns a value without run-time data, whose ghost field (a field for contracts only) says that the input stream has answered no read.
 use mathlib.Core.Path.{refl}
 use mathlib.Core.List.{[], ◌∷◌}
 use Rattle.cool_ports.specs.Answers.{nothing_yet}

@@ -1,4 +1,4 @@
--- `with` makes a value of no bytes, whose ghost field has one more answer.
+-- `History::with` returns a value without run-time data, whose ghost field (a field for contracts only) records one more answer of the input stream.
 use mathlib.Core.Path.{refl}
 use mathlib.Core.List.{[], ◌∷◌}
 use Rattle.cool_ports.specs.Answers.{after_answer}

@@ -1,4 +1,4 @@
--- `new` makes a value of no bytes, whose ghost field says that nothing was called.
+-- `Log::new` returns a value without run-time data, whose ghost field (a field for contracts only) says that nothing was called.
 use mathlib.Core.Path.{refl}
 use mathlib.Core.List.{[], ◌∷◌}
 use seplogic.Ra.Ura.{Ura}
