@@ -1,4 +1,4 @@
--- A text without the white space around it, as std states it and as the words on a fix use it.
+-- A text trimmed as the standard library defines it is the `trimmed` text of the description of a fix: the text without the white space around it.
 use Rattle.std.proofs.Common.{◌≡◌, ℕ, List, drop, refl}
 use Rattle.std.specs.List.{prefix_len}
 use Rattle.std.specs.Char.{is_ascii_whitespace}

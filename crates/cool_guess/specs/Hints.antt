@@ -1,4 +1,4 @@
--- The sentence of each hint.
+-- `hint_words` gives the advice about each common mistake, such as a comment, an operator or a quote of another language.
 use Rattle.std.specs.Prelude.{ℕ, List, codes}
 use Rattle.cool_guess.specs.declared.hint.Hint.{Hint}
 use Rattle.cool_guess.specs.declared.hint.Hint.TheVariants.{ByteOrderMark, NoUtf16, LineComment, BlockComment, CommentNotClosed, CommentNotOpen}

@@ -1,4 +1,5 @@
--- The words on a fix: the sentence of its hint, or else the bytes that it adds and removes.
+-- `reason_words` describes a suggested fix in words: by the sentence of its hint (advice about a common mistake), or else by the bytes that it adds and
+-- removes.
 use Rattle.std.specs.Prelude.{ℕ, ◌-◌, List, [], ◌∷◌, ◌++◌, length, take, drop, codes, nat_eq, nat_lt, if◌then◌else◌}
 use Rattle.std.specs.List.{prefix_len, suffix_len}
 use Rattle.std.specs.Char.{is_ascii_whitespace}

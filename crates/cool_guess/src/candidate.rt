@@ -1,4 +1,4 @@
-//! Candidates: edits of a text that may mend a fault.
+//! A `Candidate` is an edit of a source text that may fix a compile-time error, with the reason for the edit.
 
 use crate::hint::Hint;
 use crate::lexeme::{Lexeme, is_name_byte, part};

@@ -1,4 +1,4 @@
-//! Candidates for declarations and statements of Java, C and Python: the forms of Cool that mean the same.
+//! Candidate fixes replace declarations and statements in the style of Java, C or Python by forms of Cool that mean the same.
 
 use crate::candidate::{Candidates, Reason, Splice};
 use crate::definition::is_class;

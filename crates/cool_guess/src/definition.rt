@@ -1,4 +1,4 @@
-//! The place of the other definition of a thing that is defined twice.
+//! `other_definition` finds the earlier definition of a class, method, attribute, formal parameter or `case` branch that is defined twice.
 
 use crate::candidate::Candidates;
 use crate::lexeme::{Lexeme, index_at, lexemes, word_at};

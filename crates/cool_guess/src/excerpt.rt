@@ -1,4 +1,4 @@
-//! Excerpts of a program: the range in which a fault stands, and the declarations that it may name.
+//! An excerpt of a program holds the part of a file with a compile-time error, and the declarations that this part may refer to.
 
 use crate::candidate::{Candidate, Splice, spliced};
 use crate::kind::is_type_name;

@@ -1,4 +1,4 @@
-//! The extents of the operands and expressions around a position, found only by the lexemes.
+//! The operands and expressions around a position of a text are found here, where each begins and ends, by the lexemes only.
 
 use crate::candidate::Candidates;
 use crate::definition::is_class;

@@ -1,4 +1,4 @@
-//! Words that fit between two lexemes: those between similar lexemes elsewhere in the text, or in a sample of Cool.
+//! Words that may be missing between two lexemes are found here: those that stand between similar lexemes elsewhere in the text, or in a sample of Cool.
 
 use crate::kind::{Kind, is_keyword, is_number, kind_of};
 use crate::lexeme::{Lexeme, lexemes, part, word_at, word_before};

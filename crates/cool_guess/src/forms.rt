@@ -1,4 +1,4 @@
-//! Candidates for forms of other languages: the forms of Cool that mean the same.
+//! Candidate fixes replace forms of other languages, such as `a and b`, by forms of Cool that mean the same.
 
 use crate::candidate::{Candidates, Reason};
 use crate::hint::Hint;

@@ -1,4 +1,4 @@
-//! Hints: sentences for a reader who writes Cool as another language is written.
+//! A `Hint` names a common mistake, such as a form of another language in a Cool program, and has a sentence of advice about it.
 
 ghost use Rattle.std.specs.Prelude.{◌≡◌};
 ghost use Rattle.cool_guess.specs.Hints.{hint_words};

@@ -1,4 +1,4 @@
-//! Kinds of lexemes.
+//! `kind_of` says whether a lexeme is a keyword or sign, the name of a variable or a class, a number, or a string.
 
 /// The keywords, which are no names.
 pub(crate) static KEYWORDS: [&str; 19] = [

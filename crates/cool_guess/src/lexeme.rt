@@ -1,4 +1,4 @@
-//! Lexemes of any text, valid or not: where they begin and end. A byte that begins no lexeme is one of its own.
+//! `lexemes` splits any text, valid or not, into lexemes: it says where each begins and ends. A byte that begins no lexeme is one of its own.
 
 ghost use Rattle.std.specs.Prelude.{◌≡◌, ◌≤◌, length, true};
 ghost use Rattle.std.specs.List.{prefix_len};

@@ -1,4 +1,4 @@
-//! Guesses of edits that may mend a fault of a Cool text, and words that help its reader.
+//! Guesses of edits that may fix a compile-time error of a Cool text, and advice about the error in words.
 //!
 //! Input: the bytes of source files, and a fault. Output: candidates, the likeliest first, words on forms of other languages, and the other definition of
 //! a thing that is defined twice. No clause says which candidates come: `cool_mend` tries each edit. `specs/Words.antt` defines the words on an edit,

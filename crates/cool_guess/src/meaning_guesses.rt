@@ -1,4 +1,4 @@
-//! Candidates for faults of classes, features and typing, by the lexemes around and the names of all files.
+//! Candidate fixes for errors of classes, features and types are guessed from the lexemes around the error and from the names in all files.
 
 use crate::candidate::{Candidate, Candidates, Reason};
 use crate::definition::{is_class, parent_around};

@@ -1,4 +1,4 @@
-//! The names in files: those near to a word, and those of classes.
+//! `names_near` finds the names in the source files that resemble a given word, such as a mistyped name; this module also lists the names of classes.
 
 use crate::definition::is_class;
 use crate::kind::{is_keyword, is_name, is_type_name};

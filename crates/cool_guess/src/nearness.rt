@@ -1,4 +1,4 @@
-//! The nearness of words: the number of changes from one to another, and whether one may be a mistyped form of the other.
+//! `distance` counts the changes from one word to another, and `are_near` says whether one word may be a mistyped form of the other.
 
 ghost use Rattle.std.specs.Prelude.{◌≤◌, length};
 

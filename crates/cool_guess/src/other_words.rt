@@ -1,4 +1,4 @@
-//! Hints on words, signs and forms of other languages.
+//! `advice` gives sentences of advice about words, signs and forms of other languages in a Cool text.
 
 use crate::candidate::Candidates;
 use crate::hint::{Hint, hint_words};

@@ -1,4 +1,5 @@
-//! The outline of a text: its classes and their features, read from the lexemes without a parser, so that a text with errors has one too.
+//! The outline of a text is the list of its classes and their features. It is read from the lexemes without a parser, so that a text with errors has one
+//! too.
 
 use crate::candidate::Candidates;
 use crate::definition::is_class;

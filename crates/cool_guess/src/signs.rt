@@ -1,4 +1,4 @@
-//! Signs and words of other languages, and those of Cool in their place.
+//! Tables of the signs and words of other languages, with the Cool signs and words that replace them, and with advice about them.
 
 use crate::hint::Hint;
 

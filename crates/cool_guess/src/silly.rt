@@ -1,4 +1,4 @@
-//! Candidates that are legal and surely not meant.
+//! `is_silly` rejects a candidate fix that gives a legal program but is surely not meant, such as one that removes a call or a constant.
 
 use crate::candidate::{Candidate, Candidates, Reason, Splice};
 use crate::hint::Hint;

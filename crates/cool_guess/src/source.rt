@@ -1,4 +1,5 @@
-//! Source files with their lexemes and their outline, and the ranges of them in which a fault stands.
+//! A `Source` is a source file with its lexemes and its outline (its classes and features); a `Range` is the part of a file in which a compile-time error
+//! is.
 
 use crate::kind::{Kind, is_one_of, kind_of};
 use crate::lexeme::{Lexeme, index_at, lexemes, word_at};

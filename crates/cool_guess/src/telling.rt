@@ -1,4 +1,4 @@
-//! The difference of two texts, and the description of an edit in words.
+//! `difference` finds the bytes in which two texts differ, and `reason_words` describes an edit in words.
 
 ghost use Rattle.std.specs.Prelude.{◌≡◌, ◌++◌, IfOk};
 ghost use Rattle.cool_guess.specs.Words.{edit_words, first_line, quoted, reason_words, trimmed};

@@ -1,4 +1,4 @@
-//! Candidates for faults of lexemes and syntax, by the lexemes around.
+//! Candidate fixes for lexical and syntax errors are guessed from the lexemes around the error.
 
 use crate::candidate::{Candidate, Candidates, Reason, ends_word, is_blank};
 use crate::extents::{begins_expression, closes, opens};

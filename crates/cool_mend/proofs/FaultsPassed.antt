@@ -1,4 +1,5 @@
--- The comparison of the faults after an edit with those before it, one fault after another.
+-- If a comparison, error by error, finds each error after an edit among those before it, then all of them are errors from before the edit, other than the
+-- one to be fixed.
 use Rattle.std.proofs.Common.{◌≡◌, ℕ, ◌+◌, ◌<◌, ◌≤◌, List, [], ◌∷◌, ◌++◌, length, get_or, map, take, drop, nat_eq, true, subst, sym, ap, append_assoc, arith, ◌∙◌}
 use Rattle.std.proofs.lemmas.Bool.{eqb-true}
 use Rattle.std.proofs.lemmas.List.{map-append, map_push, take_all, take_more}

@@ -1,4 +1,4 @@
--- Files are copied one after another, their bytes counted, and one of them edited.
+-- The files after an edit are copies of the files before the edited one, the edited file, and copies of the files behind it.
 use Rattle.std.proofs.Common.{◌≡◌, ℕ, ◌+◌, ◌<◌, List, [], ◌∷◌, ◌++◌, length, get_or, take, drop, sym, ◌∙◌, ap, append_assoc}
 use Rattle.std.specs.Global.{Vec}
 use Rattle.std.proofs.lemmas.List.{drop-map, get_or-map, map_push, take-map}

@@ -1,4 +1,4 @@
--- Explanations whose edits mend their faults, with one more explanation for the next fault.
+-- If the edits of the explanations so far fix their compile-time errors, and the edit of the next explanation fixes the next error, then all of them do.
 use Rattle.std.proofs.Common.{◌≡◌, ℕ, ◌+◌, ◌<◌, suc, List, [], ◌∷◌, ◌++◌, length, get_or, map, take, IfSome, arith, subst, sym, ap, ◌∙◌}
 use Rattle.std.proofs.lemmas.List.{length-map, length-take, map_push, take_more}
 use Rattle.std.specs.List.{AllByRecursion}

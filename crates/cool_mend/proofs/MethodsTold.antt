@@ -1,4 +1,5 @@
--- The methods that are told of a class: one class of its chain after another, and one name after another.
+-- The methods that an explanation lists for a class are collected from the class and its ancestors, one class after another, and in a class one name after
+-- another.
 use Rattle.std.proofs.Common.{◌≡◌, ℕ, suc, zero, ◌+◌, ◌-◌, ◌<◌, ◌≤◌, List, [], ◌∷◌, ◌++◌, length, get_or, take, drop, map, Bool, true, false, Option, Some, None, refl, ap, sym, ◌∙◌, append-nil, append_assoc, arith}
 use Rattle.std.specs.Prelude.{bytes_eq, nat_lt, not, ◌&&◌, ◌||◌, option_map, if◌then◌else◌}
 use Rattle.std.specs.List.{flat_map, list_any}

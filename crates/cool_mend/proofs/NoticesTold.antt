@@ -1,4 +1,4 @@
--- The first notices of features, and of one more feature.
+-- The first notices (warnings) of a list of features, followed by those of one more feature up to the limit, are the first notices of the longer list.
 use Rattle.std.proofs.Common.{◌≡◌, ℕ, ◌+◌, ◌<◌, List, [], ◌++◌, map, length, take, get_or, ap, ◌∙◌, append_assoc}
 use Rattle.std.specs.List.{flat_map}
 use Rattle.cool_syntax.specs.declared.file_tree.Feature.{Feature}

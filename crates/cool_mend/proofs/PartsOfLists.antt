@@ -1,4 +1,4 @@
--- A list that is a part of another list stays one if the other list gets an item, or if both get it.
+-- A list that is a part (a subsequence) of another list stays one if the other list gets one more item, or if both lists get the same item.
 use Rattle.std.proofs.Common.{List, [], ◌∷◌, ◌++◌}
 use Rattle.cool_mend.specs.Mends.{IsPart, none, kept, left}
 

@@ -1,4 +1,5 @@
--- `IsRangeAt` says which range of a file is told and marked at a place: that of the item of the lexer that begins there, or of the lexical error there.
+-- `IsRangeAt` says which range of a file an explanation marks at a place: that of the token or other lexical item that begins there, or of the lexical
+-- error there.
 use Rattle.std.specs.Prelude.{◌≡◌, ◌≢◌, ℕ, ◌+◌, ◌≤◌, List, [], length, get_or, drop, None}
 use Rattle.cool_syntax.specs.declared.place.Place.{Place}
 use Rattle.cool_syntax.specs.Lexemes.{Form}

@@ -1,4 +1,4 @@
--- `HasWords` says which words a suggested mend has: those on its edit, computed from the bytes that the edit takes away and puts in, or from a named hint.
+-- `HasWords` says how a suggested fix is described: in words computed from the bytes that its edit removes and adds, or by the sentence of a named hint.
 use Rattle.std.specs.Prelude.{◌≡◌, ℕ, Bool, List, [], ◌++◌, codes, if◌then◌else◌}
 use Rattle.cool_guess.specs.declared.candidate.Reason.{Reason}
 use Rattle.cool_guess.specs.Words.{reason_words}

@@ -1,4 +1,4 @@
-//! Files after an edit.
+//! `edited` applies an edit to source files and returns copies of all files, with one of them edited.
 
 ghost use Rattle.std.specs.Prelude.{◌≡◌, ◌++◌, ◌≤◌, IfOk, IfSome, length, true};
 ghost use Rattle.cool_syntax.specs.declared.TheConstants.{MOST_FILES, MOST_SOURCE_BYTES};

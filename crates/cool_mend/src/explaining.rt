@@ -1,4 +1,4 @@
-//! Explaining the faults of files.
+//! `explain` explains each compile-time error of source files, with an edit that was tried and fixes the error, if one was found.
 
 ghost use Rattle.std.specs.Prelude.{◌≡◌, ◌≢◌, ◌<◌, ◌≤◌, [], IfOk, IfSome, length, map};
 ghost use Rattle.std.specs.List.{AllByRecursion};

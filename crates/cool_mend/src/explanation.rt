@@ -1,4 +1,5 @@
-//! Explanations of faults, and notices about programs.
+//! An `Explanation` holds the facts about a compile-time error and an edit that fixes it; `Explained` holds all explanations, or the warnings about a
+//! program.
 
 use crate::edit::Edit;
 use cool_faults::Fault;

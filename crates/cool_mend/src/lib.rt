@@ -1,4 +1,4 @@
-//! Explanations of faults: the lexeme at a fault, the types that do not fit, and an edit that mends the fault.
+//! Explanations of compile-time errors: the lexeme at the error, the types that do not fit, and an edit that fixes the error.
 //!
 //! Input: the bytes of source files. Output: an explanation of each fault of their fault list, in its order, with an edit that was tried and
 //! mends it, where one was found. `specs/Edits.antt` defines edits, `specs/Mends.antt` what it is that an edit mends, and

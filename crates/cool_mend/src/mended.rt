@@ -1,4 +1,4 @@
-//! The test whether an edit mends a fault, by the fault lists of the files before and after the edit.
+//! `is_mended` tests whether an edit fixes a compile-time error, by the error lists of the files before and after the edit.
 
 ghost use Rattle.std.specs.Prelude.{◌≡◌, ◌≤◌, ◌+◌, ◌++◌, ◌∷◌, [], List, IfSome, map, length, take, drop, true};
 ghost use Rattle.cool_faults.specs.Files.{bytes_of};

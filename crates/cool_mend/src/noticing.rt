@@ -1,4 +1,4 @@
-//! Notices about expressions that are legal and likely a mistake.
+//! `notices` collects the warnings about expressions of a program that are legal, but likely a mistake.
 
 ghost use Rattle.std.specs.Prelude.{◌≡◌, List, map, take, IfOk, OnOk};
 ghost use Rattle.std.specs.List.{AllByRecursion};

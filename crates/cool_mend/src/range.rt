@@ -1,4 +1,4 @@
-//! The range of a file that is told and marked at a place.
+//! `range_at` finds the range of a file that an explanation marks at a place, such as the token that begins there.
 
 ghost use Rattle.std.specs.Prelude.{◌≡◌, [], IfOk, get_or};
 ghost use Rattle.cool_faults.specs.Files.{bytes_of};

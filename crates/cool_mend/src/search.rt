@@ -1,4 +1,4 @@
-//! The search for edits that may mend a fault. It tries candidates on an excerpt of the program and promises nothing of the edits that it finds:
+//! The search for edits that may fix a compile-time error tries candidates on an excerpt of the program. No contract says which edits it finds:
 //! `explaining.rt` tries them on all files.
 
 ghost use Rattle.std.specs.Prelude.{◌≡◌, ◌≤◌, length, true};

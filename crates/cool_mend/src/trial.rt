@@ -1,4 +1,4 @@
-//! Trials: whether an edit mends a fault.
+//! `mends` tries an edit: it checks the edited files and says whether the edit fixes the compile-time error.
 
 ghost use Rattle.std.specs.Prelude.{◌≡◌, ◌<◌, ◌≤◌, IfOk, IfSome, length, true};
 ghost use Rattle.std.specs.List.{AllByRecursion};

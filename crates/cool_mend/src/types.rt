@@ -1,4 +1,4 @@
-//! The types and methods of faults of typing, as they are written.
+//! `fault_types` and `fault_methods` give the names of the types and methods that an explanation of a type error shows.
 
 ghost use Rattle.std.specs.Prelude.{◌≡◌, ◌∷◌, ◌≤◌, ◌<◌, [], IfOk, IfSome, OnOk, Some, drop, length, option_map, take};
 ghost use Rattle.cool_syntax.specs.declared.TheConstants.{MOST_FILES, MOST_SOURCE_BYTES};

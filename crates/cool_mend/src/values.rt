@@ -1,4 +1,4 @@
-//! The places of the expressions that give a value of the wrong type.
+//! `fault_values` finds the places of the expressions that give a value of the wrong type.
 
 ghost use Rattle.std.specs.Prelude.{◌≡◌, ◌<◌, ◌++◌, IfOk, OnOk, length, option_map};
 ghost use Rattle.std.specs.List.{flat_map};

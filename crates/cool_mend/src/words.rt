@@ -1,4 +1,4 @@
-//! The words on a fix.
+//! `mend_of` adds to a suggested fix the words that describe its edit.
 
 ghost use Rattle.std.specs.Prelude.{◌≡◌, ◌-◌, IfOk, drop, take};
 ghost use Rattle.cool_faults.specs.Files.{bytes_of};

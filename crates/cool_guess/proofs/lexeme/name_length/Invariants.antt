@@ -1,4 +1,4 @@
--- In the loop of `name_length`, the bytes so far are a front of the name.
+-- In the loop of `name_length`, the bytes passed so far and the word bytes that the rest begins with make the length of the whole name.
 use Rattle.std.proofs.Common.{◌≡◌, ◌+◌, drop}
 use Rattle.std.specs.List.{prefix_len}
 use Rattle.cool_syntax.specs.Lexemes.{is_in_word}

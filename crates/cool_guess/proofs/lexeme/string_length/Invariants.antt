@@ -1,4 +1,4 @@
--- In the loop of `string_length`, the bytes so far are a front of the string.
+-- In the loop of `string_length`, the bytes passed so far and the size of the rest of the string make the size of the whole string constant.
 use Rattle.std.proofs.Common.{◌≡◌, ◌+◌, true, drop}
 use Rattle.cool_guess.specs.Lexemes.{string_size}
 use Rattle.cool_guess.proofs.lexeme.string_length.Given as goal

@@ -1,4 +1,4 @@
--- `edited` returns the files before the edited one, the edited one, and the files behind it, as `edited` of `Edits.antt` defines.
+-- `edited` returns copies of the files before the edited one, the edited file, and copies of the files behind it, as `edited` of `Edits.antt` defines.
 use Rattle.std.proofs.Common.{◌≤◌, ◌+◌, ◌++◌, ℕ, List, ap, arith, drop, length, length-drop, subst, sym, take, take_all, ◌∙◌}
 use Rattle.std.specs.Global.{Vec}
 use Rattle.std.proofs.lemmas.List.{length-map}

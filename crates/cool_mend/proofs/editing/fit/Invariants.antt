@@ -1,4 +1,4 @@
--- In the loop of `fit`, `left` is the limit without the bytes of the files so far.
+-- In the loop of `fit`, which tests the limit on the bytes of all files, `left` is this limit less the number of bytes of the files so far.
 use Rattle.std.proofs.Common.{◌≡◌, ◌+◌, drop}
 use Rattle.cool_syntax.specs.declared.TheConstants.{MOST_SOURCE_BYTES}
 use Rattle.cool_faults.specs.Files.{bytes_of, total}

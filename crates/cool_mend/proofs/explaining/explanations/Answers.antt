@@ -1,4 +1,4 @@
--- Each step of the loop of `explanations` adds the explanation of the next fault.
+-- Each step of the loop of `explanations` adds the explanation of the next compile-time error.
 use Rattle.std.proofs.Common.{ap, arith, map, refl, subst, sym, ◌∙◌}
 use Rattle.std.specs.List.{AllByRecursion}
 use Rattle.lists.proofs.AllItems.{all_append}

@@ -1,4 +1,5 @@
--- In the loop of `explanations`, the explanations so far are those of the faults so far. Their facts are true, and the edit of each mends its fault.
+-- In the loop of `explanations`, the explanations so far are those of the compile-time errors so far: their facts are true, and the edit that each suggests
+-- fixes its error.
 use Rattle.std.proofs.Common.{◌≡◌, map, take}
 use Rattle.std.specs.List.{AllByRecursion}
 use Rattle.cool_faults.specs.Files.{bytes_of}

@@ -1,4 +1,4 @@
--- `of_faults` explains these faults, which are all at places in the files.
+-- `of_faults` returns one explanation for each given compile-time error, and all these errors are at places in the files.
 use Rattle.std.proofs.Common.{length}
 use Rattle.cool_syntax.specs.TokenFacts.{IsPlaced}
 use Rattle.cool_faults.specs.Files.{bytes_of}

@@ -1,4 +1,4 @@
--- `of_program` explains no fault, because accepted files have none.
+-- `of_program` returns no explanation, because accepted files have no compile-time errors.
 use Rattle.std.proofs.Common.{List, subst, sym}
 use Rattle.cool_faults.specs.Files.{bytes_of}
 use Rattle.cool_faults.proofs.AcceptedFiles.{accepted_list}

@@ -1,4 +1,4 @@
--- In the loop of `tried`, the edit in `kept` mends the fault.
+-- In the loop of `tried`, which tests candidate edits on all files, the edit in `kept`, if there is one, fixes the compile-time error.
 use Rattle.std.specs.Prelude.{IfSome}
 use Rattle.cool_faults.specs.Files.{bytes_of}
 use Rattle.cool_mend.specs.Explanations.{IsMend}

@@ -1,4 +1,4 @@
--- `are_others` returns true only if all faults after the edit are faults from before it, moved by the edit, other than the one of the given number.
+-- `are_others` returns true only if all errors after an edit are errors from before it, moved by the edit, other than the one of the given number.
 use Rattle.std.proofs.Common.{◌+◌, [], arith, drop, length-drop}
 use Rattle.cool_mend.specs.Mends.{none}
 use Rattle.cool_mend.proofs.FaultsPassed.{all_passed}

@@ -1,4 +1,4 @@
--- `is_mended` counts the lines that an edit adds and removes: they are the line ends in its text and in its range.
+-- `is_mended` compares the errors after an edit with those before it, after moving the lines of these by the line ends that the edit adds and removes.
 use Rattle.std.proofs.Common.{◌-◌, ℕ, List, inr, ap, arith, drop, sym, take, ◌∙◌}
 use Rattle.std.proofs.lemmas.List.{length-map}
 use Rattle.std.specs.Global.{Vec}

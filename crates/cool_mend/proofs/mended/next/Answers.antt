@@ -1,4 +1,4 @@
--- `next` passes the next fault after an edit if the given fault from before the edit becomes that fault, and passes none otherwise.
+-- `next` passes the next error after an edit if the given error from before the edit becomes that error, and passes none otherwise.
 use Rattle.std.proofs.Common.{arith, refl}
 use Rattle.cool_mend.proofs.FaultsPassed.{next_kept}
 use Rattle.cool_mend.proofs.PartsOfLists.{part_left}

@@ -1,4 +1,5 @@
--- In the loop of `passed`, the faults after the edit that were passed since the start are a part of the faults so far, moved by the edit.
+-- In the loop of `passed`, the errors after the edit that were passed since the start are a subsequence of the errors before the edit so far, moved by the
+-- edit.
 use Rattle.std.proofs.Common.{◌++◌, ◌≤◌, List, length, map, take}
 use Rattle.cool_syntax.specs.FaultOrder.{Standing}
 use Rattle.cool_faults.specs.Verdicts.{standing_of}

@@ -1,4 +1,4 @@
--- In the loop of `add_of_feature`, the first notices that `body_notices` found are added, each with its range.
+-- In the loop of `add_of_feature`, the first warnings that `body_notices` found are added, each with its range in the file.
 use Rattle.std.proofs.Common.{◌≡◌, ◌++◌, map, take}
 use Rattle.std.specs.List.{AllByRecursion}
 use Rattle.cool_faults.specs.Files.{bytes_of}

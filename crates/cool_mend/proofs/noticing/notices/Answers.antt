@@ -1,4 +1,4 @@
--- Each step of the inner loop of `notices` adds the notices of the next feature.
+-- Each step of the inner loop of `notices` adds the notices (warnings) of the next feature.
 use Rattle.std.proofs.Common.{take, arith}
 use Rattle.std.specs.List.{flat_map}
 use Rattle.cool_mend.specs.declared.noticing.TheConstants.{MOST_NOTICES}

@@ -1,4 +1,5 @@
--- In the loops of `notices`, the notices so far are those of the classes and features before the present one, up to `MOST_NOTICES`, each with its range.
+-- In the loops of `notices`, the warnings so far are those of the classes and features before the present one, up to `MOST_NOTICES`, each with its range in
+-- the file.
 use Rattle.std.proofs.Common.{◌≡◌, ◌++◌, [], map, take}
 use Rattle.std.specs.List.{AllByRecursion, flat_map}
 use Rattle.cool_faults.specs.Files.{bytes_of}

@@ -1,4 +1,4 @@
--- `fault_list` returns an empty list for files that are accepted, because they have no fault.
+-- `fault_list` returns an empty list of errors for files that are accepted, because they have no compile-time errors.
 use Rattle.std.proofs.Common.{List, length, sym, subst}
 use Rattle.std.specs.List.{AllByRecursion}
 use Rattle.cool_syntax.specs.TokenFacts.{IsPlaced}

@@ -1,4 +1,4 @@
--- In the loops of `add_own`, the methods so far, with those of the names that are left, are those of all names.
+-- In the loops of `add_own`, the method names so far, with those of the features and basic methods that are left, are all names of the class's own methods.
 use Rattle.std.proofs.Common.{◌≡◌, ◌++◌, drop}
 use Rattle.cool_classes.specs.BasicMethods.{named_methods}
 use Rattle.cool_classes.specs.Features.{basic_methods}

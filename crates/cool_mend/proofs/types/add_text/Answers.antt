@@ -1,4 +1,4 @@
--- `add_text` adds a text that is not there while there are fewer than `MOST_METHODS`.
+-- `add_text` adds a text that is not yet in the list, as long as the list has fewer than `MOST_METHODS` texts.
 use Rattle.std.proofs.Common.{ℕ, List, ap, arith, sym, ◌∙◌}
 use Rattle.std.specs.Prelude.{bytes_eq}
 use Rattle.std.specs.List.{list_any}

@@ -1,4 +1,4 @@
--- `all_methods` adds the methods of one class of the chain after another. A number outside the table has none.
+-- `all_methods` adds the methods of a class and then of its ancestors, one after another. A class number outside the class table has no methods.
 use Rattle.std.proofs.Common.{◌∙◌, ◌<◌, Option, IfSome, ap, arith, length, subst, sym}
 use Rattle.cool_classes.specs.declared.class_id.ClassId.{ClassId}
 use Rattle.cool_faults.specs.Files.{bytes_of}

@@ -1,4 +1,4 @@
--- In the loop of `all_methods`, the methods so far, with those of the classes that are left on the chain, are all methods.
+-- In the loop of `all_methods`, the methods so far, with those of the ancestors that are left, are all methods of the class.
 use Rattle.std.proofs.Common.{◌≡◌, ◌+◌, ◌-◌, ◌<◌, length}
 use Rattle.std.specs.Prelude.{IfSome}
 use Rattle.std.specs.List.{flat_map}

@@ -1,4 +1,4 @@
--- `class_table` returns the class table of the verdict of `class_phase`.
+-- `class_table` returns the class table that `class_phase` (the front end up to the class table) builds for the files, if it does not reject them.
 use Rattle.std.proofs.Common.{refl, subst}
 use Rattle.cool_faults.specs.Files.{bytes_of}
 use Rattle.cool_faults.specs.Untyped.{IsClassVerdict}

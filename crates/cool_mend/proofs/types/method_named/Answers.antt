@@ -1,4 +1,4 @@
--- `method_named` finds the method of the nearest class on the chain. A number outside the table has none.
+-- `method_named` finds the method in the nearest class among a class and its ancestors. A class number outside the class table has no method.
 use Rattle.std.proofs.Common.{arith, sym}
 use Rattle.cool_rules.proofs.RulesOfTables.{method_of_is}
 use Rattle.cool_mend.proofs.MethodsTold.{method_outside}

@@ -1,4 +1,5 @@
--- In the loop of `add_of_class`, the value places so far, followed by those in the features that are left, are all value places.
+-- In the loop of `add_of_class`, the places so far of expressions that give the wrong value, followed by those in the features that are left, are all such
+-- places.
 use Rattle.std.proofs.Common.{◌≡◌, ◌++◌, drop}
 use Rattle.std.specs.List.{flat_map}
 use Rattle.cool_mend.specs.Values.{values_of_feature}

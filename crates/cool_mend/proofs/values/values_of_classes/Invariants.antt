@@ -1,4 +1,4 @@
--- In the loop of `values_of_classes`, the value places in the classes before the present one are added.
+-- In the loop of `values_of_classes`, the places of expressions that give the wrong value are added for all classes before the present one.
 use Rattle.std.proofs.Common.{◌≡◌, take}
 use Rattle.std.specs.List.{flat_map}
 use Rattle.cool_mend.specs.Values.{values_of_class}

@@ -1,4 +1,4 @@
--- The nodes of a body are all of its parts.
+-- `values_of_lets` visits each `let` of a body, because the nodes of a body are all of its subexpressions.
 use Rattle.std.proofs.Common.{take_all, ap, arith, ◌∙◌}
 use Rattle.std.specs.List.{flat_map}
 use Rattle.cool_syntax.specs.NodeLists.{all_trees}

@@ -1,4 +1,4 @@
--- In the loop of `values_of_lets`, the value places of the nodes before the present one are added.
+-- In the loop of `values_of_lets`, the places of expressions that give the wrong initial value of a `let` are added for all nodes before the present one.
 use Rattle.std.proofs.Common.{◌≡◌, take}
 use Rattle.std.specs.List.{flat_map}
 use Rattle.cool_syntax.specs.NodeLists.{all_trees}
