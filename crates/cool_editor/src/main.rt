@@ -1,6 +1,7 @@
-//! The program for editors: `cool_editor FILES` writes where each name of the files stands, what it is, and which definition it means;
-//! `cool_editor --code FILES` where the code of each expression of the program stands, and which names are in scope there; `cool_editor --tokens FILES`
-//! their tokens, and `cool_editor --trees FILES` their trees with the types of all expressions.
+//! The program `cool_editor` lists names, code, tokens or syntax trees of Cool files for editors. `cool_editor FILES` writes where each name of the files
+//! stands, what it is, and which definition it means. `cool_editor --code FILES` writes where the code of each expression of the program stands, and which
+//! names are in scope there. `cool_editor --tokens FILES` writes their tokens, and `cool_editor --trees FILES` their trees with the types of all
+//! expressions.
 //!
 //! `perform` of `cool_listings` is all that it does if the arguments are text.
 #![tactic(auto)]

@@ -1,4 +1,4 @@
--- The columns of a program, which the listing writes: each column has a type for each node of the expression of a feature.
+-- The column (array of types) that a program has for the expression of a feature has one type for each node of this expression.
 use Rattle.std.proofs.Common.{◌≡◌, ◌∙◌, ℕ, ◌<◌, ◌^◌, List, length, get_or, ap, sym, refl, subst, arith}
 use Rattle.std.specs.Prelude.{Option, Some, None, slice_get}
 use Rattle.std.proofs.lemmas.Option.{slice_get_read}

@@ -1,4 +1,4 @@
--- The lines of the nodes from one on: the line of the first of them, and then those of the others.
+-- In the listing of syntax trees, the lines of the nodes from one on are the line of the first of these nodes, followed by the lines of the others.
 use Rattle.std.proofs.Common.{◌≡◌, ℕ, ◌+◌, ◌∙◌, ◌<◌, ◌≤◌, List, ◌++◌, length, drop, flat_map, get_or, ap, sym, append_assoc, append-nil}
 use Rattle.std.proofs.lemmas.List.{drop_all}
 use Rattle.std.proofs.lemmas.Option.{get_or_from_slice_get, slice_get_within}

@@ -1,4 +1,4 @@
--- The text of files: the texts of the single files, one after another.
+-- A listing of several files is the listings of the single files, one after another.
 use Rattle.std.proofs.Common.{◌≡◌, ◌∙◌, ℕ, ◌+◌, List, [], ◌∷◌, ◌++◌, ap, sym, refl, subst, append-nil, append_assoc}
 use Rattle.cool_listings.specs.EachFile.{IsOfEach}
 

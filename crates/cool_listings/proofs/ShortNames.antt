@@ -1,4 +1,4 @@
--- The names that `fit` of `Ends.antt` admits for the form `Code` are short enough for a build.
+-- The file names that `fit` of `Ends.antt` admits for the listing of code (`--code`) are within the length limit of a build.
 use Rattle.std.proofs.Common.{◌≡◌, ℕ, List, [], ◌∷◌, length}
 use Rattle.std.specs.Prelude.{nat_le, true}
 use Rattle.std.proofs.lemmas.Bool.{and_parts, leb-true}

@@ -1,4 +1,4 @@
--- The classes of the files of a program are in its table in the order of the files, each with its features.
+-- The classes of the files of a program are in its class table in the order of the files, each with its features.
 use Rattle.std.proofs.Common.{◌≡◌, ℕ, zero, suc, ◌+◌, ◌∙◌, ◌<◌, ◌≤◌, List, [], ◌∷◌, ◌++◌, codes, length, drop, get_or, ap, sym, refl, subst, append-nil, append_assoc, arith}
 use Rattle.std.specs.Prelude.{Option, Some, None, Result, Ok, Err, IfOk, OnOk}
 use Rattle.cool_syntax.specs.declared.file_tree.ClassDef.{ClassDef}

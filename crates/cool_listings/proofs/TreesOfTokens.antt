@@ -1,4 +1,4 @@
--- The tokens of files that are a class table are trees, each the one that the parser gives.
+-- If files have a class table, the tokens of each file are one syntax tree, the one that the parser returns.
 use Rattle.std.proofs.Common.{◌≡◌, ℕ, ◌+◌, ◌<◌, List, [], ◌∷◌, ◌++◌, length, drop, map, take, get_or, ap, ◌∙◌, refl, subst, append_assoc, arith}
 use Rattle.cool_syntax.specs.declared.file_tree.ClassDef.{ClassDef}
 use Rattle.cool_syntax.specs.declared.file_tree.FileTree.{FileTree}

@@ -1,4 +1,4 @@
--- The call that is read from arguments has the form and the names that the arguments ask for, so it ends as they say.
+-- The parsed command line has the output format and the file names that the arguments ask for, so a run of it ends as the specification of these says.
 use Rattle.std.proofs.Common.{◌≡◌, ◌⊎◌, inl, inr, ℕ, List, [], Bool, true, false, Option, Some, None, refl, sym, subst}
 use Rattle.cool_ports.specs.ShelfFiles.{AskedFront}
 use Rattle.cool_sources.specs.CommandLine.{IsCall, call_of, words_of}

@@ -1,4 +1,5 @@
--- The columns of types that a program has for the classes of its files. A file added to the lines of trees.
+-- `FitsClass` says that a class of a program has the features of a class definition, and `FitsBody` that a column (array of types) has one type for each
+-- node of an expression. `IsAdded` says that the lines of one more file were added to a listing of syntax trees.
 use Rattle.std.specs.Prelude.{◌≡◌, ℕ, suc, ◌+◌, ◌<◌, List, [], ◌∷◌, ◌++◌, Option, Some, None, IfSome, length}
 use Rattle.std.specs.Option.{option_map}
 use Rattle.cool_classes.specs.Chains.{Class, class_number, features_of}

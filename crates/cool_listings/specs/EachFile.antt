@@ -1,4 +1,4 @@
--- A text of files: one piece of each, in order.
+-- `IsOfEach` says that a text is made of one piece for each file, in the order of the files.
 use Rattle.std.specs.Prelude.{◌≡◌, ℕ, ◌+◌, List, [], ◌∷◌, ◌++◌}
 
 -- the text is a piece of each of the files, of which the first has this number

@@ -1,4 +1,5 @@
--- The answer on files: the lines of a form (marks, table of code, tokens or trees), or a note if the files have none.
+-- `IsAnswerOf` defines the answer of `cool_editor` on files: the lines of the output format (names, code, tokens or syntax trees), or a message if the
+-- files have none.
 use Rattle.std.specs.Prelude.{◌≡◌, ◌⊎◌, ℕ, List, [], ◌∷◌, ◌++◌, length, map, codes, nat_le, Bool, true, false, Option, Some, None}
 use Rattle.std.specs.List.{list_all}
 use Rattle.std.specs.Global.{Vec}

@@ -1,5 +1,6 @@
--- The line of a mark: FILE:LINE:BYTE ROLE NAME TYPE DEFINITION, with a blank between them and a newline at the end. FILE is the number of the
--- file in the order of the words, from 0; DEFINITION is FILE:LINE:BYTE, or - of what no file defines, or ? where none is known.
+-- `mark_line` is the line of a mark (an occurrence of a name in the source): FILE:LINE:BYTE ROLE NAME TYPE DEFINITION, with a blank between them and a
+-- newline at the end. FILE is the number of the file in the order of the arguments, from 0. DEFINITION is FILE:LINE:BYTE, or - if no file defines the name,
+-- or ? if the definition is not known.
 use Rattle.std.specs.Prelude.{◌≡◌, refl, ℕ, List, ◌++◌, map, codes}
 use Rattle.std.specs.List.{concat}
 use Rattle.std.specs.Fmt as decimals

@@ -1,6 +1,6 @@
--- The text of a node: its form, its names, and the numbers of its parts. `call` is followed by the method, the receiver and the arguments,
--- `static` by the class and then these. `let` is followed by a variable, its type, the initial value or -, and the body, and `case` by its value, and
--- then by PLACE NAME TYPE BODY of each branch.
+-- The text of a syntax-tree node is its kind of expression, its names, and the numbers of its parts. `call` is followed by the method, the receiver and the
+-- arguments, `static` by the class and then these. `let` is followed by a variable, its type, the initial value or -, and the body. `case` is followed by
+-- its value, and then by PLACE NAME TYPE BODY of each branch.
 use Rattle.std.specs.Prelude.{◌≡◌, refl, ℕ, Bool, true, false, List, [], ◌++◌, codes, decimal, flat_map, Option, Some, None}
 use Rattle.std.specs.Fmt as decimals
 use Rattle.cool_syntax.specs.declared.place.Place.{Place}

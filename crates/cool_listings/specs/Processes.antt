@@ -1,5 +1,5 @@
--- The form and the files that arguments ask for: the form that the first argument names, if it is an option, and otherwise the marks. Arguments that
--- are not a valid command line ask for the marks of no file.
+-- `form_asked` and `names_asked` are the output format and the file names that arguments ask for: the format that the first argument names, if it is an
+-- option, and otherwise the marks (occurrences of names). Arguments that are not a valid command line ask for the marks of no file.
 use Rattle.std.specs.Prelude.{◌≡◌, refl, ℕ, List, [], ◌∷◌, Option, Some, None, Bool, true, false, codes, if◌then◌else◌}
 use Rattle.std.specs.Str.{bytes_eq}
 use Rattle.cool_sources.specs.CommandLine.{call_of}

@@ -1,5 +1,5 @@
--- The lines of trees: each file has the lines of its classes, or one for the fault because of which it has no tree. One blank separates the words of
--- a line, and a newline ends it.
+-- The lines of syntax trees: each file has the lines of its classes, or one for the compile-time error because of which it has no tree. One blank separates
+-- the words of a line, and a newline ends it.
 --
 --     class PLACE NAME PARENT
 --     attribute PLACE NAME TYPE

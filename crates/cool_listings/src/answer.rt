@@ -1,4 +1,4 @@
-//! The text that a form writes for files.
+//! `files_text` writes the listing of files in an output format, or returns none if the files have no class table or are not a program.
 
 ghost use Rattle.std.specs.Prelude.{◌≡◌, ◌≤◌, length, map, string_bytes, IfOk, true};
 ghost use Rattle.std.specs.List.{list_all};

@@ -1,4 +1,4 @@
-//! The marks of files.
+//! `file_marks` lists the marks of files: the occurrences of names, each with the definition that it refers to.
 
 ghost use Rattle.std.specs.Prelude.{◌≡◌, ◌≤◌, IfOk, List, length};
 ghost use Rattle.std.specs.List.{AllByRecursion};

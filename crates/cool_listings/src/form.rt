@@ -1,4 +1,4 @@
-//! The forms of the output.
+//! `Form` lists the output formats of `cool_editor`: the names of files, the code of their expressions, their tokens, or their syntax trees.
 
 /// A form of the output for files.
 #[derive(Clone, Copy)]

@@ -1,5 +1,5 @@
-//! Listings for editors: where each name of files stands, what it is, and which definition it means; where the code of each expression of a program
-//! stands, and which names are in scope there; the tokens of files; and their trees with the types of all expressions.
+//! Listings of Cool files for editors: their names with the definitions, the code of each expression with the names in scope there, their tokens, and their
+//! syntax trees with types.
 //!
 //! Input: arguments, files and writers. Output: a line for each mark of `cool_names`, as `specs/Lines.antt` defines it, the table of code of `cool_emit`,
 //! the tokens as `specs/TokenLines.antt` defines their lines, the trees as `specs/TreeLines.antt` does, or a status (`specs/Ends.antt`). `perform` is

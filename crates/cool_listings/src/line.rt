@@ -1,4 +1,4 @@
-//! The line of a mark.
+//! `lines` writes a line for each mark (an occurrence of a name in the source, with the definition that it refers to).
 
 ghost use Rattle.std.specs.Prelude.{◌≡◌, IfOk, map};
 ghost use Rattle.std.specs.List.{concat};

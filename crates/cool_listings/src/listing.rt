@@ -1,4 +1,4 @@
-//! The task of listing files.
+//! `files_answer` answers a request for a listing of files with the text of the listing, or with the message that the files have none.
 
 ghost use Rattle.std.specs.Prelude.{◌≡◌, ◌≤◌, length, map, string_bytes, IfOk, true};
 ghost use Rattle.cool_syntax.specs.declared.TheConstants.{MOST_FILES, MOST_SOURCE_BYTES};

@@ -1,4 +1,4 @@
-//! The text of a node: its form, its names and the numbers of its parts.
+//! `form_text` writes a syntax-tree node as text: its kind of expression, its names and the numbers of its parts.
 
 ghost use Rattle.std.specs.Prelude.{◌≡◌, ◌++◌, IfOk, codes, flat_map};
 ghost use Rattle.cool_listings.specs.TokenLines.{string_text};

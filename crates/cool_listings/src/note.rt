@@ -1,4 +1,4 @@
-//! The notes: the messages of a call that writes no listing.
+//! These constants are the messages on standard error of a call of `cool_editor` that writes no listing.
 
 /// The note of arguments that name no file, or one by too long a name.
 pub const BAD_COMMAND_LINE: &[u8] = b"cool_editor: bad command line\n";

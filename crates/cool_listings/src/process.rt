@@ -1,4 +1,4 @@
-//! Listings over the system: the files of a runtime, and the writers of std.
+//! `perform` writes the listing that command-line arguments ask for, with the files of a runtime and the writers of the standard library.
 
 ghost use Rattle.std.specs.Prelude.{◌≡◌, []};
 ghost use Rattle.cool_ports.specs.ShelfFiles.{AskedFront};

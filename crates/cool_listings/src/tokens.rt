@@ -1,4 +1,4 @@
-//! The lines of tokens.
+//! `token_lines` writes a line for each token of the files, up to the first lexical error of each file.
 
 ghost use Rattle.std.specs.Prelude.{◌≡◌, ◌≤◌, IfOk, length, flat_map};
 ghost use Rattle.cool_syntax.specs.declared.TheConstants.{MOST_FILES, MOST_SOURCE_BYTES};

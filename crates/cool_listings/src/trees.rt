@@ -1,4 +1,4 @@
-//! The lines of trees.
+//! `tree_lines` writes the syntax trees of files: a line for each class, feature, formal parameter and node.
 
 ghost use Rattle.std.specs.Prelude.{◌≡◌, ℕ, List, ◌+◌, ◌++◌, ◌<◌, ◌≤◌, ◌^◌, IfOk, IfSome, OnOk, flat_map, length, Some};
 ghost use Rattle.std.specs.Option.{option_map};

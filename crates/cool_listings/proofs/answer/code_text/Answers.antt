@@ -1,4 +1,5 @@
--- `code_text` may call `table`, because `fit` of `Ends.antt` admits only names within `MOST_FILE_NAME` bytes in the form `Code`.
+-- `code_text` satisfies the precondition of `table`, because `fit` of `Ends.antt` admits only file names within `MOST_FILE_NAME` bytes for the listing of
+-- code.
 use Rattle.std.proofs.Common.{map}
 use Rattle.std.specs.Prelude.{string_bytes}
 use Rattle.cool_listings.proofs.ShortNames.{short_names}

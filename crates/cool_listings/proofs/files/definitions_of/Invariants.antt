@@ -1,4 +1,4 @@
--- In the loop of `definitions_of`, the definitions so far, followed by those of the files that are left, are the definitions of all files.
+-- In the loop of `definitions_of`, the class definitions so far, followed by those of the files that are left, are the definitions of all files.
 use Rattle.std.proofs.Common.{◌≤◌, List, drop, length}
 use Rattle.std.specs.List.{AllByRecursion}
 use Rattle.cool_syntax.specs.declared.TheConstants.{MOST_SOURCE_BYTES}

@@ -1,4 +1,4 @@
--- `file_marks` returns the marks of the files, because the trees that `definitions_of` parses are those of the class table.
+-- `file_marks` returns the marks (occurrences of names) of the files, because the trees that `definitions_of` parses are those of the class table.
 use Rattle.std.proofs.Common.{◌≡◌, ◌+◌, ◌≤◌, ◌∙◌, List, length, map, ap, sym, subst}
 use Rattle.std.specs.List.{AllByRecursion}
 use Rattle.cool_syntax.specs.declared.TheConstants.{MOST_SOURCE_BYTES}

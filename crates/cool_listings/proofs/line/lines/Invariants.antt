@@ -1,4 +1,4 @@
--- In the loop of `lines`, the text so far, followed by the lines of the marks that are left, is the text of all marks.
+-- In the loop of `lines`, the text so far, followed by the lines of the marks (occurrences of names) that are left, is the text of all marks.
 use Rattle.std.proofs.Common.{◌≡◌, ◌++◌, drop, map}
 use Rattle.std.specs.List.{concat}
 use Rattle.cool_listings.specs.Lines.{mark_line}

@@ -1,4 +1,4 @@
--- The answer is the text of the files, or the note that there is none.
+-- `files_answer` returns the listing of the files or, if they have none, the message on standard error that says so.
 use Rattle.std.proofs.Common.{rules, inl, inr, map, refl, subst}
 use Rattle.std.specs.Prelude.{string_bytes}
 use Rattle.cool_faults.specs.Files.{bytes_of}

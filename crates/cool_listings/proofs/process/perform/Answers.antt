@@ -1,4 +1,4 @@
--- The call is the one that the arguments ask for.
+-- `perform` makes the listing in the output format and of the files that its arguments ask for.
 use Rattle.std.proofs.Common.{◌≡◌, ◌⊎◌, inl, inr, true, false, ◌∙◌}
 use Rattle.std.specs.Prelude.{Some, None}
 use Rattle.cool_sources.specs.CommandLine.{words_of}

@@ -1,4 +1,4 @@
--- Each step of the loop of `body_text` adds the line of the next node, with the extent of the same number.
+-- Each step of the loop of `body_text` adds the line of the next node, with the extent (first and last token) of the same index.
 use Rattle.std.proofs.Common.{◌≡◌, ◌∙◌, ℕ, ◌<◌, List, ◌++◌, length, ap, refl, subst, arith}
 use Rattle.std.specs.Prelude.{Some, slice_get}
 use Rattle.std.proofs.lemmas.Option.{slice_get_read}

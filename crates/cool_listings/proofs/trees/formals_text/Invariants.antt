@@ -1,4 +1,4 @@
--- In the loop of `formals_text`, the text so far, followed by the lines of the formals that are left, is the text of all formals.
+-- In the loop of `formals_text`, the text so far, followed by the lines of the formal parameters that are left, is the text of all formal parameters.
 use Rattle.std.proofs.Common.{◌≡◌, ◌++◌, drop, flat_map}
 use Rattle.cool_listings.specs.TreeLines.{formal_line}
 use Rattle.cool_listings.proofs.trees.formals_text.Given as goal

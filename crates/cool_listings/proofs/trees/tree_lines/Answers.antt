@@ -1,4 +1,4 @@
--- `tree_lines` returns the lines of the trees with types if the files are a program, and without types otherwise.
+-- `tree_lines` returns the lines of the syntax trees with the types of all expressions if the files are accepted as a program, and without types otherwise.
 use Rattle.std.proofs.Common.{subst}
 use Rattle.cool_faults.specs.Files.{bytes_of}
 use Rattle.cool_faults.specs.Verdicts.{IsVerdict}

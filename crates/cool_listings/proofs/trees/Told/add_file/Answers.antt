@@ -1,4 +1,4 @@
--- `Told::add_file` adds the lines of the tree of a file, or the line of its lexical fault. No file has both tokens and a lexical fault.
+-- `Told::add_file` adds the lines of the syntax tree of a file, or the line of its lexical error. No file has both tokens and a lexical error.
 use Rattle.std.proofs.Common.{◌≡◌, ◌∙◌, ℕ, List, ◌++◌, ap, subst}
 use Rattle.std.specs.Option.{option_map}
 use Rattle.cool_syntax.specs.declared.token.Token.{Token}

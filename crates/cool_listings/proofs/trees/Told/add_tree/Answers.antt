@@ -1,4 +1,4 @@
--- `Told::add_tree` adds the lines of the classes that `parse` returns, or the line of its fault. No tokens have both classes and a fault.
+-- `Told::add_tree` adds the lines of the classes that `parse` returns, or the line of its syntax error. No tokens have both classes and a syntax error.
 use Rattle.std.proofs.Common.{◌≡◌, ◌∙◌, ◌+◌, ℕ, List, ◌++◌, codes, length, ap, sym, subst, arith}
 use Rattle.std.specs.Option.{option_map}
 use Rattle.cool_syntax.specs.declared.file_tree.ClassDef.{ClassDef}
