@@ -1,5 +1,5 @@
-//! The program that explains faults: `cool_explain FILES` writes for each fault of the files the line of `check`, the source line with its range
-//! marked, what is known of the fault, and lines that mend it. `cool_explain --lines FILES` writes the same for programs.
+//! The program `cool_explain` explains compile-time errors. `cool_explain FILES` writes for each error of the files its message, the source line with its
+//! range marked, what is known of the error, and lines that fix it. `cool_explain --lines FILES` writes the same for other programs.
 //!
 //! `perform` of `cool_explanations` is all that it does if the arguments are text.
 #![tactic(auto)]

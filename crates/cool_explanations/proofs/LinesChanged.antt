@@ -1,4 +1,4 @@
--- The changes of lines, one number after the other.
+-- The changes from some lines to others are the change of the first line, followed by the changes of the lines behind it with the next line numbers.
 use Rattle.std.proofs.Common.{◌≡◌, ℕ, zero, suc, ◌+◌, List, [], ◌∷◌, ◌++◌, drop, map, Option, refl, ap, sym, ◌∙◌, append_assoc, arith}
 use Rattle.std.specs.Prelude.{slice_get}
 use Rattle.std.proofs.lemmas.List.{drop-drop, map-append}

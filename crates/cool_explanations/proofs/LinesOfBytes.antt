@@ -1,4 +1,4 @@
--- The first line of some bytes: it ends at the first newline.
+-- Bytes that a loop has passed up to the first newline are the first line of the text.
 use Rattle.std.proofs.Common.{◌≡◌, ◌≢◌, ℕ, ◌+◌, ◌<◌, List, [], ◌∷◌, ◌++◌, length, get_or, take, drop, ap, sym, ◌∙◌, append-nil, append_assoc, arith}
 use Rattle.std.specs.Prelude.{nat_eq, Bool, false, if◌then◌else◌}
 use Rattle.std.proofs.lemmas.List.{at_drop_more, take_more}

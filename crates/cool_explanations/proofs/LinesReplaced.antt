@@ -1,4 +1,5 @@
--- The lines of a file in which an edit replaces a stretch of bytes: those in front of the stretch and those behind it stay, and each change is at its line.
+-- If an edit replaces a range of bytes in a file, the lines in front of the range and those behind it stay, and each changed line has its right line
+-- number.
 use Rattle.std.proofs.Common.{◌≡◌, ℕ, suc, ◌+◌, ◌-◌, ◌<◌, ◌≤◌, List, [], ◌∷◌, ◌++◌, length, get_or, take, drop, Bool, true, false, nat_eq, refl, ap, sym, subst, ◌∙◌, append-nil, append_assoc, length-append, arith}
 use Rattle.std.proofs.lemmas.List.{drop_all, drop-append-le, length-take, take-append-drop, take-take}
 use Rattle.std.proofs.lemmas.List.Sums.{sum_by-cons}

@@ -1,4 +1,4 @@
--- The form and the names of a call are those that its words ask for, and so is its end.
+-- The parsed command line has the output format and the file names that the arguments ask for, so a run of it ends as the specification of these says.
 use Rattle.std.proofs.Common.{◌≡◌, ◌⊎◌, inl, inr, ℕ, List, [], Bool, true, false, Option, Some, None, refl, sym, subst}
 use Rattle.cool_ports.specs.ShelfFiles.{AskedFront}
 use Rattle.cool_sources.specs.CommandLine.{IsCall, words_of}

@@ -1,5 +1,5 @@
--- `IsChange` says that a change which an explanation shows of a fix is one of the edited file: an old line stands at its number in the file, and a new line
--- at its number in the edited file. `IsReplacement` adds that all other lines of the file stay.
+-- `IsChange` says that a change of a line is one of the edited file: an old line stands at its number in the file, and a new line at its number in the
+-- edited file. `IsReplacement` adds that all other lines of the file stay.
 use Rattle.std.specs.Prelude.{◌≡◌, ℕ, ◌+◌, ◌-◌, ◌≤◌, List, ◌++◌, length, slice_get, Some, get_or, []}
 use Rattle.std.specs.List.{AllByRecursion}
 use Rattle.cool_mend.specs.declared.edit.Edit.{Edit}

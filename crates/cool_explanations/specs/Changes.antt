@@ -1,4 +1,5 @@
--- The lines that an edit changes, and their text. `ChangedLines.antt` says which lines of the file and of the edited file these are.
+-- `changes_by` lists the lines of a file that an edit adds, removes or replaces, and `changed_text` is the text that shows them. `ChangedLines.antt` says
+-- which lines of the file and of the edited file these are.
 use Rattle.std.specs.Prelude.{ℕ, suc, ◌+◌, ◌-◌, List, [], ◌∷◌, ◌++◌, map, length, get_or, take, drop, codes, Bool, nat_eq, nat_le, if◌then◌else◌, Option, Some, None}
 use Rattle.std.specs.List.{concat, count_by, list_all}
 use Rattle.std.specs.Str.{bytes_eq}

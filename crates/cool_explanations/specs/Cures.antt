@@ -1,4 +1,4 @@
--- The general advice on each kind of fault.
+-- `cure_words` gives general advice on how to fix each kind of compile-time error.
 use Rattle.std.specs.Prelude.{ℕ, List, [], ◌∷◌, codes, Option, Some, None}
 use Rattle.std.specs.Global.{Vec}
 use Rattle.cool_syntax.specs.declared.lexical.LexKind.{LexKind}

@@ -1,4 +1,5 @@
--- The answer on files: their explanations in a form, and whether they have faults.
+-- `IsAnswerOf` defines the answer of `cool_explain` on files: the explanations of their compile-time errors, or else their warnings, in the chosen output
+-- format, and whether there are errors.
 use Rattle.std.specs.Prelude.{◌≡◌, ◌≢◌, ℕ, List, [], codes, Bool, true, false}
 use Rattle.cool_mend.specs.declared.explanation.Explained.{Explained}
 use Rattle.cool_mend.specs.declared.explanation.Explanation.{Explanation}

@@ -1,4 +1,5 @@
--- The facts on a fault, in words: the token that was found there, the types that do not fit, the methods of a class, and further words.
+-- `facts` says in words what is known of a compile-time error: the token that was found there, the types that do not fit, the methods of a class, and
+-- further sentences.
 use Rattle.std.specs.Prelude.{ℕ, List, [], ◌∷◌, ◌++◌, codes, Bool, true, false, Option, Some, None, if◌then◌else◌}
 use Rattle.cool_check.specs.declared.fault.TypeKind.{TypeKind}
 use Rattle.cool_check.specs.declared.fault.TypeKind.TheVariants.{E1, E2, E3, E4, E5, E6, E7, E8, E9, E10, E11, E12, E13, E14, E15, E16, E17, E18}

@@ -1,4 +1,5 @@
--- Explanations for programs. FILE is the number of the file among the names, from 0, LINE counts from 1, and START, END and BYTE are bytes, from 0.
+-- `lines_of` is the output of `cool_explain --lines`, for other programs to read. FILE is the number of the file among the names, from 0, LINE counts from
+-- 1, and START, END and BYTE are bytes, from 0.
 --
 --     fault FILE:LINE:START:END KIND: WORDS    as `check` tells it
 --     rule NAME: PREMISE                       the typing rule that the fault breaks, and the premise that fails

@@ -1,5 +1,5 @@
--- The form and the names that the words of a command line ask for: after `--lines` the lines for programs, and otherwise the text for readers. Words
--- that are not a valid command line ask for the text of no file.
+-- `form_asked` and `names_asked` are the output format and the file names that command-line arguments ask for: after `--lines` the lines for other
+-- programs, and otherwise the text for people. Arguments that are not a valid command line ask for the text of no file.
 use Rattle.std.specs.Prelude.{◌≡◌, refl, ℕ, List, [], ◌∷◌, Bool, true, false, Option, Some, None, codes}
 use Rattle.cool_sources.specs.CommandLine.{call_of}
 use Rattle.cool_explanations.specs.declared.form.Form.{Form}

@@ -1,4 +1,4 @@
--- The typing rule that a fault breaks (the Cool manual, section 12): the rule by its name, and the premise that fails, in words.
+-- `rule_line` names the typing rule that a type error breaks (the Cool manual, section 12), and the premise of the rule that fails, in words.
 use Rattle.std.specs.Prelude.{◌≡◌, refl, ℕ, List, [], ◌++◌, codes, None}
 use Rattle.cool_syntax.specs.declared.place.Place.{Place}
 use Rattle.cool_check.specs.declared.fault.TypeKind.{TypeKind}

@@ -1,4 +1,4 @@
--- Parts of texts: a range, and the front or the end of a text that is too long to be shown.
+-- These functions cut a text to the part that is shown: a range of it, or its front or its end if it is too long.
 use Rattle.std.specs.Prelude.{◌≡◌, refl, ℕ, ◌-◌, List, ◌++◌, length, take, drop, codes, nat_le, if◌then◌else◌}
 
 -- the bytes of a range, as far as they are there

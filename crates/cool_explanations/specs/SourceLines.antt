@@ -1,4 +1,5 @@
--- The source line of a fault, and below it the mark of its range. A tab stands below a tab, and nothing below a byte that continues a letter of UTF-8.
+-- `source_line` is the source line of a compile-time error, and below it carets (`^`) that mark its range. A tab stands below a tab, and nothing below a
+-- byte that continues a character of UTF-8.
 use Rattle.std.specs.Prelude.{◌≡◌, refl, ℕ, ◌+◌, ◌-◌, List, [], ◌∷◌, ◌++◌, length, take, drop, codes, decimal, replicate, Bool, ◌&&◌, nat_eq, nat_le, nat_lt, if◌then◌else◌}
 use Rattle.std.specs.List.{flat_map}
 use Rattle.std.specs.Fmt as decimals

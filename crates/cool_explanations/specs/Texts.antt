@@ -1,5 +1,5 @@
--- Explanations for readers: for each fault the line of `check`, the source line with its range marked, what is known of the fault, and the lines that
--- fix it, or general advice; and for each warning its line, and the source line.
+-- `text_of` is the text that `cool_explain` writes for people. It has for each compile-time error the message, the source line with its range marked, what
+-- is known of the error, and the lines that fix it, or general advice. It has for each warning the message and the source line.
 use Rattle.std.specs.Prelude.{ℕ, List, [], ◌∷◌, ◌++◌, codes, decimal, get_or, Option, Some, None, nat_eq, if◌then◌else◌}
 use Rattle.std.specs.List.{flat_map}
 use Rattle.cool_syntax.specs.declared.place.Place.{Place}

@@ -1,4 +1,4 @@
-//! The lines that an edit changes.
+//! `changed_text` writes the lines of a file that an edit changes, as they become, and those that it removes.
 
 ghost use Rattle.std.specs.Prelude.{◌≡◌, ◌++◌, ◌+◌, ◌≤◌, ◌^◌, IfOk, OnOk, length, map, option_map};
 ghost use Rattle.std.specs.List.{concat};

@@ -1,4 +1,4 @@
-//! The general advice on each kind of fault.
+//! `cure_of` gives general advice on how to fix a compile-time error, if its explanation has nothing more specific.
 
 ghost use Rattle.std.specs.Prelude.{◌≡◌, option_map};
 ghost use Rattle.cool_explanations.specs.Cures.{class_cure, cure_of, cure_words, lex_cure, type_cure};

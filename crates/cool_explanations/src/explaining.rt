@@ -1,4 +1,4 @@
-//! The task of explaining the faults of files.
+//! `files_answer` explains the compile-time errors of files in the chosen output format, as the program `cool_explain` does.
 
 ghost use Rattle.std.specs.Prelude.{◌≡◌, ◌<◌, ◌≤◌, length, map, string_bytes, IfOk};
 ghost use Rattle.std.specs.List.{AllByRecursion};

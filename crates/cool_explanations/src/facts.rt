@@ -1,4 +1,4 @@
-//! The facts about a fault, in words.
+//! `facts` says in words what is known of a compile-time error, such as the types that do not fit.
 
 ghost use Rattle.std.specs.Prelude.{◌≡◌, ◌++◌, IfOk, ℕ, List, [], codes, map};
 ghost use Rattle.std.specs.Global.{Vec};

@@ -1,4 +1,4 @@
-//! In which form explanations are written.
+//! `Form` is the output format of explanations: text for people, or lines for other programs.
 
 /// In which form explanations are written.
 #[derive(Clone, Copy)]

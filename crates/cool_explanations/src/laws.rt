@@ -1,4 +1,5 @@
-//! A law on the lines that are shown of an edit.
+//! The theorem on shown edits says that the changes listed for an edit are lines of the file and of the edited file at their line numbers, and all other
+//! lines stay.
 
 ghost use Rattle.std.specs.Prelude.{ℕ, List};
 ghost use Rattle.cool_mend.specs.declared.edit.Edit.{Edit};

@@ -1,5 +1,5 @@
-//! Explaining faults: for each fault of files the line of `check`, the source line with its range marked, what is known of the fault, and lines that mend
-//! it; for people, or for programs.
+//! Explanations of compile-time errors as text: for each error its message, the source line with its range marked, what is known of the error, and lines
+//! that fix it; for people, or for other programs.
 //!
 //! Input: arguments, files and writers. Output: the explanations of `cool_mend` as `specs/Texts.antt` and `specs/Lines.antt` write them, or a status.
 //! `perform` is everything that the program `cool_explain` does if its arguments are text, and its clause is the promise over the system's files and

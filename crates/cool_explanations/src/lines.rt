@@ -1,4 +1,4 @@
-//! Explanations for programs.
+//! `lines_of` writes explanations and warnings as lines for other programs to read (`cool_explain --lines`).
 
 ghost use Rattle.std.specs.Prelude.{◌≡◌, ◌++◌, IfOk, ℕ, List, map, option_map};
 ghost use Rattle.std.specs.List.{flat_map};

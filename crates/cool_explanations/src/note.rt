@@ -1,4 +1,4 @@
-//! The notes.
+//! These constants are the messages of `cool_explain` on standard error, such as the one for invalid arguments.
 
 /// The note on words that are no command line, or name no file.
 pub const BAD_COMMAND_LINE: &[u8] = b"cool_explain: bad command line\n";

@@ -1,4 +1,4 @@
-//! The call over the system: a runtime's files, and std's writers.
+//! `perform` explains the files that command-line arguments name, with the files of a runtime and the writers of the standard library.
 
 ghost use Rattle.std.specs.Prelude.{[]};
 ghost use Rattle.cool_ports.specs.ShelfFiles.{AskedFront};

@@ -1,4 +1,4 @@
-//! The typing rule that a fault breaks, and the premise that fails.
+//! `rule_line` writes the typing rule that a type error breaks, and the premise of the rule that fails.
 
 ghost use Rattle.std.specs.Prelude.{◌≡◌, IfOk};
 ghost use Rattle.cool_explanations.specs.Rules.{premise_words, rule_line, rule_name};

@@ -1,4 +1,4 @@
-//! Parts of texts: a range, and the front or the end of a text that is too long to be shown.
+//! These functions cut a text to the part that is shown: a range of it, or its front or its end if it is too long.
 
 ghost use Rattle.std.specs.Prelude.{◌≡◌, IfOk, drop, take};
 ghost use Rattle.cool_explanations.specs.Shown.{cut_back, cut_front, part, quoted};

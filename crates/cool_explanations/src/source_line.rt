@@ -1,4 +1,4 @@
-//! The source line of a fault, and below it the mark of its range.
+//! `source_line` writes the source line of a compile-time error, and below it carets (`^`) that mark its range.
 
 ghost use Rattle.std.specs.Prelude.{◌≡◌, ◌≤◌, IfOk, length, take, drop};
 ghost use Rattle.std.specs.List.{flat_map};

@@ -1,4 +1,4 @@
-//! Explanations for readers.
+//! `text_of` writes explanations and warnings as text for people.
 
 ghost use Rattle.std.specs.Prelude.{◌≡◌, IfOk, length, map, option_map, string_bytes};
 ghost use Rattle.std.specs.List.{AllByRecursion, flat_map};

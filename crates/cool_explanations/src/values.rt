@@ -1,4 +1,4 @@
-//! Where a value of the wrong type comes from: the source lines of the expressions that give it.
+//! `value_text` shows where a value of the wrong type comes from: the source lines of the expressions that give it.
 
 ghost use Rattle.std.specs.Prelude.{◌≡◌, IfOk};
 ghost use Rattle.std.specs.List.{flat_map};

@@ -1,4 +1,4 @@
-//! Warnings for readers.
+//! `warnings_text` writes each warning with its source line, as text for people.
 
 ghost use Rattle.std.specs.Prelude.{◌≡◌, IfOk, map, string_bytes};
 ghost use Rattle.std.specs.List.{flat_map};

@@ -1,4 +1,4 @@
--- `changes` returns the texts of the changes of the lines: each step of its loop passes one line.
+-- `changes` returns the texts of the changes from the old lines to the new ones: each step of its loop passes one line.
 use Rattle.std.proofs.Common.{◌≡◌, ◌∙◌, ◌<◌, ◌≤◌, ℕ, zero, suc, List, [], ◌∷◌, Option, Some, None, refl, sym, ap, length, option_map}
 use Rattle.std.specs.Prelude.{MatchOption, map, slice_get}
 use Rattle.std.specs.List.{HoldsAt}

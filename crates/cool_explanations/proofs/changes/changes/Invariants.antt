@@ -1,4 +1,4 @@
--- In the loop of `changes`, the texts so far, followed by those of the changes of the lines that are left, are those of all changes.
+-- In the loop of `changes`, the texts of the changed lines so far, followed by those of the lines that are left, are those of all changed lines.
 use Rattle.std.proofs.Common.{◌≡◌, ◌+◌, ◌++◌, drop, map}
 use Rattle.cool_faults.specs.Files.{bytes_of}
 use Rattle.cool_explanations.specs.Changes.{change_text, changes}

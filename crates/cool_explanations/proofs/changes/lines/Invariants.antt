@@ -1,4 +1,5 @@
--- In the loop of `lines`, the lines so far, followed by those that the present line and the bytes that are left make, are all lines.
+-- In the loop of `lines`, which splits bytes at newlines, the lines so far, followed by those of the unfinished line and the bytes that are left, are all
+-- lines.
 use Rattle.std.proofs.Common.{◌≡◌, ◌++◌, drop, []}
 use Rattle.cool_faults.specs.Files.{bytes_of}
 use Rattle.cool_explanations.specs.Changes.{lines_from}

@@ -1,4 +1,4 @@
--- The text is that of the result of `explain`.
+-- `files_answer` returns the explanations and warnings that `explain` finds for the files, as text in the chosen output format.
 use Rattle.std.proofs.Common.{List, refl, subst}
 use Rattle.cool_mend.specs.declared.explanation.Explanation.{Explanation}
 use Rattle.cool_explanations.specs.Ends.{HasFaults}

@@ -1,4 +1,4 @@
--- `compared_words` returns the type that is due, then the words between them, then the type that is found.
+-- `compared_words` returns the expected type, then the words ` is compared with `, then the type that was found.
 use Rattle.std.proofs.Common.{◌∙◌, ℕ, List, ◌++◌, codes, ap, append_assoc}
 use Rattle.cool_explanations.proofs.facts.compared_words.Goals as goal
 

@@ -1,4 +1,4 @@
--- In the loop of `facts`, the facts so far, followed by the further words that are left, are all facts.
+-- In the loop of `facts`, the facts about a compile-time error so far, followed by the further sentences that are left, are all facts.
 use Rattle.std.proofs.Common.{◌≡◌, ◌++◌, drop}
 use Rattle.cool_faults.specs.Files.{bytes_of}
 use Rattle.cool_explanations.specs.Facts.{facts}

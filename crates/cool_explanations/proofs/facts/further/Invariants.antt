@@ -1,4 +1,4 @@
--- In the loop of `further`, the text so far, followed by that of the methods that are left, is the text of all methods.
+-- In the loop of `further`, the text so far, followed by that of the methods that are left, is the text of the list of methods.
 use Rattle.std.proofs.Common.{◌≡◌, ◌++◌, drop}
 use Rattle.cool_faults.specs.Files.{bytes_of}
 use Rattle.cool_explanations.specs.Facts.{further}

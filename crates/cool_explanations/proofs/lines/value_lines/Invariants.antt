@@ -1,4 +1,4 @@
--- In the loop of `value_lines`, the text so far, followed by the lines of the places that are left, is the text of all places.
+-- In the loop of `value_lines`, the text so far, followed by the lines of the source places that are left, is the text of all places.
 use Rattle.std.proofs.Common.{◌≡◌, ◌++◌, drop}
 use Rattle.std.specs.List.{flat_map}
 use Rattle.cool_explanations.specs.Lines.{value_line}

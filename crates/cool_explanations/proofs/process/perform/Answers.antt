@@ -1,4 +1,4 @@
--- The call is the one that the words ask for.
+-- `perform` explains the files that its arguments name, in the output format that they ask for.
 use Rattle.std.proofs.Common.{◌≡◌, ◌⊎◌, inl, inr, true, false}
 use Rattle.std.specs.Prelude.{codes}
 use Rattle.cool_sources.specs.CommandLine.{call_of, words_of}

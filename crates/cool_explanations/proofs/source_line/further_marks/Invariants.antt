@@ -1,4 +1,4 @@
--- In the loop of `further_marks`, the marks so far, followed by those below the bytes that are left, are the marks below all bytes.
+-- In the loop of `further_marks`, the carets (`^`) so far, followed by those below the bytes that are left, are the carets below all bytes.
 use Rattle.std.proofs.Common.{◌≡◌, ◌++◌, drop}
 use Rattle.std.specs.List.{flat_map}
 use Rattle.cool_explanations.specs.SourceLines.{mark_of}

@@ -1,5 +1,5 @@
--- In the loop of `explanations_text`, the text so far, followed by that of the explanations that are left, is the text of all explanations. The faults that
--- are left are in the files.
+-- In the loop of `explanations_text`, the text so far, followed by that of the explanations that are left, is the text of all explanations. The
+-- compile-time errors that are left are at places in the files.
 use Rattle.std.proofs.Common.{◌≡◌, ◌++◌, drop, length, map}
 use Rattle.std.specs.Prelude.{string_bytes}
 use Rattle.std.specs.List.{AllByRecursion, flat_map}

@@ -1,4 +1,4 @@
--- `mend_text` returns the line about a mend and then the lines that the mend changes.
+-- `mend_text` returns the line that describes a suggested fix, followed by the lines that the fix changes.
 use Rattle.std.proofs.Common.{◌∙◌, ℕ, List, ◌++◌, ap, map}
 use Rattle.std.specs.Prelude.{string_bytes}
 use Rattle.cool_explanations.specs.Changes.{changed_text}

@@ -1,4 +1,4 @@
--- In the loop of `note_lines`, the text so far, followed by the lines of the words that are left, is the text of all words.
+-- In the loop of `note_lines`, the text so far, followed by the lines of the sentences that are left, is the text of all sentences.
 use Rattle.std.proofs.Common.{◌≡◌, ◌++◌, drop}
 use Rattle.std.specs.List.{flat_map}
 use Rattle.cool_faults.specs.Files.{bytes_of}
