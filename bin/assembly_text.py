@@ -1,4 +1,4 @@
-"""Reads assembly as `cool asm` writes it and `cool exec` accepts it, for the filters asm-for-spim and asm-for-linux. docs/assembly.md defines the text."""
+"""Reads assembly as `cool asm` writes it and `cool exec` accepts it, for the filters `asm-for-spim` and `asm-for-linux`. docs/assembly.md defines the text."""
 import argparse
 import functools
 import re

@@ -1,4 +1,4 @@
-"""How the filters of single phases are called and end, and how they call `cool` on a program that is given as texts."""
+"""Shared by the filters that run one phase of the compiler: reads their arguments, ends them with a status, and calls `cool` on files made from texts."""
 import os
 import re
 import subprocess

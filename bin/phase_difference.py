@@ -1,4 +1,4 @@
-"""The first difference between two texts of tokens, or of trees, in words: for phase-diff, and for conformance/grade.
+"""Finds the first difference between two lists of tokens, or two syntax trees, and describes it in words, for `phase-diff` and `conformance/grade`.
 
 A given text may come from a program that is not trusted, and trees may be deep, so no function here calls itself.
 """

@@ -1,4 +1,4 @@
-"""Reads the text of a tree as the courses write it. A tree may be deep, so no function here calls itself."""
+"""Reads a syntax tree in the text format of Cool courses (docs/phases.md). A tree may be deep, so no function here calls itself."""
 import re
 
 from phase_tokens import Unlike

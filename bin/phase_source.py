@@ -1,4 +1,4 @@
-"""Writes a tree of the courses as Cool. A tree may be deep, so no function here calls itself.
+"""Writes a syntax tree, which was read in the text format of Cool courses, as Cool source text. A tree may be deep, so no function here calls itself.
 
 A node is written as a list: (LINE, TOKEN) for a token, where LINE 0 means any, and (NODE, LEVEL) for a part, which needs parentheses if it binds less
 tightly than LEVEL.

@@ -1,4 +1,4 @@
-"""The tokens of files as `cool_editor --tokens` prints them, and as the courses write them: between the two, and back to Cool.
+"""Converts the tokens that `cool_editor --tokens` prints to the text format of Cool courses, and tokens in that format back to Cool.
 
 docs/phases.md describes both formats.
 """

@@ -1,4 +1,4 @@
-"""The trees of files as `cool_editor --trees` prints them, and as the courses write them: from the first to the second.
+"""Converts the syntax trees that `cool_editor --trees` prints to the text format of Cool courses.
 
 docs/phases.md describes both formats. Trees may be deep, so no function here calls itself.
 """

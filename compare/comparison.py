@@ -1,4 +1,4 @@
-"""Runs cases on this machine and on another one, and compares output and status, for compare/spim-compare and compare/qemu-compare."""
+"""Runs test cases on this project's machine and on another one, and compares output and status, for `spim-compare` and `qemu-compare`."""
 import argparse
 import collections
 import concurrent.futures

@@ -1,5 +1,5 @@
-"""Converts an image to a text of its words for GNU as and ld, which runs on Linux for MIPS, for `compare/qemu-compare --images`. docs/mips-linux.md says
-how an image without delay slots runs on a processor that has them.
+"""Converts an image (the executable file that `cool build` writes) to assembly of its machine words for GNU as and ld, for `qemu-compare --images`.
+docs/mips-linux.md says how an image without delay slots runs on a processor that has them.
 """
 import struct
 

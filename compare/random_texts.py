@@ -1,4 +1,4 @@
-"""Random assembly texts, for compare/random-cases. A text uses all instructions, directives and system calls, and prints its registers, HI, LO, its data
+"""Generates random assembly texts for `random-cases`. A text uses all instructions, directives and system calls, and prints its registers, HI, LO, its data
 and some of its stack at the end. It avoids the points in which SPIM differs (docs/spim.md): no instruction traps, and a register with an address is
 changed to the difference of two addresses.
 """

@@ -1,4 +1,4 @@
-"""The cases that spim-compare and qemu-compare run: those of folders, the calls of examples/README.md, and those that compare/random-cases generates."""
+"""Lists the cases that `spim-compare` and `qemu-compare` run: those of folders, the calls of examples/README.md, and those that `random-cases` generates."""
 import os
 import re
 import subprocess

@@ -1,4 +1,4 @@
-"""Shared by the scripts of this folder: their options, the program of the repository, and how they end."""
+"""Shared by the scripts of this folder: it reads their options, finds the program of this repository, and ends a script with its status or an error message."""
 
 import os
 import re

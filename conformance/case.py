@@ -1,4 +1,4 @@
-"""A case of the folder cases/: its command, its expected results, and the differences of the actual ones."""
+"""Reads a test case of the folder cases/, which has a command and its expected results, and finds differences between these and the actual results."""
 
 import os
 import re

@@ -1,4 +1,4 @@
-"""The table of code that `cool_editor --code` prints: the source line of an address of compiled code, and the names of formals and attributes."""
+"""Reads the debug information that `cool_editor --code` prints: the source lines of addresses of compiled code, and the names of parameters and attributes."""
 
 from tracing import HEAD_BYTES
 

@@ -1,4 +1,4 @@
-"""The rules of Cool that a program touches, by the output of the programs of this repository.
+"""Finds which rules of Cool a program exercises, from the output of the programs of this repository.
 
 `cool check` lists its errors, `cool_editor` its names and the forms of its expressions, `cool debug` the expressions that a run reaches, and `cool run`
 its end.

@@ -1,4 +1,4 @@
-"""The answers of the reference and of another compiler for a program, and the sort of their difference."""
+"""Runs a program with this repository's compiler (the reference) and with another one, and classifies the difference between their results."""
 
 import os
 import re

@@ -1,4 +1,4 @@
-"""The cases that `grade` uses, the columns in which it counts them, and files that are written completely or not at all."""
+"""Lists the test cases that `grade` uses and the columns in which it counts them, and writes files completely or not at all."""
 
 import contextlib
 import os

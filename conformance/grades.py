@@ -1,4 +1,4 @@
-"""The table of `grade`, which a call that was interrupted leaves in part and another one takes up, and the line that says how far it is."""
+"""Writes the table of `grade`, which an interrupted call leaves unfinished and a later call continues, and the line that shows the progress."""
 
 import contextlib
 import fcntl

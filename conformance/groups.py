@@ -1,4 +1,4 @@
-"""Groups of similar differences, by their sort and the rules that their smallest programs use; prints them, and writes them as cases."""
+"""Groups similar differences between compilers, by kind and by the rules that their smallest programs use; prints the groups and writes them as test cases."""
 
 import collections
 import os

@@ -1,4 +1,4 @@
-"""Runs cases with a command, and says why each failed."""
+"""Runs test cases with a compiler, given as a command, and says why each failed."""
 
 import concurrent.futures
 

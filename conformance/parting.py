@@ -1,4 +1,4 @@
-"""Where the runs of two texts of assembly of one program part: the last call in common, and the next step of each."""
+"""Finds where the runs of two assembly texts of one program diverge: the last method call in common, and the next step of each run."""
 
 import collections
 import itertools

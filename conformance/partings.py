@@ -1,4 +1,4 @@
-"""Used by `stress-try`: wrong code for a program, and where it parts from the right one; by hand."""
+"""Used by `stress-try`: wrong assembly for a program, with the place where its run diverges from that of the right one, which was found by hand."""
 
 import re
 from typing import NamedTuple

@@ -1,4 +1,4 @@
-"""The cases with which `grade` tests one phase of a compiler: what the phase is given, and the text that it must write, made by the filters of bin/."""
+"""Makes the cases with which `grade` tests one phase of a compiler: the input of the phase, and the text that it must write, both by the filters of bin/."""
 
 import contextlib
 import os

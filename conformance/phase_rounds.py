@@ -1,4 +1,4 @@
-"""The way from Cool to a tree of courses and back, and whether a program stays the same on it."""
+"""Tests that a Cool program stays the same when it is converted to a syntax tree in the text format of courses and back."""
 
 import os
 import sys

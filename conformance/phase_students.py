@@ -1,4 +1,4 @@
-"""The phases of the mutants as those of students: whether the texts of the reference find what is wrong with each."""
+"""Tests whether the expected texts of the phases detect the mistake in each wrong compiler of mutants/, as `grade` would detect it in that of a student."""
 
 import multiprocessing
 import os

@@ -1,4 +1,4 @@
-"""Points of a compiler by rule and phase, and the text for a student about the rules that it fails."""
+"""Computes the points of a student's compiler by rule and phase, and writes the text for the student about the rules that it fails."""
 
 import fnmatch
 import os

@@ -1,4 +1,4 @@
-"""The rules of rules.txt, by which points are given: the cases of each rule, and its phase of the compiler."""
+"""Reads rules.txt, the list of rules for which points are given, with the test cases of each rule and its phase of the compiler."""
 
 import collections
 import fnmatch

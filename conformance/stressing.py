@@ -1,4 +1,4 @@
-"""Tries a compiler over samples in several processes, has differing ones made small there, and tells how far it is."""
+"""Compares a compiler with the reference on random programs in several processes, which also shrink the programs that differ, and shows the progress."""
 
 import concurrent.futures
 import contextlib

@@ -1,4 +1,4 @@
-"""Runs a text of assembly on the machine of this repository, also with a record at each call of a method, which tracing.s writes into its output."""
+"""Runs an assembly text on the machine of this repository, if asked with a trace: tracing.s writes a record of each method call into its output."""
 
 import itertools
 import os

@@ -1,4 +1,4 @@
-"""The isolation of a compiler that is not trusted: the sandbox, another user, or none."""
+"""Isolates a compiler that is not trusted: it runs in the sandbox, as another user, or without isolation."""
 
 import os
 import pwd

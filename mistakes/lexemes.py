@@ -1,4 +1,4 @@
-"""The positions of comments and strings in a file, to distinguish names from text that only looks like one (docs/language.md)."""
+"""Finds the positions of comments and strings in a file, to distinguish names from text that only looks like one (docs/language.md)."""
 import re
 
 STRING = rb'"(?:[^"\\\n\0]|\\[^\0])*'

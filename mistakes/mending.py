@@ -1,4 +1,4 @@
-"""Applies the fixes of `cool_explain` to a program, one after the other, for mistakes/mends and mistakes/answers."""
+"""Applies the fixes that `cool_explain` suggests to a program, one after the other, for `mends` and `answers`."""
 import os
 import re
 import resource

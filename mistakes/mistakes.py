@@ -1,4 +1,4 @@
-"""Mistakes of one token, for mistakes/mutations.py: the text that replaces a token and the one after it, or None if there is no such mistake."""
+"""Makes mistakes of one token for `mutations.py`: each function returns the tokens that replace a token and the next one, or None if it does not apply."""
 
 # The tokens of other languages for a token of Cool.
 OF_OTHERS = {

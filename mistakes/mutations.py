@@ -1,4 +1,4 @@
-"""Programs with one mistake, for mistakes/mends: those of students, and examples with one randomly changed token, the same for the same seed."""
+"""Makes the programs with one mistake for `mends`: those of students, and examples with one randomly changed token, the same for the same seed."""
 import glob
 import os
 import random

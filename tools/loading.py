@@ -1,4 +1,4 @@
-"""The order in which the pages load their scripts: finds scripts that use a name of a later one. Read by `tidy`, by forms alone.
+"""Used by `tidy`: finds scripts of the web pages that use a name of a script that is loaded later. It reads the scripts by patterns only.
 
 The scripts of a page are not modules, so they share all names. A name that a script also binds locally, for example as a parameter, is not checked.
 """

@@ -1,4 +1,4 @@
-"""The classes of a program for the small compiler: their parents, attributes and methods, and their faults."""
+"""Builds the class table of a program for the small compiler (the one that mutants change): parents, attributes and methods, and the errors in them."""
 
 from lexing import Fault
 from parsing import Node

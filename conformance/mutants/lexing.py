@@ -1,4 +1,4 @@
-"""The lexer of the small compiler: from the bytes of a file to its tokens."""
+"""The lexer of the small compiler (the one that mutants change) converts the bytes of a file to tokens."""
 
 KEYWORDS = "class else false fi if in inherits isvoid let loop pool then while case esac new of not true".split()
 SIGNS = ("<-", "<=", "=>", "{", "}", "(", ")", ":", ";", ",", ".", "@", "~", "*", "/", "+", "-", "<", "=")

@@ -1,4 +1,4 @@
-"""Makes mutants of the small compiler: loads its modules with one edit."""
+"""Makes mutants (wrong compilers) of the small compiler: loads its modules with one edit."""
 
 import importlib
 import os

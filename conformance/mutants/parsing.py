@@ -1,4 +1,4 @@
-"""The parser of the small compiler: from tokens to classes, features and expressions."""
+"""The parser of the small compiler (the one that mutants change) converts tokens to classes, features and expressions."""
 
 from lexing import Fault
 

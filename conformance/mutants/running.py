@@ -1,4 +1,4 @@
-"""Runs of programs under the small compiler: it evaluates them."""
+"""The small compiler (the one that mutants change) runs a program by evaluating its expressions."""
 
 import re
 

@@ -1,4 +1,4 @@
-"""The small compiler: checks programs, and runs them. It is written apart from the reference, as simply as it goes, so that single edits make mutants of it."""
+"""The small compiler checks and runs Cool programs; single edits of it make mutants (wrong compilers). It is simple, and written apart from the reference."""
 
 import os
 import sys

@@ -1,4 +1,4 @@
-"""The type rules of the small compiler: the type of each expression, and the first fault."""
+"""The type checker of the small compiler (the one that mutants change) finds the type of each expression, and the first type error."""
 
 from classes import SELF_TYPE, VALUES
 from lexing import Fault

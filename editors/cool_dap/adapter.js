@@ -1,4 +1,4 @@
-// The adapter: the session of one client, its launches and steps, and the events that it sends.
+// The debug adapter keeps the session of one client (an editor): it launches and steps a program, and sends events.
 "use strict";
 const fs = require("fs");
 const { Breakpoints } = require("./breakpoints.js");

@@ -1,4 +1,4 @@
-// Breakpoints at lines and methods: as the client sets them, and as the addresses at which a run stops.
+// Converts the breakpoints that an editor sets at lines and methods to the addresses at which a run stops.
 "use strict";
 const { Unread, readConditions } = require("./conditions.js");
 

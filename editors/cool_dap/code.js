@@ -1,4 +1,4 @@
-// Disassembly and memory, in the form of the protocol.
+// Answers requests for disassembled instructions and for memory, in the format of the debug adapter protocol.
 "use strict";
 
 const WORD = 4;

@@ -1,4 +1,4 @@
-// Properties of a breakpoint besides its place: a condition over the variables shown there, which hits count, and a message instead of a stop. A reader
+// Reads the properties of a breakpoint besides its place: a condition on variables, how often it must be hit, and a message to log instead of a stop. A reader
 // throws Unread where it is not written as the debugger takes it. `value` promises the value of an expression at the stop (debuggee.js).
 "use strict";
 

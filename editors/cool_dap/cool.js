@@ -1,4 +1,4 @@
-// Finds and runs the programs `cool` and `cool_editor`, which prints the table of code.
+// Finds and runs the programs `cool` and `cool_editor`, which prints the debug information of a program.
 "use strict";
 const { spawn } = require("child_process");
 const fs = require("fs");

@@ -1,4 +1,4 @@
-// The debugged program: its current state, and its steps. A state is a number of instructions, so it goes back as exactly as on.
+// Steps the debugged program and keeps its current state. A state is a number of instructions, so it goes back as exactly as on.
 "use strict";
 const { StringDecoder } = require("string_decoder");
 const { Cool } = require("./cool.js");

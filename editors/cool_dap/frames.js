@@ -1,5 +1,5 @@
-// The call stack, the variables of its frames, and the attributes of objects, in the form of the protocol. What is told is of one state: a reference to it is
-// forgotten with the next.
+// Lists the call stack, the variables of its frames, and the attributes of objects, in the format of the debug adapter protocol. The lists belong to one state
+// of the program: references to them end with the next state.
 "use strict";
 
 const MOST_FRAMES = 20_000;

@@ -1,4 +1,4 @@
-// The input of the debugged program, line by line.
+// Keeps the input of the debugged program, which is given line by line.
 "use strict";
 
 class Input {

@@ -1,5 +1,5 @@
-// The logic of the page's machine: the scripts of web/logic, which read the table of code, assembly and memory, and step. They are loaded as one script, as in
-// the page, each time with a `debug` of their own.
+// Loads the scripts of web/logic, which read debug information, assembly and memory, and step a program, as the page does. They are loaded as one script,
+// as in the page, each time with a `debug` of their own.
 "use strict";
 const fs = require("fs");
 const path = require("path");

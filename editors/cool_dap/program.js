@@ -1,4 +1,4 @@
-// The debugged files, as they were at the launch. They are kept in a folder of their own, since each look runs them anew, and they
+// Keeps copies of the debugged files as they were at the launch. They are kept in a folder of their own, since each look runs them anew, and they
 // may be edited meanwhile.
 "use strict";
 const fs = require("fs");

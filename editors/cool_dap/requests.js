@@ -1,4 +1,4 @@
-// The requests of a client, and the answers of an adapter (`this`).
+// Answers the requests of a client (an editor) to a debug adapter (`this`).
 "use strict";
 const { disassembled, memory } = require("./code.js");
 

@@ -1,4 +1,4 @@
-// Answers about an error or a file: only what is right for every program, without another parser than the program's own.
+// Answers requests about an error or a file, such as quick fixes and symbols, without a parser of its own.
 "use strict";
 const { toPath } = require("../node/files.js");
 const { bare } = require("../../web/logic/lexemes.js");

@@ -1,4 +1,4 @@
-// Answers about the call that is being written: its signature, and the argument at the cursor (signature help).
+// Answers requests for signature help: the signature of the call that is being written, and the argument at the cursor.
 "use strict";
 const { matchesOf } = require("../node/bytes.js");
 const { bare, matchAt } = require("../../web/logic/lexemes.js");

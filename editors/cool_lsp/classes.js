@@ -1,4 +1,4 @@
-// Answers about a class: its definition and references, renaming, and completion.
+// Answers requests about a class name: definition, references, renaming, and completion.
 //
 // A type identifier names the class of that name wherever it stands, so this needs no types and no tree.
 "use strict";

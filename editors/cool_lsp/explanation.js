@@ -1,4 +1,4 @@
-// The explanation of each error of a program, and warnings: the lines of `cool_explain --lines`, with the paths of files.
+// Reads the explanations of errors, and the warnings, that `cool_explain --lines` writes for a program.
 "use strict";
 const { explanationLines } = require("../../web/logic/explain-lines.js");
 

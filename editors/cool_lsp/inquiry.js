@@ -1,4 +1,4 @@
-// One call of a program with the files of the editor, including unsaved changes: they are written to a private folder, and named there by their numbers.
+// Calls a program once with the files of the editor, including unsaved changes: it writes them to a private folder, where numbers are their names.
 "use strict";
 const fs = require("fs");
 const os = require("os");

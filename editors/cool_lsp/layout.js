@@ -1,5 +1,5 @@
-// The layout of a file: the indentation of its lines and the blanks between its tokens, by the rules of docs/format.md. Tokens, comments and line ends stay
-// where they are; what is between tokens alone is made anew, so the tokens are the same whatever the rules say.
+// Formats the text of a file: it computes the indentation of lines and the blanks between tokens by the rules of docs/format.md. Tokens, comments
+// and line ends stay where they are; only the blanks between tokens are made anew, so the tokens are the same whatever the rules say.
 "use strict";
 const { newlines, rightTrimmed, trimmed } = require("../node/bytes.js");
 const { bare, hidden, matchAt } = require("../../web/logic/lexemes.js");

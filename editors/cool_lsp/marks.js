@@ -1,4 +1,4 @@
-// The positions of names in a program, the role of each and the definition that it refers to: the lines of `cool_editor` (docs/editor.md).
+// Reads the lines of `cool_editor` (docs/editor.md): the positions of names in a program, the role of each, and the definition that it refers to.
 "use strict";
 const { marksOf } = require("../../web/logic/marks.js");
 const { Moved } = require("./moves.js");

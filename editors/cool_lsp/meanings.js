@@ -1,5 +1,5 @@
-// Answers about a name, by the marks of its program: its meaning, its definition and its uses. Where there are no marks, since the files are
-// no class table or there is no program for them, each answer is undefined.
+// Answers requests about a name, such as hover, definition and references, by the names that `cool_editor` lists (marks). If there
+// are no marks, since the files are no class table or there is no program for them, each answer is undefined.
 "use strict";
 const { keyOf } = require("../node/programs.js");
 const { pathIn } = require("./answers.js");

@@ -1,4 +1,4 @@
-// The classes of a program with their methods, by its marks, and the methods of the basic classes.
+// Lists the classes of a program with their methods, from the names that `cool_editor` lists, and the methods of the basic classes.
 "use strict";
 const { placeKey } = require("./marks.js");
 

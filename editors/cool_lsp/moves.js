@@ -1,4 +1,4 @@
-// The positions of places of a text in a later version of it: the text before and after the changed lines is still there.
+// Finds the position that a place of a text has in a later version of the text, in which some lines were changed.
 "use strict";
 
 const LINE = /[^\n]*\n|[^\n]+/g;

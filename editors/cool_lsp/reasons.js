@@ -1,4 +1,4 @@
-// Why an expression has its type, and which premise of which rule does not hold at an error of typing: parts of a hover, as in the view "Why" of the page.
+// Explains in a hover why an expression has its type, and at a type error which premise of which rule fails, as in the view "Why" of the page.
 "use strict";
 const fs = require("fs");
 const path = require("path");

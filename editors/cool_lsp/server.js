@@ -1,5 +1,5 @@
-// Handles the messages of an editor. What is told is found, and then what asks about that is answered, one after the other; while programs are asked for it
-// messages are taken.
+// Handles the messages of an editor: first it updates the errors that it reports, and then it answers requests about them, one after the other. It reads
+// messages while programs run.
 "use strict";
 const { Document, Files, isPath, toPath } = require("../node/files.js");
 const { log } = require("../node/log.js");

@@ -1,4 +1,4 @@
-// The process that finds errors: one `session` of the program (docs/session.md), started at the first request, and again after it ended.
+// Runs the process that finds errors, `cool session` (docs/session.md): it is started at the first request, and again after it ended.
 "use strict";
 const { textOf } = require("../node/bytes.js");
 const { log } = require("../node/log.js");

@@ -1,4 +1,4 @@
-// Snippets: the whole form for the beginning of a keyword, with tab stops.
+// Completes the beginning of a keyword to a whole expression or definition (a snippet with tab stops).
 "use strict";
 const { matchesOf } = require("../node/bytes.js");
 const { bare } = require("../../web/logic/lexemes.js");

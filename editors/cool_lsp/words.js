@@ -1,4 +1,4 @@
-// The command line.
+// Reads the command line of `cool-lsp`.
 "use strict";
 const path = require("path");
 const { programsOf, quoted } = require("../node/programs.js");

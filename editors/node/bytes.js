@@ -1,4 +1,4 @@
-// Bytes of files as strings in which each byte is a letter, so that places are those of the programs, and patterns read them.
+// Represents the bytes of files as strings with one character for each byte, so that positions are those of the programs, and regular expressions apply.
 "use strict";
 
 const BLANKS = " \t\n\r\f\v";

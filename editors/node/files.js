@@ -1,4 +1,4 @@
-// The files as they are: those that are open as the editor has them, all others as they are stored.
+// Gives the current contents of files: those of the editor for open files, and the stored ones for all others.
 "use strict";
 const fs = require("fs");
 const path = require("path");

@@ -1,4 +1,4 @@
-// The log of a server: lines on standard error, which editors keep, under the name of the script that runs.
+// Writes the log of a server: lines on standard error, which editors keep, each with the name of the running script.
 "use strict";
 const fs = require("fs");
 const path = require("path");

@@ -1,4 +1,4 @@
-// Messages of the protocols of editors: from bytes to values and back. What is no message is skipped, with a line in the log.
+// Converts messages of the language server and debug adapter protocols from bytes to values and back. It skips invalid messages, with a line in the log.
 "use strict";
 const { log } = require("./log.js");
 

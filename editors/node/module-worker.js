@@ -1,4 +1,4 @@
-// A worker that runs the page's module: it posts the output in order, and then the exit status.
+// Runs a WebAssembly module of the page in a worker: it posts the output in order, and then the exit status.
 "use strict";
 const fs = require("fs");
 const path = require("path");

@@ -1,4 +1,4 @@
-// The page's modules, each run in a worker as if it were a process of its program: for systems for which there is no program `cool`.
+// Runs the WebAssembly modules of the page in workers as if they were processes, on systems for which there is no program `cool`.
 "use strict";
 const { EventEmitter } = require("events");
 const fs = require("fs");

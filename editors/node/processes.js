@@ -1,4 +1,4 @@
-// Runs of programs: as processes, or as the page's modules where the command is "module".
+// Runs programs as processes, or as the WebAssembly modules of the page if the command is "module".
 "use strict";
 const { spawn } = require("child_process");
 const os = require("os");

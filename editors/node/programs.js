@@ -1,4 +1,4 @@
-// The files that form one program: README.md of the folder above has the rule. A program is a list of paths in the order in which they are checked.
+// Finds the files that form one program, by the rule in README.md of the folder above. A program is a list of paths in the order in which they are checked.
 "use strict";
 const path = require("path");
 const { textOf } = require("./bytes.js");

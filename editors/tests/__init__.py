@@ -1,1 +1,1 @@
-"""The tests of cool-lsp and cool-dap, by subject. Each is a function of a folder of its own and the words of the command line."""
+"""The tests of cool-lsp and cool-dap, by subject. Each is a function of a folder of its own and the arguments of the command line."""

@@ -1,4 +1,4 @@
-"""Answers about a place or a file, compared with the output of the program after the place is changed, or compiled."""
+"""Tests the answers about a place or a file: it compares them with the output of `cool` after the place is changed, or compiled."""
 import random
 import re
 import subprocess

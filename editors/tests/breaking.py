@@ -1,4 +1,4 @@
-"""Breaks of cool-dap that ask for more than a place: conditions, counts of hits, and messages."""
+"""Tests breakpoints of cool-dap with more than a place: conditions, hit counts, and messages to log."""
 from .client import expect
 from .debug_client import begun, done
 

@@ -1,4 +1,4 @@
-"""An editor, as cool-lsp sees it, and what `check` tells of files."""
+"""Plays an editor for tests of cool-lsp, and runs `cool check` for comparison."""
 import json
 import os
 import queue

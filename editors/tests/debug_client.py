@@ -1,4 +1,4 @@
-"""A client of the debug adapter protocol, as cool-dap sees it."""
+"""Plays an editor for tests of cool-dap: a client of the debug adapter protocol."""
 import json
 import os
 import queue

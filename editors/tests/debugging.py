@@ -1,4 +1,4 @@
-"""cool-dap, as a client sees it: where it stops, what it shows there, and that it goes back to just there."""
+"""Tests where cool-dap stops, what it shows there, and that stepping back leads to the same states."""
 import argparse
 import base64
 import random

@@ -1,4 +1,4 @@
-"""The settings of editors, each in the editor itself without a screen: what it shows of a file with one fault, after an edit, by `:make`, in colours."""
+"""Tests the settings of editors in each editor without a screen: the error that it shows in a file, after an edit, and by `:make`, and the colours."""
 import json
 import os
 import re

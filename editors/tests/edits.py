@@ -1,4 +1,4 @@
-"""Random edits, after each of which what is told must be what `check` says."""
+"""Tests random edits: after each of them, the errors that cool-lsp reports must be those of `cool check`."""
 import random
 import re
 

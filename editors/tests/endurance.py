@@ -1,4 +1,4 @@
-"""A program that dies, hangs, talks nonsense or is missing, and an editor that goes away: a line in the editor or in the log, and never a dead server."""
+"""Tests servers with a program that dies, hangs, writes nonsense or is missing, and an editor that goes away: a message is reported, and no server dies."""
 import os
 import shutil
 import signal

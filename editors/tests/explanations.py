@@ -1,4 +1,4 @@
-"""Explanations of errors: from a stand-in that writes what the test gives it, and from the program itself."""
+"""Tests explanations of errors: from a stand-in that writes what the test gives it, and from the program itself."""
 import os
 import random
 import subprocess

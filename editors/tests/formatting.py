@@ -1,4 +1,4 @@
-"""Formatting: by the rules, the same when done twice, and without any other change, as the programs confirm."""
+"""Tests formatting: it follows the rules, changes nothing when done twice, and makes no other change, as the programs confirm."""
 import base64
 import os
 import random

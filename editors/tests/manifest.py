@@ -1,4 +1,4 @@
-"""The manifest of the VS Code package: each of its keys is one that VS Code has (code.visualstudio.com/api/references), with a value of its form."""
+"""Tests the manifest of the VS Code package: each of its keys is one that VS Code has (code.visualstudio.com/api/references), with a value of its form."""
 import json
 import re
 

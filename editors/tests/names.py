@@ -1,4 +1,4 @@
-"""Answers about a name, compared with the program: renamed in all its places a program means the same, and in all except one it does not."""
+"""Tests the answers about a name by renaming: a program means the same if the name is replaced in all its places, and not if one is left out."""
 import random
 import re
 import subprocess

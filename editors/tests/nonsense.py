@@ -1,4 +1,4 @@
-"""An editor that sends what is no message, no request, or nothing that makes sense."""
+"""Tests servers with an editor that sends invalid messages, invalid requests, and nonsense."""
 import random
 
 from .client import Client, expect

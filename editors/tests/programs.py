@@ -1,4 +1,4 @@
-"""The files that form one program, by README.md, and the answers when files are added, removed, or too many."""
+"""Tests which files form one program, by the rule in README.md, and the answers when files are added, removed, or too many."""
 import os
 import subprocess
 

@@ -1,4 +1,4 @@
-"""Why an expression has its type, and which premise fails at an error, as a hover tells it: by the rules of the manual, worked out by hand."""
+"""Tests the hover that says why an expression has its type, and which premise fails at an error: the expected texts were worked out by hand."""
 import re
 
 from .client import Client, expect, fill

@@ -1,4 +1,4 @@
-"""The time from a key to the answer."""
+"""Measures the processor time from a typed key to the answer of the server."""
 import os
 import time
 

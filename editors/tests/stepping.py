@@ -1,4 +1,4 @@
-"""Programs that are stepped through, line by line: what each variable is there, against a run by `eval` of the program with lines that print it."""
+"""Tests stepping: it compares each variable at each line with a run by `cool eval` of the program with added lines that print the variable."""
 import os
 import re
 import shutil

@@ -1,4 +1,4 @@
-"""The output of `cool_editor --code`, compared with the debugger's list of the same program, and with rows that were computed by hand."""
+"""Tests the output of `cool_editor --code` against the debugger's list of the same program, and against rows that were computed by hand."""
 import re
 import subprocess
 

@@ -1,6 +1,6 @@
 """Lowers assembly that clang wrote for wasm64, on standard input, to assembly for wasm32: python3 web/lowering <WIDE.s >PROGRAM.s
 
-Addresses become ones of 32 bits (narrow.py), and deep recursion goes on on further stacks (deepen.py)."""
+Addresses get 32 bits (narrow.py), and deep recursion continues on further stacks (deepen.py)."""
 import sys
 
 from assembly import Function, parts

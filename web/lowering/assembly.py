@@ -1,4 +1,4 @@
-"""Assembly for WebAssembly as clang writes it: its functions, and what stands between them."""
+"""Reads WebAssembly assembly as clang writes it: its functions, and the lines between them."""
 import re
 
 LABEL = re.compile(r"([\w.$]+):")

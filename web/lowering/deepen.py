@@ -1,4 +1,4 @@
-"""Has deep recursion go on on further stacks.
+"""Changes recursive functions so that deep recursion continues on a new stack before the present one overflows.
 
 An engine's stack has a megabyte or less, where the program has eight on Linux. So each function that can come to call itself adds about what its
 frame takes to the global `depth`. Where that passes MOST_BYTES, it leaves its arguments in memory and asks the host, by `deeper`, to call

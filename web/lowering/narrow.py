@@ -1,4 +1,4 @@
-"""Makes a function for wasm64 into one for wasm32.
+"""Converts the assembly of a function for wasm64 (64-bit WebAssembly) to assembly for wasm32.
 
 The program keeps its addresses as numbers of 64 bits, which its sizes and offsets are made for; each is cut to 32 where memory is read or written.
 That changes no address below 4 GiB. One above is refused by a 64-bit memory, and not by this: the program makes none but where its stack runs

@@ -1,4 +1,4 @@
-"""Makes the text of an LLVM module for x86-64 one for wasm64: python3 retarget.py <NATIVE.ll >WIDE.ll
+"""Converts the text of an LLVM module for x86-64 to one for wasm64 (64-bit WebAssembly): python3 retarget.py <NATIVE.ll >WIDE.ll
 
 Sizes and offsets stand in it as numbers, and are those of wasm64 as well. Names in quotes get ones of letters and digits, which assembly wants."""
 import re
