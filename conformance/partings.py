@@ -1,4 +1,4 @@
-"""Used by `stress-try`: wrong assembly for a program, with the place where its run diverges from that of the right one, which was found by hand."""
+"""Used by `stress-try`: wrong assembly for a program, and the place where its run diverges from that of the right one, both written by hand."""
 
 import re
 from typing import NamedTuple

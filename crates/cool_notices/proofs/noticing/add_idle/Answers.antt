@@ -1,5 +1,5 @@
--- Each step of the loop of `add_idle` adds the warning that the value of an expression in a block is not used. The loop stops before the last expression of
--- the block, which gives the block's value.
+-- Each step of the loop of `add_idle` adds the warning, if any, that an expression in a block has no effect and its value is not used. The loop stops
+-- before the last expression of the block, which gives the block's value.
 use Rattle.std.proofs.Common.{◌≡◌, List, ◌-◌, map, length, take, sym, ap, arith, ◌∙◌}
 use Rattle.std.specs.List.{flat_map}
 use Rattle.cool_syntax.specs.declared.node.NodeId.{NodeId}

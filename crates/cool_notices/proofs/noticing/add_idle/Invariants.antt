@@ -1,5 +1,5 @@
--- In the loop of `add_idle`, which goes through a block, the warnings about unused values of the expressions before the present one are added, up to the
--- limit.
+-- In the loop of `add_idle`, the warnings about expressions of a block that have no effect and whose values are not used are added for those before the
+-- present one, up to the limit.
 use Rattle.std.proofs.Common.{◌≡◌, take}
 use Rattle.std.specs.List.{flat_map}
 use Rattle.cool_syntax.specs.NodeLists.{all_trees}
