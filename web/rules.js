@@ -1673,7 +1673,7 @@ const COOL_RULES = [
 ]
 ],
 "file": "crates/cool_classes/specs/FeatureRows.antt",
-"line": 42,
+"line": 43,
 "source": "method_twice : (i j : ℕ) (m n : MethodDef) → IsMethodAt p c i m → j < i → IsMethodAt p c j n → n.name ≡ m.name → IsFeatureFault p c ds here F1 m.at",
 "error": false
 }
@@ -1796,7 +1796,7 @@ const COOL_RULES = [
 ]
 ],
 "file": "crates/cool_classes/specs/FeatureRows.antt",
-"line": 44,
+"line": 45,
 "source": "attribute_twice : (i j : ℕ) (a b : AttributeDef) → IsAttributeAt p c i a → j < i → IsAttributeAt p c j b → b.name ≡ a.name → IsFeatureFault p c ds here F2 a.at",
 "error": false
 },
@@ -1896,7 +1896,7 @@ const COOL_RULES = [
 ]
 ],
 "file": "crates/cool_classes/specs/FeatureRows.antt",
-"line": 45,
+"line": 46,
 "source": "attribute_inherited : (i j : ℕ) (a b : AttributeDef) (d : ClassId) → IsAttributeAt p c i a → Contains ds d → IsAttributeAt p d j b → b.name ≡ a.name → IsFeatureFault p c ds here F2 a.at",
 "error": false
 }
@@ -1979,7 +1979,7 @@ const COOL_RULES = [
 ]
 ],
 "file": "crates/cool_classes/specs/FeatureRows.antt",
-"line": 47,
+"line": 48,
 "source": "attribute_self : (i : ℕ) (a : AttributeDef) → IsAttributeAt p c i a → a.name ≡ codes \"self\" → IsFeatureFault p c ds here F3 a.at",
 "error": false
 },
@@ -2067,7 +2067,7 @@ const COOL_RULES = [
 ]
 ],
 "file": "crates/cool_classes/specs/FeatureRows.antt",
-"line": 48,
+"line": 49,
 "source": "formal_self : (i j : ℕ) (m : MethodDef) (f : Formal) → IsMethodAt p c i m → IsFormalAt m j f → f.name ≡ codes \"self\" → IsFeatureFault p c ds here F3 f.at",
 "error": false
 }
@@ -2214,7 +2214,7 @@ const COOL_RULES = [
 ]
 ],
 "file": "crates/cool_classes/specs/FeatureRows.antt",
-"line": 50,
+"line": 51,
 "source": "formal_twice : (i j k : ℕ) (m : MethodDef) (f g : Formal) → IsMethodAt p c i m → IsFormalAt m j f → k < j → IsFormalAt m k g → g.name ≡ f.name → IsFeatureFault p c ds here F4 f.at",
 "error": false
 }
@@ -2325,7 +2325,7 @@ const COOL_RULES = [
 ]
 ],
 "file": "crates/cool_classes/specs/FeatureRows.antt",
-"line": 52,
+"line": 53,
 "source": "formal_self_type : (i j : ℕ) (m : MethodDef) (f : Formal) → IsMethodAt p c i m → IsFormalAt m j f → f.declared.name ≡ self_type → IsFeatureFault p c ds here F5 f.declared.at",
 "error": false
 }
@@ -2436,7 +2436,7 @@ const COOL_RULES = [
 ]
 ],
 "file": "crates/cool_classes/specs/FeatureRows.antt",
-"line": 54,
+"line": 55,
 "source": "formal_unknown : (i j : ℕ) (m : MethodDef) (f : Formal) → IsMethodAt p c i m → IsFormalAt m j f → IsNoType p f.declared.name → IsFeatureFault p c ds here F6 f.declared.at",
 "error": false
 },
@@ -2504,7 +2504,7 @@ const COOL_RULES = [
 ]
 ],
 "file": "crates/cool_classes/specs/FeatureRows.antt",
-"line": 55,
+"line": 56,
 "source": "result_unknown : (i : ℕ) (m : MethodDef) → IsMethodAt p c i m → IsNoType p m.result.name → IsFeatureFault p c ds here F6 m.result.at",
 "error": false
 },
@@ -2572,7 +2572,7 @@ const COOL_RULES = [
 ]
 ],
 "file": "crates/cool_classes/specs/FeatureRows.antt",
-"line": 56,
+"line": 57,
 "source": "attribute_unknown : (i : ℕ) (a : AttributeDef) → IsAttributeAt p c i a → IsNoType p a.declared.name → IsFeatureFault p c ds here F6 a.declared.at",
 "error": false
 }
@@ -2679,7 +2679,7 @@ const COOL_RULES = [
 ]
 ],
 "file": "crates/cool_classes/specs/FeatureRows.antt",
-"line": 58,
+"line": 59,
 "source": "other_signature : (i : ℕ) (m : MethodDef) (q : MethodRef) → IsMethodAt p c i m → implementation p ds m.name ≡ Some q → HasOtherSignature p m q → IsFeatureFault p c ds here F7 m.at",
 "error": false
 }
@@ -2786,7 +2786,7 @@ const COOL_RULES = [
 ]
 ],
 "file": "crates/cool_classes/specs/FeatureRows.antt",
-"line": 60,
+"line": 61,
 "source": "no_main : name_of p c ≡ codes \"Main\" → ((i : ℕ) (m : MethodDef) → IsMethodAt p c i m → m.name ≢ codes \"main\") → IsFeatureFault p c ds here F8 here",
 "error": false
 },
@@ -2946,7 +2946,7 @@ const COOL_RULES = [
 ]
 ],
 "file": "crates/cool_classes/specs/FeatureRows.antt",
-"line": 61,
+"line": 62,
 "source": "main_formals : (i : ℕ) (m : MethodDef) → name_of p c ≡ codes \"Main\" → IsMethodAt p c i m → m.name ≡ codes \"main\"\n    → ((j : ℕ) (n : MethodDef) → j < i → IsMethodAt p c j n → n.name ≢ codes \"main\") → m.formals ≢ [] → IsFeatureFault p c ds here F8 here",
 "error": false
 }
@@ -3001,7 +3001,7 @@ const COOL_RULES = [
 ]
 ],
 "file": "crates/cool_classes/specs/FeatureRows.antt",
-"line": 64,
+"line": 65,
 "source": "attributes_over : MOST_ATTRIBUTES < length (attributes_of p (c ∷ ds)) → IsFeatureFault p c ds here F9 here",
 "error": false
 },
@@ -3037,7 +3037,7 @@ const COOL_RULES = [
 ]
 ],
 "file": "crates/cool_classes/specs/FeatureRows.antt",
-"line": 65,
+"line": 66,
 "source": "methods_over : MOST_METHODS < length (methods_of p (c ∷ ds)) → IsFeatureFault p c ds here F9 here",
 "error": false
 }
