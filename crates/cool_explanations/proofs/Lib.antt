@@ -1,4 +1,5 @@
 mod LinesChanged
 mod LinesOfBytes
 mod LinesReplaced
+mod NoChangeLeftOut
 mod WordsAsked

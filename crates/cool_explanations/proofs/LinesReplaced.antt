@@ -4,7 +4,7 @@ use Rattle.std.proofs.Common.{◌≡◌, ℕ, suc, ◌+◌, ◌-◌, ◌<◌, �
 use Rattle.std.proofs.lemmas.List.{drop_all, drop-append-le, length-take, take-append-drop, take-take}
 use Rattle.std.proofs.lemmas.List.Sums.{sum_by-cons}
 use Rattle.std.specs.List.{AllByRecursion, count_by}
-use Rattle.std.specs.Prelude.{bytes_eq, cond, if◌then◌else◌, Some, None, slice_get}
+use Rattle.std.specs.Prelude.{bytes_eq, cond, if◌then◌else◌, Some, slice_get}
 use Rattle.lists.proofs.EqualBytes.{bytes_equal}
 use Rattle.cool_mend.specs.declared.edit.Edit.{Edit}
 use Rattle.cool_mend.specs.Edits.{IsEdit, edited_file}
@@ -13,6 +13,7 @@ use Rattle.cool_explanations.specs.Changes.{Change, Stretch, all_but_last, chang
 use Rattle.cool_explanations.specs.ChangedLines.{IsChange, IsLine, IsReplacement, ShowsEdit}
 use Rattle.cool_explanations.specs.Shown.{part}
 use Rattle.cool_explanations.specs.SourceLines.{first_line, last_line, last_start}
+use Rattle.cool_explanations.proofs.NoChangeLeftOut.{has_all_changes}
 
 -- Lists that have a last line
 
@@ -288,5 +289,6 @@ changes_stand file edited s is = changes_there file edited is.after s.number s.o
 pub edit_shown : (files : List (List ℕ)) (e : Edit) → IsEdit files e → ShowsEdit files e
 edit_shown files e is =
     let file = get_or files e.file [] in
+    let shown = without_end (touched file e) in
     let replaced = replacement_is files e is.order in
-    record { replaced = replaced; each = changes_stand file (edited_file e files) (without_end (touched file e)) replaced }
+    record { replaced = replaced; each = changes_stand file (edited_file e files) shown replaced; complete = has_all_changes shown.number shown.olds shown.news }
