@@ -17,7 +17,8 @@ use Rattle.cool_guess.specs.declared.hint.Hint.TheVariants.{DeclareAttribute, In
 use Rattle.cool_guess.specs.declared.hint.Hint.TheVariants.{MethodMain, MainWithoutFormals, EmptyBlock, BlockOfSeveral, NewWithoutParentheses}
 use Rattle.cool_guess.specs.declared.hint.Hint.TheVariants.{NewWithoutArguments, MethodOfObject, MethodAfterObject, CallWithParentheses}
 use Rattle.cool_guess.specs.declared.hint.Hint.TheVariants.{ArgumentsInParentheses, ArgumentForEachFormal, AttributeAlone, NoFieldAccess, AssignByMethod}
-use Rattle.cool_guess.specs.declared.hint.Hint.TheVariants.{NoMethodEquals, CompareWithZero, NumbersOnly, JoinStrings, PrintingMethods, NoTextOfInt}
+use Rattle.cool_guess.specs.declared.hint.Hint.TheVariants.{NoMethodEquals, CompareWithZero, NumbersOnly, JoinStrings, PrintingMethods, NoTextOfInt, NoSwitch}
+use Rattle.cool_guess.specs.declared.hint.Hint.TheVariants.{EmptyBranch, NoPower, NameAssigned}
 
 abbrev pub hint_words : Hint → List ℕ
 hint_words ByteOrderMark = codes "save the file without a byte order mark"
@@ -39,6 +40,7 @@ hint_words OneEqualsSign = codes "compare with a single `=`"
 hint_words NoColonEquals = codes "assign with `<-`: Cool has no `:=`"
 hint_words ArrowWithoutColon = codes "assign with `<-`, without `:`"
 hint_words ArrowOfBranches = codes "assign with `<-`: `=>` belongs to a branch of `case`"
+hint_words NameAssigned = codes "assign to a name: only a variable or an attribute can stand before `<-`"
 hint_words BranchArrow = codes "write `=>` before the value of a branch of `case`"
 hint_words NoUnequalSign = codes "Cool has no `!=` or `<>`: write `not a = b`"
 hint_words NoGreaterSign = codes "Cool has no `>` or `>=`: exchange the two sides and write `<` or `<=`"
@@ -50,6 +52,7 @@ hint_words NotBefore = codes "write `not` before the expression that it negates"
 hint_words NotWord = codes "write `not` instead of `!`"
 hint_words Negative = codes "write `~` for the minus sign of a negative number"
 hint_words NoRemainder = codes "Cool has no `%` or `mod`: write `a - a / b * b` for the remainder"
+hint_words NoPower = codes "Cool has no `**` or `^`: write a method that multiplies in a loop"
 hint_words NoAssignmentOfSums = codes "Cool has no `+=` or `-=`: write `x <- x + a`"
 hint_words NoIncrement = codes "Cool has no `++`: write `x <- x + 1`"
 hint_words NoDecrement = codes "`--` begins a comment: write `x <- x - 1`"
@@ -75,7 +78,9 @@ hint_words FiEnds = codes "end an `if` with `fi`"
 hint_words EsacEnds = codes "end a `case` with `esac`"
 hint_words ElseIf = codes "Cool has no `elif`: write `else if`, and a `fi` for each `if`"
 hint_words ElseWithoutThen = codes "remove the `then`: the expression follows `else`"
+hint_words EmptyBranch = codes "write an expression in each branch: Cool has no `if` without `else`, and no empty branch"
 hint_words CaseWord = codes "write `case x of`, which selects a branch by the class of `x`"
+hint_words NoSwitch = codes "Cool has no `switch`: write an `if` for each value; `case x of` selects a branch by the class of `x`"
 hint_words BranchOfClass = codes "name a class in each branch of `case`, as in `x : Int => ..`: to compare values, write `if`"
 hint_words BranchType = codes "write a name and a type in each branch of `case`: a branch of Object takes all other values"
 hint_words SelfWord = codes "write `self` instead of `this`"

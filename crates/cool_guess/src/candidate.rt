@@ -52,6 +52,8 @@ pub(crate) struct Candidates<'a> {
     pub(crate) all: Vec<Candidate>,
     /// Whether what is added is a guess.
     pub(crate) is_guess: bool,
+    /// The position of a name that nothing declares.
+    pub(crate) unknown: Option<usize>,
 }
 
 impl<'a> Candidates<'a> {
@@ -63,6 +65,7 @@ impl<'a> Candidates<'a> {
             lexemes,
             all: Vec::new(alloc),
             is_guess: false,
+            unknown: None,
         }
     }
 
@@ -184,7 +187,7 @@ impl<'a> Candidates<'a> {
     }
 
     /// Adds one with these places.
-    fn add(&mut self, reason: Reason, splices: Vec<Splice>) -> Result<(), AllocError> {
+    pub(crate) fn add(&mut self, reason: Reason, splices: Vec<Splice>) -> Result<(), AllocError> {
         let candidate = Candidate {
             reason,
             is_guess: self.is_guess,

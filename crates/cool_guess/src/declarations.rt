@@ -3,7 +3,7 @@
 use crate::candidate::{Candidates, Reason, Splice};
 use crate::definition::is_class;
 use crate::hint::Hint;
-use crate::kind::{Kind, is_one_of, kind_of};
+use crate::kind::{Kind, is_name, is_one_of, kind_of};
 use crate::lexeme::{Lexeme, line_length, part};
 use crate::names::BASIC_METHODS;
 use crate::signs::{NAMES, TYPES};
@@ -11,6 +11,28 @@ use std::alloc::AllocError;
 
 /// The signs behind the name in a declaration `int x = 5;`, `int x <- 5;` or `int x;`.
 static BEHIND_VARIABLES: [&str; 3] = ["=", "<-", ";"];
+
+/// The signs in front of the value of a variable.
+static BEFORE_VALUES: [&str; 2] = ["=", "<-"];
+
+/// The words of other languages in front of the type in a declaration.
+static MODIFIERS: [&str; 7] = [
+    "const",
+    "final",
+    "static",
+    "public",
+    "private",
+    "protected",
+    "readonly",
+];
+
+/// The words of other languages in front of the name in a declaration without a type.
+static UNTYPED: [&str; 4] = ["var", "val", "let", "auto"];
+
+/// The most such words, and the most variables of a declaration.
+const MOST_MODIFIERS: usize = 4;
+
+const MOST_VARIABLES: usize = 8;
 
 /// The comparisons, which are not joined.
 static COMPARISONS: [&str; 3] = ["<", "<=", "="];
@@ -28,10 +50,10 @@ static IMPORTS: [&str; 4] = ["import", "include", "package", "using"];
 static BEFORE_FORMALS: [&str; 2] = ["(", ","];
 
 /// The signs in front of a feature.
-static BEFORE_FEATURES: [&str; 2] = ["{", ";"];
+pub(crate) static BEFORE_FEATURES: [&str; 2] = ["{", ";"];
 
 /// The signs and words in front of a statement or a feature.
-static BEFORE_STATEMENTS: [&str; 5] = ["{", ";", "in", "const", "final"];
+static BEFORE_STATEMENTS: [&str; 6] = ["{", ";", "in", "const", "final", "static"];
 
 /// The methods that print.
 static PRINTING: [&str; 2] = ["out_string", "out_int"];
@@ -44,6 +66,9 @@ impl<'a> Candidates<'a> {
     pub(crate) fn add_statements(&mut self, index: usize) -> Result<(), AllocError> {
         self.add_local(index)?;
         self.add_local(index.saturating_sub(1))?;
+        self.add_variables(index)?;
+        self.add_variables(index.saturating_sub(2))?;
+        self.add_variables(index.saturating_sub(1))?;
         self.add_method(index)?;
         self.add_method(index.saturating_sub(1))?;
         self.add_counted(index)?;
@@ -52,6 +77,7 @@ impl<'a> Candidates<'a> {
         self.add_own(index)?;
         self.add_chained(index)?;
         self.add_printed(index)?;
+        self.add_streamed(index)?;
         self.add_missing_end(index)?;
         self.add_import(index)
     }
@@ -86,7 +112,7 @@ impl<'a> Candidates<'a> {
         let sign = index.saturating_add(2);
         let is_one = matches!(kind_of(self.text(class)), Kind::Object | Kind::Type)
             && kind_of(self.text(name)) == Kind::Object;
-        if !is_one || !is_one_of(&BEHIND_VARIABLES, self.word(sign)) {
+        if !is_one || !is_one_of(&BEHIND_VARIABLES, self.word(sign)) || self.is_untyped(index) {
             return Ok(());
         }
         let ty = self.cool_type(index)?;
@@ -108,6 +134,181 @@ impl<'a> Candidates<'a> {
         }
         let said = Reason::Hinted(Hint::TypeAfterName);
         self.put(said, class.start, end, &text)
+    }
+
+    /// `int x = 5, y;` as `let x : Int <- 5, y : Int in { .. };` in a block, and as `x : Int <- 5; y : Int;` in a class, also behind words as `const`. A
+    /// name in capital letters gets small ones, wherever the file has it.
+    fn add_variables(&mut self, index: usize) -> Result<(), AllocError> {
+        let mut class = index;
+        for _ in 0..MOST_MODIFIERS {
+            if is_one_of(&MODIFIERS, self.word(class)) && !self.is_untyped(class) {
+                class = class.saturating_add(1);
+            }
+        }
+        let start = self.modified_start(class);
+        let (several, semicolon) = self.variables(class, b", ")?;
+        let is_plain = start == class
+            && !self.is_untyped(class)
+            && self.variables_count(class, semicolon) < 2;
+        if several.is_empty()
+            || (is_plain && kind_of(self.word(class.saturating_add(1))) != Kind::Type)
+        {
+            return Ok(());
+        }
+        let close = self.block_end(semicolon.saturating_add(1));
+        let end = self.lexeme(semicolon).end;
+        let text = self.joined(&[b"let ", &several, b" in {"])?;
+        let first = self.splice(self.lexeme(start).start, end, &text)?;
+        if self.word(close) == b"}".as_slice() {
+            let byte = self.lexeme(close).start;
+            let last = self.splice(byte, byte, b"}; ")?;
+            self.put_renamed(Hint::DeclareByLet, class, first, semicolon, Some(last))?;
+        }
+        let (features, _) = self.variables(class, b"; ")?;
+        let text = self.joined(&[&features, b";"])?;
+        let first = self.splice(self.lexeme(start).start, end, &text)?;
+        self.put_renamed(Hint::TypeAfterName, class, first, semicolon, None)
+    }
+
+    /// Whether a declaration without a type begins at a position, as `var x = 5`.
+    pub(crate) fn is_untyped(&self, index: usize) -> bool {
+        let word = self.word(index);
+        (is_one_of(&UNTYPED, word) || is_one_of(&MODIFIERS, word))
+            && kind_of(self.word(index.saturating_add(1))) == Kind::Object
+            && is_one_of(&BEFORE_VALUES, self.word(index.saturating_add(2)))
+    }
+
+    /// The position of the first of the words such as `const` in front of a position.
+    fn modified_start(&self, index: usize) -> usize {
+        let mut start = index;
+        for _ in 0..MOST_MODIFIERS {
+            if is_one_of(&MODIFIERS, self.word_before(start, 1)) {
+                start = start.saturating_sub(1);
+            }
+        }
+        start
+    }
+
+    /// The variables that are declared in C's way behind the type at a position, with a text between two, and the position of the semicolon behind them;
+    /// no text if there is no such declaration.
+    fn variables(&self, index: usize, between: &[u8]) -> Result<(Vec<u8>, usize), AllocError> {
+        let mut text = Vec::new(self.alloc);
+        let none = Vec::new(self.alloc);
+        let mut name = index.saturating_add(1);
+        let ty = self.variable_type(index)?;
+        if ty.is_empty() {
+            return Ok((none, index));
+        }
+        for _ in 0..MOST_VARIABLES {
+            let sign = name.saturating_add(1);
+            let has_value = is_one_of(&BEFORE_VALUES, self.word(sign));
+            let end = if has_value {
+                self.expression_end(sign)
+            } else {
+                sign
+            };
+            if !is_name(self.word(name)) {
+                return Ok((none, index));
+            }
+            let given: &'static [u8] = if has_value { b" <- " } else { b"" };
+            let small = self.small_name(name)?;
+            text.extend_from_slice(&self.declared_as(&small, &ty, given)?)?;
+            if has_value {
+                text.extend_from_slice(self.between(sign.saturating_add(1), end))?;
+            }
+            match self.word(end) {
+                b";" => return Ok((text, end)),
+                b"," => text.extend_from_slice(between)?,
+                _ => return Ok((none, index)),
+            }
+            name = end.saturating_add(1);
+        }
+        Ok((none, index))
+    }
+
+    /// The type of the variables of a declaration in C's way with its type, or a word such as `var`, at a position; nothing if there is none.
+    fn variable_type(&self, index: usize) -> Result<Vec<u8>, AllocError> {
+        let start = self.modified_start(index);
+        if !is_one_of(&BEFORE_FEATURES, self.word_before(start, 1)) {
+            return Ok(Vec::new(self.alloc));
+        }
+        if self.is_untyped(index) {
+            let value = index.saturating_add(3);
+            return Vec::from_slice(self.alloc, self.type_of_value(value));
+        }
+        let is_name = is_name(self.word(index));
+        if is_name && (start < index || self.names_type(index)) {
+            return self.cool_type(index);
+        }
+        Ok(Vec::new(self.alloc))
+    }
+
+    /// The number of variables that are declared between two positions, at most.
+    fn variables_count(&self, index: usize, semicolon: usize) -> usize {
+        let mut many: usize = 1;
+        for there in index..semicolon {
+            many = many.saturating_add(usize::from(self.word(there) == b",".as_slice()));
+        }
+        many
+    }
+
+    /// The name at a position as that of a variable: in small letters if it has only capital ones, else with a small one first.
+    fn small_name(&self, index: usize) -> Result<Vec<u8>, AllocError> {
+        let mut text = Vec::from_slice(self.alloc, self.word(index))?;
+        let mut is_capital = true;
+        for byte in text.iter() {
+            is_capital = is_capital && !matches!(*byte, b'a'..=b'z');
+        }
+        if is_capital {
+            text.make_ascii_lowercase();
+        } else if let Some(first) = text.first_mut() {
+            *first = first.to_ascii_lowercase();
+        }
+        Ok(text)
+    }
+
+    /// Adds one with a declaration behind a type at a position, and its names in small letters up to the last splice.
+    fn put_renamed(
+        &mut self,
+        hint: Hint,
+        class: usize,
+        first: Splice,
+        semicolon: usize,
+        last: Option<Splice>,
+    ) -> Result<(), AllocError> {
+        let name = class.saturating_add(1);
+        let old = self.word(name);
+        let mut splices = vec![in self.alloc; first]?;
+        if kind_of(old) == Kind::Type {
+            let new = self.small_name(name)?;
+            if self.has_word(&new) {
+                return Ok(());
+            }
+            let end = match &last {
+                Some(splice) => splice.start,
+                None => self.bytes.len(),
+            };
+            for there in semicolon.saturating_add(1)..self.lexemes.len() {
+                let here = self.lexeme(there);
+                if self.text(here) == old && here.end <= end {
+                    splices.push(self.splice(here.start, here.end, &new)?)?;
+                }
+            }
+        }
+        if let Some(splice) = last {
+            splices.push(splice)?;
+        }
+        self.add(Reason::Hinted(hint), splices)
+    }
+
+    /// Whether a word stands in the text.
+    fn has_word(&self, word: &[u8]) -> bool {
+        for index in 0..self.lexemes.len() {
+            if self.word(index) == word {
+                return true;
+            }
+        }
+        false
     }
 
     /// The head of a `let`, ` in {` in the place of the semicolon behind it, and `}` in front of the brace that begins at a byte.
@@ -230,6 +431,13 @@ impl<'a> Candidates<'a> {
             && is_one_of(&OWN, self.text(object))
         {
             let said = Reason::Hinted(Hint::AttributeAlone);
+            if self.is_statement(index) && self.word(index) == b"=".as_slice() {
+                let sign = self.lexeme(index);
+                let name_start = self.before(index, 1).start;
+                let first = self.splice(object.start, name_start, b"")?;
+                let second = self.splice(sign.start, sign.end, b"<-")?;
+                return self.put_two(said, first, second);
+            }
             self.put(said, object.start, self.before(index, 1).start, b"")?;
         }
         Ok(())
@@ -274,10 +482,57 @@ impl<'a> Candidates<'a> {
         Ok(())
     }
 
+    /// `cout << a << b` as `out_string(a).out_int(b)`, where the second part of the first `<<` stands at a position.
+    fn add_streamed(&mut self, index: usize) -> Result<(), AllocError> {
+        let first = index.saturating_sub(2);
+        if self.word(first) != b"cout".as_slice() || !self.is_shift(index) {
+            return Ok(());
+        }
+        let end = self.expression_end(index);
+        let mut text = Vec::new(self.alloc);
+        let mut start = index.saturating_add(1);
+        for there in start..end.saturating_add(1) {
+            if there == end || self.is_shift(there.saturating_add(1)) {
+                if !text.is_empty() {
+                    text.push(b'.')?;
+                }
+                text.extend_from_slice(&self.printed(start, there)?)?;
+                start = there.saturating_add(2);
+            }
+        }
+        let said = Reason::Hinted(Hint::PrintingMethods);
+        self.put(
+            said,
+            self.lexeme(first).start,
+            self.before(end, 1).end,
+            &text,
+        )
+    }
+
+    /// Whether the second part of a `<<` stands at a position.
+    fn is_shift(&self, index: usize) -> bool {
+        self.is_other_sign(index)
+            && self.word(index) == b"<".as_slice()
+            && self.word_before(index, 1) == b"<".as_slice()
+    }
+
+    /// The call that prints the expression between two positions.
+    fn printed(&self, start: usize, end: usize) -> Result<Vec<u8>, AllocError> {
+        let word = self.word(start);
+        if word == b"endl".as_slice() {
+            return Vec::from_slice(self.alloc, b"out_string(\"\\n\")");
+        }
+        let is_text = match self.type_of_name(word, start) {
+            Some(declared) => self.text(declared) == b"String".as_slice(),
+            None => kind_of(word) == Kind::String,
+        };
+        let method: &'static [u8] = if is_text { b"out_string(" } else { b"out_int(" };
+        self.joined(&[method, self.between(start, end), b")"])
+    }
+
     /// No `import ..;` at the head of a file.
     fn add_import(&mut self, index: usize) -> Result<(), AllocError> {
-        let next = self.word(index.saturating_add(1));
-        if self.word(index) == b"#".as_slice() && is_one_of(&IMPORTS, next) {
+        if self.begins_import(index) {
             let start = self.lexeme(index).start;
             let line = line_length(part(self.bytes, start, self.bytes.len()));
             let end = start.saturating_add(line);
@@ -293,6 +548,14 @@ impl<'a> Candidates<'a> {
             }
         }
         Ok(())
+    }
+
+    /// Whether `#include` stands at a position.
+    pub(crate) fn begins_import(&self, index: usize) -> bool {
+        let next = self.lexeme(index.saturating_add(1));
+        self.word(index) == b"#".as_slice()
+            && self.lexeme(index).end == next.start
+            && is_one_of(&IMPORTS, self.text(next))
     }
 
     /// `T f(T a, T b)` as `f(a : T, b : T) : T`.

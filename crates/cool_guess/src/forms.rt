@@ -4,6 +4,7 @@ use crate::candidate::{Candidates, Reason};
 use crate::hint::Hint;
 use crate::kind::{Kind, is_one_of, kind_of};
 use crate::lexeme::{line_length, part};
+use crate::names::BASIC_CLASSES;
 use std::alloc::AllocError;
 
 /// The words and signs in front of a type.
@@ -43,13 +44,16 @@ impl<'a> Candidates<'a> {
             b">" if last == b"<".as_slice() => { self.add_unequal(index.saturating_sub(1), index)? }
             b">" if last == b"-".as_slice() => self.add_dot(index)?,
             b">" => self.add_turned(index)?,
-            b"!" | b"~" if next == b"=".as_slice() => {
-                self.add_unequal(index, index.saturating_add(1))?
-            }
+            b"!" | b"~" if next == b"=".as_slice() => self.add_different(index)?,
             b"'" => self.add_quoted(index)?,
             b"elif" | b"elsif" | b"elseif" => self.add_else_if(index)?,
-            b"=" if self.word_before(index, 2) == b"let".as_slice() => self.add_let(index)?,
-            b"=" | b"+" | b"-" => self.add_changed(index)?,
+            b"=" => self.add_equals(index)?,
+            b"+" if last == b"+".as_slice() && is_operand(next) => self.add_appended(index)?,
+            b"_" if next == b"=>".as_slice() => {
+                let said = Reason::Hinted(Hint::BranchType);
+                self.put_at(said, self.lexeme(index), b"it : Object")?
+            }
+            b"+" | b"-" => self.add_changed(index)?,
             b";" => self.add_returned_call(index)?,
             [b'_', name @ ..] => {
                 let said = Reason::Hinted(Hint::NoUnderscore);
@@ -60,6 +64,14 @@ impl<'a> Candidates<'a> {
             b"<-" if self.word_before(index, 2) == b".".as_slice() => self.add_setter(index)?,
             _ => {}
         }
+        self.add_typed_forms(index)
+    }
+
+    /// The forms of a value behind `return`, and of a type where none stands in Cool.
+    fn add_typed_forms(&mut self, index: usize) -> Result<(), AllocError> {
+        let word = self.word(index);
+        let last = self.word_before(index, 1);
+        let next = self.word(index.saturating_add(1));
         if last == b"return".as_slice() {
             self.add_returned(index)?;
         }
@@ -72,6 +84,21 @@ impl<'a> Candidates<'a> {
             self.add_declaration(index.saturating_sub(1))?;
         }
         Ok(())
+    }
+
+    /// The forms that have a `=` at a position: `===`, `/=`, `let x = 5`, and `x += 5`.
+    fn add_equals(&mut self, index: usize) -> Result<(), AllocError> {
+        let last = self.word_before(index, 1);
+        if last == b"=".as_slice() && self.word(index.saturating_add(1)) == last {
+            return self.add_equal(index);
+        }
+        if last == b"/".as_slice() && !self.is_statement(index) {
+            return self.add_unequal(index.saturating_sub(1), index);
+        }
+        if self.word_before(index, 2) == b"let".as_slice() {
+            return self.add_let(index);
+        }
+        self.add_changed(index)
     }
 
     /// `a and b` as `if a then b else false fi`, with a sign of so many lexemes.
@@ -155,6 +182,35 @@ impl<'a> Candidates<'a> {
         self.put_two(Reason::Hinted(Hint::NoUnequalSign), first, second)
     }
 
+    /// `a != b` and `a !== b` as `not a = b`, where the first part of the sign stands at a position.
+    fn add_different(&mut self, index: usize) -> Result<(), AllocError> {
+        let second = index.saturating_add(1);
+        let third = index.saturating_add(2);
+        let last = if self.word(third) == b"=".as_slice() {
+            third
+        } else {
+            second
+        };
+        self.add_unequal(index, last)
+    }
+
+    /// `===` as `=`, where its second part stands at a position.
+    fn add_equal(&mut self, index: usize) -> Result<(), AllocError> {
+        let start = self.before(index, 1).start;
+        let end = self.lexeme(index.saturating_add(1)).end;
+        self.put(Reason::Hinted(Hint::OneEqualsSign), start, end, b"=")
+    }
+
+    /// `a ++ b` as `a.concat(b)`, where the second part of the sign stands at a position.
+    fn add_appended(&mut self, index: usize) -> Result<(), AllocError> {
+        let next = index.saturating_add(1);
+        let start = self.before(index, 2).end;
+        let end = self.before(self.operand_end(next), 1).end;
+        let first = self.splice(start, self.lexeme(next).start, b".concat(")?;
+        let second = self.splice(end, end, b")")?;
+        self.put_two(Reason::Hinted(Hint::JoinStrings), first, second)
+    }
+
     /// `a->f()` as `a.f()`, where the `>` stands at a position.
     fn add_dot(&mut self, index: usize) -> Result<(), AllocError> {
         if !self.is_call(index.saturating_add(1)) {
@@ -212,14 +268,10 @@ impl<'a> Candidates<'a> {
     /// `let x = 5` as `let x : Int <- 5`, where the type can be seen.
     fn add_let(&mut self, index: usize) -> Result<(), AllocError> {
         let sign = self.lexeme(index);
-        let word = self.word(index.saturating_add(1));
-        let class: &[u8] = match kind_of(word) {
-            Kind::Number => b"Int",
-            Kind::String => b"String",
-            _ if matches!(word, b"true" | b"false") => b"Bool",
-            _ if word == b"new".as_slice() => self.word(index.saturating_add(2)),
-            _ => return Ok(()),
-        };
+        let class = self.type_of_value(index.saturating_add(1));
+        if class.is_empty() {
+            return Ok(());
+        }
         let text = self.joined(&[b": ", class, b" <-"])?;
         self.put(
             Reason::Hinted(Hint::TypeOfVariable),
@@ -227,6 +279,18 @@ impl<'a> Candidates<'a> {
             sign.end,
             &text,
         )
+    }
+
+    /// The type of the value that begins at a position, where it can be seen; else nothing.
+    pub(crate) fn type_of_value(&self, index: usize) -> &'a [u8] {
+        let word = self.word(index);
+        match kind_of(word) {
+            Kind::Number => b"Int",
+            Kind::String => b"String",
+            _ if matches!(word, b"true" | b"false") => b"Bool",
+            _ if word == b"new".as_slice() => self.word(index.saturating_add(1)),
+            _ => b"",
+        }
     }
 
     /// A string in single quotes.
@@ -333,7 +397,23 @@ impl<'a> Candidates<'a> {
             let said = Reason::Hinted(Hint::MethodOfObject);
             self.put_at(said, class, &text)?;
         }
-        self.put(Reason::Edit, class.start, class.start, b"new ")
+        if self.is_used_as_type(self.text(class)) {
+            self.put(Reason::Edit, class.start, class.start, b"new ")?;
+        }
+        Ok(())
+    }
+
+    /// Whether a word is the name of a basic class, or stands in the place of a type elsewhere.
+    fn is_used_as_type(&self, word: &[u8]) -> bool {
+        if is_one_of(&BASIC_CLASSES, word) {
+            return true;
+        }
+        for index in 1..self.lexemes.len() {
+            if self.word(index) == word && wants_type(self.word_before(index, 1)) {
+                return true;
+            }
+        }
+        false
     }
 
     /// `a.x <- b` as `a.set_x(b)`.
@@ -399,6 +479,11 @@ fn without_underscores(name: &[u8]) -> &[u8] {
         }
     }
     b"x"
+}
+
+/// Whether an operand begins with a word.
+fn is_operand(word: &[u8]) -> bool {
+    word == b"(".as_slice() || kind_of(word) != Kind::Fixed
 }
 
 /// Whether a type stands behind a word.

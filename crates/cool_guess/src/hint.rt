@@ -44,6 +44,8 @@ pub enum Hint {
     ArrowWithoutColon,
     /// `=>` outside of `case`.
     ArrowOfBranches,
+    /// A value in front of `<-`.
+    NameAssigned,
     /// Another sign for `=>`.
     BranchArrow,
     /// `!=` or `<>`.
@@ -66,6 +68,8 @@ pub enum Hint {
     Negative,
     /// `%` or `mod`.
     NoRemainder,
+    /// `**`.
+    NoPower,
     /// `+=` and others.
     NoAssignmentOfSums,
     /// `++`.
@@ -116,8 +120,12 @@ pub enum Hint {
     ElseIf,
     /// `then` behind `else`.
     ElseWithoutThen,
+    /// A branch of `if` without an expression.
+    EmptyBranch,
     /// `switch` or `match`.
     CaseWord,
+    /// `switch (..)`.
+    NoSwitch,
     /// A constant in a branch.
     BranchOfClass,
     /// A branch without a type.
@@ -250,6 +258,8 @@ pub fn hint_words(hint: Hint) -> &'static str
         Hint::NoColonEquals => "assign with `<-`: Cool has no `:=`",
         Hint::ArrowWithoutColon => "assign with `<-`, without `:`",
         Hint::ArrowOfBranches => "assign with `<-`: `=>` belongs to a branch of `case`",
+        Hint::NameAssigned =>
+            "assign to a name: only a variable or an attribute can stand before `<-`",
         Hint::BranchArrow => "write `=>` before the value of a branch of `case`",
         Hint::NoUnequalSign => "Cool has no `!=` or `<>`: write `not a = b`",
         Hint::NoGreaterSign =>
@@ -262,6 +272,7 @@ pub fn hint_words(hint: Hint) -> &'static str
         Hint::NotWord => "write `not` instead of `!`",
         Hint::Negative => "write `~` for the minus sign of a negative number",
         Hint::NoRemainder => "Cool has no `%` or `mod`: write `a - a / b * b` for the remainder",
+        Hint::NoPower => "Cool has no `**` or `^`: write a method that multiplies in a loop",
         Hint::NoAssignmentOfSums => "Cool has no `+=` or `-=`: write `x <- x + a`",
         Hint::NoIncrement => "Cool has no `++`: write `x <- x + 1`",
         Hint::NoDecrement => "`--` begins a comment: write `x <- x - 1`",
@@ -292,7 +303,11 @@ pub fn hint_words(hint: Hint) -> &'static str
         Hint::EsacEnds => "end a `case` with `esac`",
         Hint::ElseIf => "Cool has no `elif`: write `else if`, and a `fi` for each `if`",
         Hint::ElseWithoutThen => "remove the `then`: the expression follows `else`",
+        Hint::EmptyBranch =>
+            "write an expression in each branch: Cool has no `if` without `else`, and no empty branch",
         Hint::CaseWord => "write `case x of`, which selects a branch by the class of `x`",
+        Hint::NoSwitch =>
+            "Cool has no `switch`: write an `if` for each value; `case x of` selects a branch by the class of `x`",
         Hint::BranchOfClass =>
             "name a class in each branch of `case`, as in `x : Int => ..`: to compare values, write `if`",
         Hint::BranchType =>

@@ -13,6 +13,7 @@ mod extents;
 mod fitting;
 mod forms;
 mod hint;
+mod inherited;
 mod kind;
 mod lexeme;
 mod meaning_guesses;

@@ -85,7 +85,10 @@ pub fn beside_candidates(
 ) -> Result<Vec<Candidate>, AllocError> {
     let mut found = Candidates::new(alloc, bytes, lexemes);
     if let Fault::Typing(fault) = fault {
-        if fault.kind != TypeKind::E2 {
+        if matches!(fault.kind, TypeKind::E1 | TypeKind::E4) {
+            found.unknown = Some(index);
+        }
+        if !matches!(fault.kind, TypeKind::E2 | TypeKind::E13) {
             found.add_beside(index)?;
         }
     }

@@ -2,8 +2,10 @@
 
 use crate::candidate::Candidates;
 use crate::hint::{Hint, hint_words};
+use crate::inherited::{class_below, redefinition};
 use crate::kind::{Kind, kind_of};
 use crate::lexeme::{Lexeme, word_at, word_before};
+use crate::names::is_among;
 use crate::signs::ADVICE;
 use cool_classes::{INT, STRING, Ty};
 use cool_faults::Fault;
@@ -16,11 +18,19 @@ pub fn advice(
     lexemes: &[Lexeme],
     index: usize,
 ) -> Result<Vec<Vec<u8>>, AllocError> {
-    let here = word_at(bytes, lexemes, index);
-    let before = word_before(bytes, lexemes, index, 1);
+    let around = Candidates::new(alloc, bytes, lexemes);
     let mut all = Vec::new(alloc);
-    add_said(alloc, &mut all, &ADVICE, here)?;
-    add_said(alloc, &mut all, &ADVICE, before)?;
+    match around.sign_hint(index) {
+        Some(hint) => add_words(alloc, &mut all, hint)?,
+        None => add_said(alloc, &mut all, &ADVICE, around.word(index))?,
+    }
+    add_said(alloc, &mut all, &ADVICE, around.word_before(index, 1))?;
+    if let Some(words) = redefinition(alloc, &around, index)? {
+        all.push(words)?;
+    }
+    if let Some(words) = class_below(alloc, &around, index)? {
+        all.push(words)?;
+    }
     if is_attribute(bytes, lexemes, index) {
         add_words(alloc, &mut all, Hint::NoFieldAccess)?;
     }
@@ -38,6 +48,12 @@ fn foreign_form(alloc: Global, bytes: &[u8], lexemes: &[Lexeme], index: usize) -
     }
     if let Some(hint) = around.foreign_hint(index) {
         return Some(hint);
+    }
+    if around.is_value_assigned(index) {
+        return Some(Hint::NameAssigned);
+    }
+    if around.lacks_branch(index) {
+        return Some(Hint::EmptyBranch);
     }
     let is_constant = matches!(kind_of(around.word(index)), Kind::Number | Kind::String);
     if is_constant && around.word_before(index, 1) == b"of".as_slice() {
@@ -72,8 +88,11 @@ fn add_said(
     Ok(())
 }
 
-/// Adds the words of a hint.
+/// Adds the words of a hint, if they are not there.
 fn add_words(alloc: Global, all: &mut Vec<Vec<u8>>, hint: Hint) -> Result<(), AllocError> {
+    if is_among(all, hint_words(hint).as_bytes()) {
+        return Ok(());
+    }
     all.push(Vec::from_slice(alloc, hint_words(hint).as_bytes())?)?;
     Ok(())
 }

@@ -80,6 +80,15 @@ pub(crate) static WORDS: [(&str, &str, Hint); 45] = [
     ("'", "\"", Hint::DoubleQuotes),
 ];
 
+/// Words of other languages behind which a statement has its head in parentheses, and what is said of them.
+pub(crate) static HEADS: [(&str, Hint); 5] = [
+    ("for", Hint::NoFor),
+    ("foreach", Hint::NoFor),
+    ("switch", Hint::NoSwitch),
+    ("match", Hint::NoSwitch),
+    ("catch", Hint::NoExceptions),
+];
+
 /// Names that other languages have for types, and those of Cool.
 pub(crate) static TYPES: [(&str, &str); 17] = [
     ("int", "Int"),
@@ -123,7 +132,8 @@ pub(crate) static NAMES: [(&str, &str); 17] = [
 ];
 
 /// Words and signs of other languages, and what is said of them.
-pub(crate) static ADVICE: [(&str, Hint); 32] = [
+pub(crate) static ADVICE: [(&str, Hint); 33] = [
+    ("^", Hint::NoPower),
     ("and", Hint::NoAnd),
     ("or", Hint::NoOr),
     ("&", Hint::NoAnd),

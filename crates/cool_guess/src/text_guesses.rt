@@ -6,7 +6,7 @@ use crate::fitting::{fitting, is_known, words_around};
 use crate::forms::wants_type;
 use crate::hint::Hint;
 use crate::kind::{KEYWORDS, Kind, is_constant, is_one_of, kind_of};
-use crate::lexeme::{Lexeme, line_length, part};
+use crate::lexeme::{Lexeme, index_at, line_length, part};
 use crate::nearness::are_near;
 use crate::signs::{PAIRS, TYPES, WORDS};
 use crate::silly::is_unknown;
@@ -125,6 +125,9 @@ impl<'a> Candidates<'a> {
 
     /// Signs and words of other languages.
     fn add_words(&mut self, index: usize) -> Result<(), AllocError> {
+        if self.begins_import(index) {
+            return Ok(());
+        }
         self.put_pairs(index, &PAIRS)?;
         self.put_pairs(index.saturating_add(1), &PAIRS)?;
         self.put_words(self.lexeme(index), &WORDS)?;
@@ -165,11 +168,21 @@ impl<'a> Candidates<'a> {
     /// The text that a table has for a lexeme.
     fn put_words(&mut self, place: Lexeme, table: &[(&str, &str, Hint)]) -> Result<(), AllocError> {
         for (word, text, hint) in table {
-            if word.as_bytes() == self.text(place) {
+            if word.as_bytes() == self.text(place) && !self.is_lost(place, *hint) {
                 self.put_at(Reason::Hinted(*hint), place, text.as_bytes())?;
             }
         }
         Ok(())
+    }
+
+    /// Whether a hint on a lexeme makes a comparison whose result nothing uses: of `5 <- x`, or of `const x = 5` without its first word.
+    fn is_lost(&self, place: Lexeme, hint: Hint) -> bool {
+        let index = index_at(self.lexemes, place.start);
+        match hint {
+            Hint::EqualsCompares => self.is_value_assigned(index),
+            Hint::NoModifiers => self.is_untyped(index),
+            _ => false,
+        }
     }
 
     /// Comments that are not closed, and comments of other languages over several lines.
