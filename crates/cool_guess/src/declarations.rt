@@ -167,7 +167,19 @@ impl<'a> Candidates<'a> {
         let (features, _) = self.variables(class, b"; ")?;
         let text = self.joined(&[&features, b";"])?;
         let first = self.splice(self.lexeme(start).start, end, &text)?;
-        self.put_renamed(Hint::TypeAfterName, class, first, semicolon, None)
+        let hint = self.modifier_hint(start, class);
+        self.put_renamed(hint, class, first, semicolon, None)
+    }
+
+    /// The hint on a declaration of an attribute whose first word and type stand at these positions.
+    fn modifier_hint(&self, start: usize, class: usize) -> Hint {
+        if start == class {
+            return Hint::TypeAfterName;
+        }
+        match self.word(start) {
+            b"public" | b"private" | b"protected" => Hint::NoAccessModifiers,
+            _ => Hint::NoModifiers,
+        }
     }
 
     /// Whether a declaration without a type begins at a position, as `var x = 5`.
@@ -302,7 +314,7 @@ impl<'a> Candidates<'a> {
     }
 
     /// Whether a word stands in the text.
-    fn has_word(&self, word: &[u8]) -> bool {
+    pub(crate) fn has_word(&self, word: &[u8]) -> bool {
         for index in 0..self.lexemes.len() {
             if self.word(index) == word {
                 return true;

@@ -10,6 +10,12 @@ use std::alloc::AllocError;
 /// The words and signs in front of a type.
 static BEFORE_TYPES: [&str; 5] = [":", "new", "@", "inherits", "class"];
 
+/// The names of other languages for the remainder.
+static REMAINDERS: [&str; 2] = ["mod", "rem"];
+
+/// The words of other languages in front of a parent.
+static ACCESS: [&str; 3] = ["public", "private", "protected"];
+
 /// The quotes of text programs, in UTF-8.
 static OPEN_QUOTE: [u8; 3] = [226, 128, 156];
 
@@ -40,7 +46,14 @@ impl<'a> Candidates<'a> {
             b"or" => self.add_either(index, 1)?,
             b"&" => self.add_both(index, 2)?,
             b"|" => self.add_either(index, 2)?,
-            b"%" | b"mod" => self.add_remainder(index)?,
+            b"%" | b"mod" => self.add_remainder(index, 1)?,
+            b"`" if is_one_of(&REMAINDERS, next) => self.add_remainder(index, 3)?,
+            b"?" => self.add_conditional(index)?,
+            b":" if is_one_of(&ACCESS, next) => {
+                let end = self.lexeme(index.saturating_add(1)).end;
+                let start = self.lexeme(index).start;
+                self.put(Reason::Hinted(Hint::InheritsWord), start, end, b"inherits")?
+            }
             b">" if last == b"<".as_slice() => { self.add_unequal(index.saturating_sub(1), index)? }
             b">" if last == b"-".as_slice() => self.add_dot(index)?,
             b">" => self.add_turned(index)?,
@@ -137,17 +150,56 @@ impl<'a> Candidates<'a> {
         self.put(said, from, to, &text)
     }
 
-    /// `a % b` as `a - a / b * b`.
-    fn add_remainder(&mut self, index: usize) -> Result<(), AllocError> {
+    /// `a % b` as `a - a / b * b`, with a sign of so many lexemes, and a `==` behind it as `=`.
+    fn add_remainder(&mut self, index: usize, many: usize) -> Result<(), AllocError> {
         let start = self.operand_start(index);
-        let behind = index.saturating_add(1);
-        let end = self.operand_end(behind);
+        let behind = index.saturating_add(many);
+        let mut end = self.operand_end(behind);
         let left = self.between(start, index);
         let right = self.between(behind, end);
-        let text = self.joined(&[left, b" - ", left, b" / ", right, b" * ", right])?;
+        let next = end.saturating_add(1);
+        let is_compared = self.word(end) == b"=".as_slice() && self.word(next) == self.word(end);
+        let last: &'static [u8] = if is_compared { b" =" } else { b"" };
+        let text = self.joined(&[left, b" - ", left, b" / ", right, b" * ", right, last])?;
+        if is_compared {
+            end = end.saturating_add(2);
+        }
         let from = self.lexeme(start).start;
         let to = self.before(end, 1).end;
         self.put(Reason::Hinted(Hint::NoRemainder), from, to, &text)
+    }
+
+    /// `a ? b : c` as `if a then b else c fi`, where the first sign stands at a position.
+    fn add_conditional(&mut self, index: usize) -> Result<(), AllocError> {
+        let start = self.expression_start(index);
+        let behind = index.saturating_add(1);
+        let Some(colon) = self.colon_behind(behind) else {
+            return Ok(());
+        };
+        let last = colon.saturating_add(1);
+        let end = self.expression_end(last);
+        let text = self.joined(&[
+            b"if ",
+            self.between(start, index),
+            b" then ",
+            self.between(behind, colon),
+            b" else ",
+            self.between(last, end),
+            b" fi",
+        ])?;
+        let from = self.lexeme(start).start;
+        let to = self.before(end, 1).end;
+        self.put(Reason::Hinted(Hint::NoConditional), from, to, &text)
+    }
+
+    /// The position of the first colon from a position on, within the expression.
+    fn colon_behind(&self, index: usize) -> Option<usize> {
+        for there in index..self.expression_end(index) {
+            if self.word(there) == b":".as_slice() {
+                return Some(there);
+            }
+        }
+        None
     }
 
     /// `a > b` as `b < a`.
@@ -404,7 +456,7 @@ impl<'a> Candidates<'a> {
     }
 
     /// Whether a word is the name of a basic class, or stands in the place of a type elsewhere.
-    fn is_used_as_type(&self, word: &[u8]) -> bool {
+    pub(crate) fn is_used_as_type(&self, word: &[u8]) -> bool {
         if is_one_of(&BASIC_CLASSES, word) {
             return true;
         }

@@ -45,6 +45,9 @@ static TRUTHS: [&str; 2] = ["true", "false"];
 /// The words behind the second operand of a sum.
 static BEHIND_SUMS: [&str; 8] = [")", "+", ";", ",", "}", "fi", "then", "in"];
 
+/// The number of lexemes in front of an argument among which the method that prints it is looked for.
+const LOOKED_FOR_WRITING: usize = 9;
+
 /// The number of lexemes of a declaration that are looked at.
 const LOOKED_ALONG: usize = 64;
 
@@ -693,7 +696,7 @@ impl<'a> Candidates<'a> {
             }
             self.add_constant(there)?;
         }
-        for back in 1..4 {
+        for back in 1..LOOKED_FOR_WRITING {
             if let Some(there) = index.checked_sub(back) {
                 if is_one_of(&WRITING, self.word(there)) {
                     self.add_constant(there)?;

@@ -4,7 +4,8 @@ use crate::hint::Hint;
 
 /// Two lexemes beside each other, of which the fault is told at one, what stands in their place, and what is said of it. The likeliest come
 /// first.
-pub(crate) static PAIRS: [(&str, &str, &str, Hint); 24] = [
+pub(crate) static PAIRS: [(&str, &str, &str, Hint); 25] = [
+    (":", ":", ":", Hint::TypeAfterName),
     ("=", "=", "=", Hint::OneEqualsSign),
     (":", "=", "<-", Hint::NoColonEquals),
     ("-", ">", "=>", Hint::BranchArrow),

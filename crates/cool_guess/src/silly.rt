@@ -6,7 +6,7 @@ use crate::hint::Hint;
 use crate::kind::{Kind, is_constant, is_number, is_one_of, kind_of};
 use crate::lexeme::{index_at, part};
 use crate::nearness::are_near;
-use crate::signs::{ADVICE, HEADS};
+use crate::signs::{ADVICE, HEADS, TYPES};
 
 /// Words that stand in front of an expression, and `self`: no name is meant for them unless it is near.
 static UNLIKE_NAMES: [&str; 5] = ["isvoid", "not", "new", "~", "self"];
@@ -43,7 +43,10 @@ impl<'a> Candidates<'a> {
             if self.parts_sign(splice) || (!is_exchange && self.is_other_name(splice)) {
                 return true;
             }
-            if !is_exchange && (self.makes_comment(splice) || self.makes_branch(splice)) {
+            let is_made_up = self.makes_comment(splice)
+                || self.makes_branch(splice)
+                || self.makes_class(splice);
+            if !is_exchange && is_made_up {
                 return true;
             }
             if !is_exchange && splice.start < splice.end && self.takes_meaning(splice) {
@@ -71,6 +74,14 @@ impl<'a> Candidates<'a> {
             }
         }
         false
+    }
+
+    /// Whether a splice puts `new` in front of a name that no type has in the text.
+    fn makes_class(&self, splice: &Splice) -> bool {
+        let word = self.word(index_at(self.lexemes, splice.start));
+        splice.text.trim_ascii() == b"new".as_slice()
+            && kind_of(word) == Kind::Type
+            && !self.is_used_as_type(word)
     }
 
     /// Whether a splice puts a name that is not like it in the place of one that nothing declares.
@@ -217,6 +228,10 @@ impl<'a> Candidates<'a> {
 
     /// The hint on the sign of another language of which the lexeme at a position is the first or second part.
     pub(crate) fn sign_hint(&self, index: usize) -> Option<Hint> {
+        let next = self.word(index.saturating_add(1));
+        if self.word(index) == b"`".as_slice() && next == b"mod".as_slice() {
+            return Some(Hint::NoRemainder);
+        }
         for second in [index, index.saturating_add(1)] {
             if !self.is_other_sign(second) {
                 continue;
@@ -291,7 +306,7 @@ impl<'a> Candidates<'a> {
         let is_empty = word == b"}".as_slice() && last == b"{".as_slice();
         let is_return = word == b";".as_slice() && last == b"return".as_slice();
         let is_let = word == b"=".as_slice() && self.word_before(index, 2) == b"let".as_slice();
-        let is_foreign = is_foreign_word(word) || is_foreign_word(last);
+        let is_foreign = is_statement_word(word) || is_statement_word(last);
         is_empty
             || is_return
             || is_let
@@ -357,6 +372,16 @@ pub(crate) fn is_foreign_word(word: &[u8]) -> bool {
         }
     }
     false
+}
+
+/// Whether a word of another language has a hint, and is no type.
+fn is_statement_word(word: &[u8]) -> bool {
+    for (known, _) in &TYPES {
+        if known.as_bytes() == word {
+            return false;
+        }
+    }
+    is_foreign_word(word)
 }
 
 /// Whether a word is a byte that begins no lexeme of Cool.

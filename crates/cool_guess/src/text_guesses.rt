@@ -270,7 +270,12 @@ impl<'a> Candidates<'a> {
             }
             _ => return Ok(()),
         };
-        self.put_at(said, here, &text)
+        let next = self.word(index.saturating_add(1));
+        let is_defined = matches!(next, b":" | b"(") || kind_of(word) == Kind::Object;
+        if is_defined || self.has_word(&text) {
+            self.put_at(said, here, &text)?;
+        }
+        Ok(())
     }
 
     /// Keywords near to the lexeme at the fault and to the one before it, and `new C()`.
