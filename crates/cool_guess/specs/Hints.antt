@@ -18,7 +18,7 @@ use Rattle.cool_guess.specs.declared.hint.Hint.TheVariants.{MethodMain, MainWith
 use Rattle.cool_guess.specs.declared.hint.Hint.TheVariants.{NewWithoutArguments, MethodOfObject, MethodAfterObject, CallWithParentheses}
 use Rattle.cool_guess.specs.declared.hint.Hint.TheVariants.{ArgumentsInParentheses, ArgumentForEachFormal, AttributeAlone, NoFieldAccess, AssignByMethod}
 use Rattle.cool_guess.specs.declared.hint.Hint.TheVariants.{NoMethodEquals, CompareWithZero, NumbersOnly, JoinStrings, PrintingMethods, NoTextOfInt, NoSwitch}
-use Rattle.cool_guess.specs.declared.hint.Hint.TheVariants.{EmptyBranch, NoPower, NameAssigned}
+use Rattle.cool_guess.specs.declared.hint.Hint.TheVariants.{EmptyBranch, NoPower, NameAssigned, NoShift, ReadingMethods, NoTypeParameters}
 
 abbrev pub hint_words : Hint → List ℕ
 hint_words ByteOrderMark = codes "save the file without a byte order mark"
@@ -53,6 +53,7 @@ hint_words NotWord = codes "write `not` instead of `!`"
 hint_words Negative = codes "write `~` for the minus sign of a negative number"
 hint_words NoRemainder = codes "Cool has no `%` or `mod`: write `a - a / b * b` for the remainder"
 hint_words NoPower = codes "Cool has no `**` or `^`: write a method that multiplies in a loop"
+hint_words NoShift = codes "Cool has no `<<` or `>>`: multiply or divide"
 hint_words NoAssignmentOfSums = codes "Cool has no `+=` or `-=`: write `x <- x + a`"
 hint_words NoIncrement = codes "Cool has no `++`: write `x <- x + 1`"
 hint_words NoDecrement = codes "`--` begins a comment: write `x <- x - 1`"
@@ -94,6 +95,7 @@ hint_words NoSuper = codes "Cool has no `super`: write `self@Parent.f()` to call
 hint_words NoImport = codes "Cool has no `import`: pass all files of the program to the compiler"
 hint_words NoExceptions = codes "Cool has no exceptions: return a value that tells of the error, or call `abort()`"
 hint_words NoArrays = codes "Cool has no arrays: write a class for a list, with attributes for an item and for the rest of the list"
+hint_words NoTypeParameters = codes "Cool has no type parameters: write a class for each type of item"
 hint_words NoCasts = codes "Cool has no casts: write `case`, which selects a branch by the class of a value"
 hint_words NoModifiers = codes "begin a feature with its name: Cool has no `var`, `def`, `static` or `final`"
 hint_words NoAccessModifiers = codes "Cool has no `public` or `private`: a method is visible everywhere, an attribute only in its class and the classes below"
@@ -133,4 +135,5 @@ hint_words CompareWithZero = codes "compare the number, for example with 0: a co
 hint_words NumbersOnly = codes "use `+` and `<` only with numbers: declare the name as an Int"
 hint_words JoinStrings = codes "join strings with `a.concat(b)`"
 hint_words PrintingMethods = codes "print with `out_string` or `out_int` of class IO"
+hint_words ReadingMethods = codes "read with `in_string()` or `in_int()` of class IO"
 hint_words NoTextOfInt = codes "print a number with `out_int`: Cool has no method that turns an Int into a String"

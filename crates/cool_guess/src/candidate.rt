@@ -232,7 +232,7 @@ pub(crate) fn ends_word(bytes: &[u8]) -> bool {
 }
 
 /// Whether some bytes begin as a name does.
-fn begins_word(bytes: &[u8]) -> bool {
+pub(crate) fn begins_word(bytes: &[u8]) -> bool {
     match bytes {
         [first, ..] => is_name_byte(*first),
         _ => false,

@@ -58,6 +58,9 @@ static BEFORE_STATEMENTS: [&str; 6] = ["{", ";", "in", "const", "final", "static
 /// The methods that print.
 static PRINTING: [&str; 2] = ["out_string", "out_int"];
 
+/// The number of lexemes in front of a semicolon among which its `let` is looked for.
+const LOOKED_FOR_LET: usize = 60;
+
 /// The most lexemes of an import that are looked at.
 const LOOKED_FOR_IMPORT: usize = 12;
 
@@ -69,6 +72,7 @@ impl<'a> Candidates<'a> {
         self.add_variables(index)?;
         self.add_variables(index.saturating_sub(2))?;
         self.add_variables(index.saturating_sub(1))?;
+        self.add_let_statement(index)?;
         self.add_method(index)?;
         self.add_method(index.saturating_sub(1))?;
         self.add_counted(index)?;
@@ -334,6 +338,37 @@ impl<'a> Candidates<'a> {
         let second = self.splice(semicolon.start, semicolon.end, b" in {")?;
         let third = self.splice(close, close, b"}; ")?;
         self.put_three(said, first, second, third)
+    }
+
+    /// `let x : T <- a; ..` in a block as `let x : T <- a in { .. };`, where the semicolon stands at a position.
+    fn add_let_statement(&mut self, index: usize) -> Result<(), AllocError> {
+        let close = self.block_end(index);
+        let is_one = self.word(index) == b";".as_slice()
+            && self.begins_let(index)
+            && self.word(close) == b"}".as_slice();
+        if !is_one {
+            return Ok(());
+        }
+        let semicolon = self.lexeme(index);
+        let byte = self.lexeme(close).start;
+        let first = self.splice(semicolon.start, semicolon.end, b" in {")?;
+        let second = self.splice(byte, byte, b"}; ")?;
+        self.put_two(Reason::Hinted(Hint::DeclareByLet), first, second)
+    }
+
+    /// Whether the statement in front of the semicolon at a position begins with `let`, and has no `in`.
+    fn begins_let(&self, index: usize) -> bool {
+        for back in 1..LOOKED_FOR_LET {
+            match self.word_before(index, back) {
+                b"let" => {
+                    let before = self.word_before(index, back.saturating_add(1));
+                    return is_one_of(&BEFORE_FEATURES, before);
+                }
+                b";" | b"{" | b"in" | b"" => return false,
+                _ => {}
+            }
+        }
+        false
     }
 
     /// A name, its type, and the sign in front of its value.

@@ -108,7 +108,7 @@ impl<'a> Candidates<'a> {
         if last == b"/".as_slice() && !self.is_statement(index) {
             return self.add_unequal(index.saturating_sub(1), index);
         }
-        if self.word_before(index, 2) == b"let".as_slice() {
+        if matches!(self.word_before(index, 2), b"let" | b",") {
             return self.add_let(index);
         }
         self.add_changed(index)

@@ -70,6 +70,8 @@ pub enum Hint {
     NoRemainder,
     /// `**`.
     NoPower,
+    /// `<<` or `>>`.
+    NoShift,
     /// `+=` and others.
     NoAssignmentOfSums,
     /// `++`.
@@ -152,6 +154,8 @@ pub enum Hint {
     NoExceptions,
     /// `[`.
     NoArrays,
+    /// `List<Int>`.
+    NoTypeParameters,
     /// A cast.
     NoCasts,
     /// `static`, `def` and others.
@@ -230,6 +234,8 @@ pub enum Hint {
     JoinStrings,
     /// `System.out.println`.
     PrintingMethods,
+    /// `cin >> x`.
+    ReadingMethods,
     /// A number where a string is due.
     NoTextOfInt,
 }
@@ -273,6 +279,7 @@ pub fn hint_words(hint: Hint) -> &'static str
         Hint::Negative => "write `~` for the minus sign of a negative number",
         Hint::NoRemainder => "Cool has no `%` or `mod`: write `a - a / b * b` for the remainder",
         Hint::NoPower => "Cool has no `**` or `^`: write a method that multiplies in a loop",
+        Hint::NoShift => "Cool has no `<<` or `>>`: multiply or divide",
         Hint::NoAssignmentOfSums => "Cool has no `+=` or `-=`: write `x <- x + a`",
         Hint::NoIncrement => "Cool has no `++`: write `x <- x + 1`",
         Hint::NoDecrement => "`--` begins a comment: write `x <- x - 1`",
@@ -327,6 +334,8 @@ pub fn hint_words(hint: Hint) -> &'static str
             "Cool has no exceptions: return a value that tells of the error, or call `abort()`",
         Hint::NoArrays =>
             "Cool has no arrays: write a class for a list, with attributes for an item and for the rest of the list",
+        Hint::NoTypeParameters =>
+            "Cool has no type parameters: write a class for each type of item",
         Hint::NoCasts =>
             "Cool has no casts: write `case`, which selects a branch by the class of a value",
         Hint::NoModifiers =>
@@ -379,6 +388,7 @@ pub fn hint_words(hint: Hint) -> &'static str
         Hint::NumbersOnly => "use `+` and `<` only with numbers: declare the name as an Int",
         Hint::JoinStrings => "join strings with `a.concat(b)`",
         Hint::PrintingMethods => "print with `out_string` or `out_int` of class IO",
+        Hint::ReadingMethods => "read with `in_string()` or `in_int()` of class IO",
         Hint::NoTextOfInt =>
             "print a number with `out_int`: Cool has no method that turns an Int into a String",
     }

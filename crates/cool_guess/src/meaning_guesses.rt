@@ -17,7 +17,7 @@ use cool_faults::Fault;
 use std::alloc::{AllocError, Global};
 
 /// The names of other languages for void.
-static VOIDS: [&str; 5] = ["null", "nil", "NULL", "void", "None"];
+static VOIDS: [&str; 6] = ["null", "nil", "NULL", "void", "None", "nullptr"];
 
 /// Methods by which other languages compare.
 static COMPARING: [&str; 3] = ["equals", "compareTo", "eq"];

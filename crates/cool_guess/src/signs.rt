@@ -133,7 +133,9 @@ pub(crate) static NAMES: [(&str, &str); 17] = [
 ];
 
 /// Words and signs of other languages, and what is said of them.
-pub(crate) static ADVICE: [(&str, Hint); 33] = [
+pub(crate) static ADVICE: [(&str, Hint); 35] = [
+    ("match", Hint::CaseWord),
+    ("nullptr", Hint::NoNull),
     ("^", Hint::NoPower),
     ("and", Hint::NoAnd),
     ("or", Hint::NoOr),

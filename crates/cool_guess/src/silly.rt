@@ -1,6 +1,6 @@
 //! `is_silly` rejects a candidate fix that gives a legal program but is surely not meant, such as one that removes a call or a constant.
 
-use crate::candidate::{Candidate, Candidates, Reason, Splice};
+use crate::candidate::{Candidate, Candidates, Reason, Splice, begins_word, ends_word};
 use crate::declarations::BEFORE_FEATURES;
 use crate::hint::Hint;
 use crate::kind::{Kind, is_constant, is_number, is_one_of, kind_of};
@@ -15,6 +15,9 @@ static UNLIKE_NAMES: [&str; 5] = ["isvoid", "not", "new", "~", "self"];
 static JOINED: [&str; 14] = [
     "+", "-", "*", "/", "<", ">", "=", "!", "&", "|", "?", "^", "%", ":",
 ];
+
+/// Signs whose operands are not the same.
+static DIFFERING: [&str; 6] = ["<-", "-", "/", "=", "<", "<="];
 
 /// The words in front of a branch or body.
 static BEFORE_BRANCHES: [&str; 3] = ["then", "else", "loop"];
@@ -45,7 +48,9 @@ impl<'a> Candidates<'a> {
             }
             let is_made_up = self.makes_comment(splice)
                 || self.makes_branch(splice)
-                || self.makes_class(splice);
+                || self.makes_class(splice)
+                || self.makes_word(splice)
+                || self.makes_same(splice);
             if !is_exchange && is_made_up {
                 return true;
             }
@@ -74,6 +79,26 @@ impl<'a> Candidates<'a> {
             }
         }
         false
+    }
+
+    /// Whether a splice joins two words to one by taking away what stands between them.
+    fn makes_word(&self, splice: &Splice) -> bool {
+        let before = part(self.bytes, splice.start.saturating_sub(1), splice.start);
+        let behind = part(self.bytes, splice.end, splice.end.saturating_add(1));
+        splice.start < splice.end
+            && splice.text.is_empty()
+            && ends_word(before)
+            && begins_word(behind)
+    }
+
+    /// Whether a splice makes up the second operand of a sign that gives nothing new of two that are the same, as `x <- x` and `x - x`.
+    fn makes_same(&self, splice: &Splice) -> bool {
+        let index = index_at(self.lexemes, splice.start);
+        let word = splice.text.trim_ascii();
+        splice.start == splice.end
+            && kind_of(word) != Kind::Fixed
+            && word == self.word_before(index, 2)
+            && is_one_of(&DIFFERING, self.word_before(index, 1))
     }
 
     /// Whether a splice puts `new` in front of a name that no type has in the text.
@@ -136,7 +161,9 @@ impl<'a> Candidates<'a> {
             if is_whole && self.has_meaning(index) && new != kind_of(old) {
                 return true;
             }
-            if is_whole && text.is_empty() && self.is_lone_constant(index) {
+            let is_lone = self.is_lone_constant(index)
+                || (old == b"<-".as_slice() && !self.is_doubled(index));
+            if is_whole && text.is_empty() && is_lone {
                 return true;
             }
             if is_whole && (is_unlike(old, text) || (is_foreign_word(old) && new != Kind::Type)) {
@@ -182,7 +209,7 @@ impl<'a> Candidates<'a> {
 
     /// The hint on a form at a position that has none in Cool, and no edit at one place.
     pub(crate) fn foreign_hint(&self, index: usize) -> Option<Hint> {
-        if self.is_constructor(index) {
+        if self.is_constructor(index) || self.word(index) == b"__init__".as_slice() {
             return Some(Hint::NoConstructors);
         }
         if self.is_cast(index) {
@@ -232,6 +259,9 @@ impl<'a> Candidates<'a> {
         if self.word(index) == b"`".as_slice() && next == b"mod".as_slice() {
             return Some(Hint::NoRemainder);
         }
+        if self.word(index) == b">".as_slice() && self.is_parameter(index) {
+            return Some(Hint::NoTypeParameters);
+        }
         for second in [index, index.saturating_add(1)] {
             if !self.is_other_sign(second) {
                 continue;
@@ -243,10 +273,21 @@ impl<'a> Candidates<'a> {
                 (b"<", b"<") if self.word_before(second, 2) == b"cout".as_slice() => {
                     return Some(Hint::PrintingMethods);
                 }
+                (b">", b">") if self.word_before(second, 2) == b"cin".as_slice() => {
+                    return Some(Hint::ReadingMethods);
+                }
+                (b"<", b"<") | (b">", b">") => return Some(Hint::NoShift),
                 _ => {}
             }
         }
         None
+    }
+
+    /// Whether a type in `<` and `>` stands in front of a position, behind another type, as in `List<Int>`.
+    fn is_parameter(&self, index: usize) -> bool {
+        kind_of(self.word_before(index, 1)) == Kind::Type
+            && self.word_before(index, 2) == b"<".as_slice()
+            && kind_of(self.word_before(index, 3)) == Kind::Type
     }
 
     /// The hint on a `->` whose `>` stands at a position.

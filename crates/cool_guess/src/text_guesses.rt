@@ -44,6 +44,9 @@ static PHRASES: [&str; 10] = [
     "; }",
 ];
 
+/// The signs in front of an argument.
+static BEFORE_ARGUMENTS: [&str; 2] = ["(", ","];
+
 /// Words and signs that end an operand or what a word began.
 static CLOSERS: [&str; 2] = [")", "}"];
 
@@ -175,14 +178,22 @@ impl<'a> Candidates<'a> {
         Ok(())
     }
 
-    /// Whether a hint on a lexeme makes a comparison whose result nothing uses: of `5 <- x`, or of `const x = 5` without its first word.
+    /// Whether a hint on a lexeme makes a comparison whose result nothing uses: of `5 <- x`, or of `const x = 5` without its first word; or an
+    /// assignment as an argument.
     fn is_lost(&self, place: Lexeme, hint: Hint) -> bool {
         let index = index_at(self.lexemes, place.start);
         match hint {
             Hint::EqualsCompares => self.is_value_assigned(index),
             Hint::NoModifiers => self.is_untyped(index),
+            Hint::ArrowOfBranches => self.is_argument(index),
             _ => false,
         }
+    }
+
+    /// Whether a name in front of the sign at a position is the begin of an argument.
+    fn is_argument(&self, index: usize) -> bool {
+        kind_of(self.word_before(index, 1)) == Kind::Object
+            && is_one_of(&BEFORE_ARGUMENTS, self.word_before(index, 2))
     }
 
     /// Comments that are not closed, and comments of other languages over several lines.
