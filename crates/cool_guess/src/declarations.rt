@@ -573,8 +573,14 @@ impl<'a> Candidates<'a> {
             Some(declared) => self.text(declared) == b"String".as_slice(),
             None => kind_of(word) == Kind::String,
         };
-        let method: &'static [u8] = if is_text { b"out_string(" } else { b"out_int(" };
-        self.joined(&[method, self.between(start, end), b")"])
+        let mut text = Vec::from_slice(
+            self.alloc,
+            if is_text { b"out_string" } else { b"out_int" },
+        )?;
+        text.push(b'(')?;
+        text.extend_from_slice(self.between(start, end))?;
+        text.push(b')')?;
+        Ok(text)
     }
 
     /// No `import ..;` at the head of a file.

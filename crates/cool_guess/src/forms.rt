@@ -159,10 +159,10 @@ impl<'a> Candidates<'a> {
         let right = self.between(behind, end);
         let next = end.saturating_add(1);
         let is_compared = self.word(end) == b"=".as_slice() && self.word(next) == self.word(end);
-        let last: &'static [u8] = if is_compared { b" =" } else { b"" };
-        let text = self.joined(&[left, b" - ", left, b" / ", right, b" * ", right, last])?;
+        let mut text = self.joined(&[left, b" - ", left, b" / ", right, b" * ", right])?;
         if is_compared {
             end = end.saturating_add(2);
+            text.extend_from_slice(b" =")?;
         }
         let from = self.lexeme(start).start;
         let to = self.before(end, 1).end;
