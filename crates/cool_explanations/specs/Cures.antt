@@ -67,7 +67,7 @@ cure_words (Class f) = class_cure f.kind
 cure_words (Typing f) = type_cure f.kind
 
 -- it is given only if the explanation of the fault has no further words and no fix
-abbrev pub cure_of : Fault → List (Vec ℕ) → Option Mend → Option (List ℕ)
-cure_of fault said (Some m) = None
-cure_of fault [] None = Some (cure_words fault)
-cure_of fault (words ∷ more) None = None
+abbrev pub cure_of : Fault → List (Vec ℕ) → List Mend → Option (List ℕ)
+cure_of fault said (m ∷ ms) = None
+cure_of fault [] [] = Some (cure_words fault)
+cure_of fault (words ∷ more) [] = None

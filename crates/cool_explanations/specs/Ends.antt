@@ -3,6 +3,7 @@
 use Rattle.std.specs.Prelude.{◌≡◌, ◌≢◌, ℕ, List, [], codes, Bool, true, false}
 use Rattle.cool_mend.specs.declared.explanation.Explained.{Explained}
 use Rattle.cool_mend.specs.declared.explanation.Explanation.{Explanation}
+use Rattle.cool_mend.specs.AfterFixes.{AreAfterFixes, begun}
 use Rattle.cool_mend.specs.Explanations.{AreExplained}
 use Rattle.cool_mend.specs.Noticed.{AreNoticed}
 use Rattle.cool_sources.specs.Tasks.{TaskSpec}
@@ -17,9 +18,10 @@ abbrev pub form_text : Form → List (List ℕ) → List (List ℕ) → Explaine
 form_text Text names contents told = text_of names contents told
 form_text Lines names contents told = lines_of contents told
 
--- The text on files of these bytes: an explanation of each of their faults, or if they have none the first notices that are due.
+-- The text on files of these bytes: an explanation of each of their faults and of those after fixes, or if they have none the first notices that are due.
 pub record IsTold (contents : List (List ℕ)) (told : Explained) : Type 0 where
   pub explained : AreExplained contents told.explanations.items
+  pub after : AreAfterFixes (begun contents told.explanations.items) told.after_fixes.items
   pub noticed : told.explanations.items ≡ [] → AreNoticed contents told.notices.items
   pub quiet : told.notices.items ≢ [] → told.explanations.items ≡ []
 

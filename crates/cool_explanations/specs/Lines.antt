@@ -9,6 +9,8 @@
 --     cure WORDS                               general advice on such a fault, if there are no further words and no mend
 --     mend WORDS                               an edit that was tried follows
 --     edit FILE:START:END TEXT                 TEXT goes in the place of these bytes
+--     apply FILE:START:END TEXT                an edit told above is made: behind these lines stand the faults after it
+--     origin FILE:BYTE                         where one of these faults comes from in the given files, one line for each, in order
 --     notice FILE:LINE:START:END WORDS         legal, but likely a mistake
 --
 -- In WORDS and TEXT \n is a newline, and \\ a backslash.
@@ -19,10 +21,13 @@ use Rattle.cool_faults.specs.Shown.{shown}
 use Rattle.cool_faults.specs.Texts.{fault_words}
 use Rattle.cool_faults.specs.Verdicts.{place_of}
 use Rattle.cool_mend.specs.declared.edit.Edit.{Edit}
+use Rattle.cool_faults.specs.Files.{bytes_of}
+use Rattle.cool_mend.specs.declared.explanation.AfterFixes.{AfterFixes}
 use Rattle.cool_mend.specs.declared.explanation.Explained.{Explained}
 use Rattle.cool_mend.specs.declared.explanation.Explanation.{Explanation}
 use Rattle.cool_mend.specs.declared.explanation.Mend.{Mend}
 use Rattle.cool_mend.specs.declared.explanation.Notice.{Notice}
+use Rattle.cool_mend.specs.declared.explanation.Origin.{Origin}
 use Rattle.cool_explanations.specs.Cures.{cure_of}
 use Rattle.cool_explanations.specs.Facts.{facts}
 use Rattle.cool_explanations.specs.Rules.{rule_line}
@@ -61,16 +66,12 @@ abbrev pub cure_line : Option (List ℕ) → List ℕ
 cure_line None = []
 cure_line (Some cure) = word_line (codes "cure ") cure
 
-abbrev pub edit_line : Edit → List ℕ
-edit_line e =
-    codes "edit " ++ (decimal e.file ++ (codes ":" ++ (decimal e.start ++ (codes ":" ++ (decimal e.end ++ (codes " " ++ (escaped e.text.items ++ codes "\n")))))))
+abbrev pub range_line : List ℕ → Edit → List ℕ
+range_line what e =
+    what ++ (decimal e.file ++ (codes ":" ++ (decimal e.start ++ (codes ":" ++ (decimal e.end ++ (codes " " ++ (escaped e.text.items ++ codes "\n")))))))
 
 abbrev pub mend_lines : Mend → List ℕ
-mend_lines m = word_line (codes "mend ") m.words.items ++ edit_line m.edit
-
-abbrev pub end_lines : Option Mend → List ℕ
-end_lines None = []
-end_lines (Some m) = mend_lines m
+mend_lines m = word_line (codes "mend ") m.words.items ++ range_line (codes "edit ") m.edit
 
 -- the line of a fault
 abbrev pub first_line : Explanation → List ℕ
@@ -84,15 +85,29 @@ explanation_lines files x =
     ++ (flat_map fact_line (facts (file_of files (place_of x.fault).file) x)
     ++ (flat_map value_line x.values.items
     ++ (other_line x.other
-    ++ (cure_line (cure_of x.fault x.said.items x.mend)
-    ++ end_lines x.mend)))))
+    ++ (cure_line (cure_of x.fault x.said.items x.mends.items)
+    ++ flat_map mend_lines x.mends.items)))))
 
 abbrev pub notice_line : Notice → List ℕ
 notice_line n = codes "notice " ++ (range_text n.at n.end ++ word_line (codes " ") n.words.items)
 
+-- the edits that are made, and the faults that files have after them
+abbrev pub apply_line : Edit → List ℕ
+apply_line = range_line (codes "apply ")
+
+abbrev pub origin_line : Origin → List ℕ
+origin_line o = codes "origin " ++ (decimal o.file ++ (codes ":" ++ (decimal o.byte ++ codes "\n")))
+
+abbrev pub after_lines : AfterFixes → List ℕ
+after_lines a =
+    flat_map apply_line a.edits.items
+    ++ (flat_map origin_line a.origins.items ++ flat_map (explanation_lines (bytes_of a.files.items)) a.explanations.items)
+
 -- the answer for these files
 abbrev pub lines_of : List (List ℕ) → Explained → List ℕ
-lines_of files told = flat_map (explanation_lines files) told.explanations.items ++ flat_map notice_line told.notices.items
+lines_of files told =
+    flat_map (explanation_lines files) told.explanations.items
+    ++ (flat_map after_lines told.after_fixes.items ++ flat_map notice_line told.notices.items)
 
 -- Worked example: a text of two lines with a backslash.
 one_line : escaped (codes "a\\\nb") ≡ codes "a\\\\\\nb"

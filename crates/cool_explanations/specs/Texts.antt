@@ -6,6 +6,8 @@ use Rattle.cool_syntax.specs.declared.place.Place.{Place}
 use Rattle.cool_faults.specs.Shown.{shown}
 use Rattle.cool_faults.specs.Texts.{fault_line}
 use Rattle.cool_faults.specs.Verdicts.{place_of}
+use Rattle.cool_faults.specs.Files.{bytes_of}
+use Rattle.cool_mend.specs.declared.explanation.AfterFixes.{AfterFixes}
 use Rattle.cool_mend.specs.declared.explanation.Explained.{Explained}
 use Rattle.cool_mend.specs.declared.explanation.Explanation.{Explanation}
 use Rattle.cool_mend.specs.declared.explanation.Mend.{Mend}
@@ -59,10 +61,6 @@ abbrev pub mend_text : List (List ℕ) → List (List ℕ) → ℕ → Mend → 
 mend_text names files file m =
     mend_line names file m ++ changed_text (file_of files m.edit.file) m.edit
 
-abbrev pub end_text : List (List ℕ) → List (List ℕ) → ℕ → Option Mend → List ℕ
-end_text names files file None = []
-end_text names files file (Some m) = mend_text names files file m
-
 -- the explanation of a fault of files of these names
 abbrev pub explanation_text : List (List ℕ) → List (List ℕ) → Explanation → List ℕ
 explanation_text names files x =
@@ -73,8 +71,8 @@ explanation_text names files x =
     ++ (flat_map note_line (facts file x)
     ++ (value_text files x.values.items
     ++ (other_text names at.file x.other
-    ++ (cure_text (cure_of x.fault x.said.items x.mend)
-    ++ end_text names files at.file x.mend)))))
+    ++ (cure_text (cure_of x.fault x.said.items x.mends.items)
+    ++ flat_map (mend_text names files at.file) x.mends.items)))))
 
 -- the line of a warning: its file and line, and its words
 abbrev pub warning_line : List (List ℕ) → Notice → List ℕ
@@ -85,6 +83,13 @@ warning_line names n =
 abbrev pub warning_text : List (List ℕ) → List (List ℕ) → Notice → List ℕ
 warning_text names files n = warning_line names n ++ source_line (file_of files n.at.file) n.at.line n.at.byte n.end
 
--- the explanations of faults, one after the other, and then the warnings
+-- the explanations of faults that files of these names have after further fixes
+abbrev pub after_text : List (List ℕ) → AfterFixes → List ℕ
+after_text names a =
+    codes "after the fixes above, these errors come next:\n" ++ flat_map (explanation_text names (bytes_of a.files.items)) a.explanations.items
+
+-- the explanations of faults, those of the faults after fixes, and the warnings
 abbrev pub text_of : List (List ℕ) → List (List ℕ) → Explained → List ℕ
-text_of names files told = flat_map (explanation_text names files) told.explanations.items ++ flat_map (warning_text names files) told.notices.items
+text_of names files told =
+    flat_map (explanation_text names files) told.explanations.items
+    ++ (flat_map (after_text names) told.after_fixes.items ++ flat_map (warning_text names files) told.notices.items)

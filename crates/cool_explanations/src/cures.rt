@@ -11,11 +11,11 @@ use cool_syntax::LexKind;
 
 /// The general advice on a fault, if its explanation has no further words and no fix.
 pub(crate) fn cure_of(told: &Explanation) -> Option<&'static str>
-    ensures { option_map (λ words. words.now) result ≡ cure_of told.now.fault told.now.said.items told.now.mend }
+    ensures { option_map (λ words. words.now) result ≡ cure_of told.now.fault told.now.said.items told.now.mends.items }
 {
-    match &told.mend {
-        Some(_) => None,
-        None => match told.said.as_slice() {
+    match told.mends.as_slice() {
+        [_, ..] => None,
+        [] => match told.said.as_slice() {
             [] => Some(cure_words(&told.fault)),
             [_, ..] => None,
         },

@@ -6,6 +6,7 @@ ghost use Rattle.cool_syntax.specs.declared.TheConstants.{MOST_FILES, MOST_SOURC
 ghost use Rattle.cool_syntax.specs.TokenFacts.{IsPlaced};
 ghost use Rattle.cool_faults.specs.Files.{bytes_of, total};
 ghost use Rattle.cool_faults.specs.Verdicts.{place_of};
+ghost use Rattle.cool_mend.specs.AfterFixes.{ArePlaced};
 ghost use Rattle.cool_explanations.specs.Ends.{HasFaults, IsAnswerOf, form_text, spec_of};
 
 use crate::form::Form;
@@ -82,7 +83,8 @@ fn form_text(
     contents: &[Vec<u8>],
     told: &Explained,
 ) -> Result<Vec<u8>, AllocError>
-    requires { AllByRecursion (λ x. IsPlaced (length names.now) (place_of x.fault)) told.now.explanations.items }
+    requires placed { AllByRecursion (λ x. IsPlaced (length names.now) (place_of x.fault)) told.now.explanations.items }
+    requires after { AllByRecursion (ArePlaced (length names.now)) told.now.after_fixes.items }
     ensures { IfOk result (λ text. text.items ≡ form_text form (map string_bytes names.now) (bytes_of contents.now) told.now) }
 {
     match form {

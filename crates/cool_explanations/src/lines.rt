@@ -3,14 +3,14 @@
 ghost use Rattle.std.specs.Prelude.{◌≡◌, ◌++◌, IfOk, ℕ, List, map, option_map};
 ghost use Rattle.std.specs.List.{flat_map};
 ghost use Rattle.cool_faults.specs.Files.{bytes_of};
-ghost use Rattle.cool_explanations.specs.Lines.{cure_line, edit_line, end_lines, escaped, escaped_byte, explanation_lines, fact_line, first_line, lines_of, mend_lines, notice_line, other_line, place_line, range_text, value_line, word_line};
+ghost use Rattle.cool_explanations.specs.Lines.{after_lines, apply_line, cure_line, escaped, escaped_byte, explanation_lines, fact_line, first_line, lines_of, mend_lines, notice_line, origin_line, other_line, place_line, range_line, range_text, value_line, word_line};
 
 use crate::cures::cure_of;
 use crate::facts::facts;
 use crate::rules::rule_line;
 use crate::text::file_of;
 use cool_faults::{fault_words, shown};
-use cool_mend::{Edit, Explained, Explanation, Mend, Notice};
+use cool_mend::{AfterFixes, Edit, Explained, Explanation, Mend, Notice, Origin};
 use cool_syntax::Place;
 use std::alloc::{AllocError, Global};
 
@@ -23,8 +23,60 @@ pub(crate) fn lines_of(
     ensures { IfOk result (λ text. text.items ≡ lines_of (bytes_of files.now) told.now) }
 {
     let mut text = explanations_lines(alloc, files, &told.explanations)?;
+    text.extend_from_slice(&all_after_lines(alloc, &told.after_fixes)?)?;
     text.extend_from_slice(&notices_lines(alloc, &told.notices)?)?;
     Ok(text)
+}
+
+/// The lines of the faults that files have after fixes, step by step. Returns `Err` only if memory runs out.
+fn all_after_lines(alloc: Global, all: &[AfterFixes]) -> Result<Vec<u8>, AllocError>
+    ensures { IfOk result (λ text. text.items ≡ flat_map after_lines all.now) }
+{
+    let mut text = Vec::new(alloc);
+    for step in all {
+        text.extend_from_slice(&after_lines(alloc, step)?)?;
+    }
+    Ok(text)
+}
+
+/// The lines of one step. Returns `Err` only if memory runs out.
+fn after_lines(alloc: Global, step: &AfterFixes) -> Result<Vec<u8>, AllocError>
+    ensures { IfOk result (λ text. text.items ≡ after_lines step.now) }
+{
+    let mut text = apply_lines(alloc, &step.edits)?;
+    text.extend_from_slice(&origin_lines(alloc, &step.origins)?)?;
+    text.extend_from_slice(&explanations_lines(alloc, &step.files, &step.explanations)?)?;
+    Ok(text)
+}
+
+/// A line for each edit that is made. Returns `Err` only if memory runs out.
+fn apply_lines(alloc: Global, edits: &[Edit]) -> Result<Vec<u8>, AllocError>
+    ensures { IfOk result (λ text. text.items ≡ flat_map apply_line edits.now) }
+{
+    let mut text = Vec::new(alloc);
+    for edit in edits {
+        text.extend_from_slice(&range_line(alloc, b"apply ", edit)?)?;
+    }
+    Ok(text)
+}
+
+/// A line for each place from which a fault comes. Returns `Err` only if memory runs out.
+fn origin_lines(alloc: Global, origins: &[Origin]) -> Result<Vec<u8>, AllocError>
+    ensures { IfOk result (λ text. text.items ≡ flat_map origin_line origins.now) }
+{
+    let mut text = Vec::new(alloc);
+    for origin in origins {
+        text.extend_from_slice(&origin_line(alloc, *origin)?)?;
+    }
+    Ok(text)
+}
+
+/// The line of such a place. Returns `Err` only if memory runs out.
+fn origin_line(alloc: Global, origin: Origin) -> Result<Vec<u8>, AllocError>
+    ensures { IfOk result (λ text. text.items ≡ origin_line origin) }
+{
+    let Origin { file, byte } = origin;
+    Ok(format!(in alloc; "origin {file}:{byte}\n")?.into_bytes())
 }
 
 /// The lines of explanations. Returns `Err` only if memory runs out.
@@ -68,7 +120,7 @@ fn explanation_lines(
     text.extend_from_slice(&value_lines(alloc, &told.values)?)?;
     text.extend_from_slice(&other_line(alloc, told.other)?)?;
     text.extend_from_slice(&cure_line(alloc, cure_of(told))?)?;
-    text.extend_from_slice(&end_lines(alloc, &told.mend)?)?;
+    text.extend_from_slice(&all_mend_lines(alloc, &told.mends)?)?;
     Ok(text)
 }
 
@@ -82,14 +134,15 @@ fn first_line(alloc: Global, told: &Explanation) -> Result<Vec<u8>, AllocError>
     Ok(line)
 }
 
-/// The lines of a mend, where one is told. Returns `Err` only if memory runs out.
-fn end_lines(alloc: Global, mend: &Option<Mend>) -> Result<Vec<u8>, AllocError>
-    ensures { IfOk result (λ text. text.items ≡ end_lines mend.now) }
+/// The lines of mends. Returns `Err` only if memory runs out.
+fn all_mend_lines(alloc: Global, mends: &[Mend]) -> Result<Vec<u8>, AllocError>
+    ensures { IfOk result (λ text. text.items ≡ flat_map mend_lines mends.now) }
 {
-    match mend {
-        Some(mend) => mend_lines(alloc, mend),
-        None => Ok(Vec::new(alloc)),
+    let mut text = Vec::new(alloc);
+    for mend in mends {
+        text.extend_from_slice(&mend_lines(alloc, mend)?)?;
     }
+    Ok(text)
 }
 
 /// A place, and where the range ends that begins there: `FILE:LINE:START:END`. Returns `Err` only if memory runs out.
@@ -168,16 +221,17 @@ fn mend_lines(alloc: Global, mend: &Mend) -> Result<Vec<u8>, AllocError>
     ensures { IfOk result (λ text. text.items ≡ mend_lines mend.now) }
 {
     let mut text = word_line(alloc, b"mend ", &mend.words)?;
-    text.extend_from_slice(&edit_line(alloc, &mend.edit)?)?;
+    text.extend_from_slice(&range_line(alloc, b"edit ", &mend.edit)?)?;
     Ok(text)
 }
 
-/// The line of an edit. Returns `Err` only if memory runs out.
-fn edit_line(alloc: Global, edit: &Edit) -> Result<Vec<u8>, AllocError>
-    ensures { IfOk result (λ line. line.items ≡ edit_line edit.now) }
+/// The line of an edit behind what is done with it. Returns `Err` only if memory runs out.
+fn range_line(alloc: Global, what: &[u8], edit: &Edit) -> Result<Vec<u8>, AllocError>
+    ensures { IfOk result (λ line. line.items ≡ range_line what.now edit.now) }
 {
     let (file, start, end) = (edit.file, edit.start, edit.end);
-    let mut line = format!(in alloc; "edit {file}:{start}:{end} ")?.into_bytes();
+    let mut line = Vec::from_slice(alloc, what)?;
+    line.extend_from_slice(format!(in alloc; "{file}:{start}:{end} ")?.as_bytes())?;
     line.extend_from_slice(&escaped(alloc, &edit.text)?)?;
     line.extend_from_slice(b"\n")?;
     Ok(line)

@@ -5,7 +5,8 @@ ghost use Rattle.std.specs.List.{AllByRecursion, flat_map};
 ghost use Rattle.cool_syntax.specs.TokenFacts.{IsPlaced};
 ghost use Rattle.cool_faults.specs.Files.{bytes_of};
 ghost use Rattle.cool_faults.specs.Verdicts.{place_of};
-ghost use Rattle.cool_explanations.specs.Texts.{cure_text, explanation_text, file_of, end_text, mend_line, mend_text, note_line, of_file, other_text, other_words, text_of};
+ghost use Rattle.cool_mend.specs.AfterFixes.{ArePlaced};
+ghost use Rattle.cool_explanations.specs.Texts.{after_text, cure_text, explanation_text, file_of, mend_line, mend_text, note_line, of_file, other_text, other_words, text_of};
 
 use crate::changes::changed_text;
 use crate::cures::cure_of;
@@ -14,7 +15,7 @@ use crate::source_line::source_line;
 use crate::values::value_text;
 use crate::warnings::warnings_text;
 use cool_faults::{fault_text, shown};
-use cool_mend::{Explained, Explanation, Mend};
+use cool_mend::{AfterFixes, Explained, Explanation, Mend};
 use cool_syntax::Place;
 use std::alloc::{AllocError, Global};
 
@@ -25,11 +26,39 @@ pub(crate) fn text_of(
     files: &[Vec<u8>],
     told: &Explained,
 ) -> Result<Vec<u8>, AllocError>
-    requires { AllByRecursion (λ x. IsPlaced (length names.now) (place_of x.fault)) told.now.explanations.items }
+    requires placed { AllByRecursion (λ x. IsPlaced (length names.now) (place_of x.fault)) told.now.explanations.items }
+    requires after { AllByRecursion (ArePlaced (length names.now)) told.now.after_fixes.items }
     ensures { IfOk result (λ text. text.items ≡ text_of (map string_bytes names.now) (bytes_of files.now) told.now) }
 {
     let mut text = explanations_text(alloc, names, files, &told.explanations)?;
+    text.extend_from_slice(&all_after_text(alloc, names, &told.after_fixes)?)?;
     text.extend_from_slice(&warnings_text(alloc, names, files, &told.notices)?)?;
+    Ok(text)
+}
+
+/// The explanations of faults that files of these names have after fixes, step by step. Returns `Err` only if memory runs out.
+fn all_after_text(
+    alloc: Global,
+    names: &[String],
+    all: &[AfterFixes],
+) -> Result<Vec<u8>, AllocError>
+    requires { AllByRecursion (ArePlaced (length names.now)) all.now }
+    ensures { IfOk result (λ text. text.items ≡ flat_map (after_text (map string_bytes names.now)) all.now) }
+{
+    let mut text = Vec::new(alloc);
+    for step in all {
+        text.extend_from_slice(&after_text(alloc, names, step)?)?;
+    }
+    Ok(text)
+}
+
+/// The same of one step. Returns `Err` only if memory runs out.
+fn after_text(alloc: Global, names: &[String], step: &AfterFixes) -> Result<Vec<u8>, AllocError>
+    requires { ArePlaced (length names.now) step.now }
+    ensures { IfOk result (λ text. text.items ≡ after_text (map string_bytes names.now) step.now) }
+{
+    let mut text = Vec::from_slice(alloc, b"after the fixes above, these errors come next:\n")?;
+    text.extend_from_slice(&explanations_text(alloc, names, &step.files, &step.explanations)?)?;
     Ok(text)
 }
 
@@ -68,24 +97,25 @@ fn explanation_text(
     text.extend_from_slice(&value_text(alloc, files, &told.values)?)?;
     text.extend_from_slice(&other_text(alloc, names, at.file, told.other)?)?;
     text.extend_from_slice(&cure_text(alloc, cure_of(told))?)?;
-    text.extend_from_slice(&end_text(alloc, names, files, at.file, &told.mend)?)?;
+    text.extend_from_slice(&mends_text(alloc, names, files, at.file, &told.mends)?)?;
     Ok(text)
 }
 
-/// The text on the edit that was tried, if there is one, for a fault of this file. Returns `Err` only if memory runs out.
-fn end_text(
+/// The text on the edits that were tried, for a fault of this file. Returns `Err` only if memory runs out.
+fn mends_text(
     alloc: Global,
     names: &[String],
     files: &[Vec<u8>],
     file: u32,
-    mend: &Option<Mend>,
+    mends: &[Mend],
 ) -> Result<Vec<u8>, AllocError>
-    ensures { IfOk result (λ text. text.items ≡ end_text (map string_bytes names.now) (bytes_of files.now) file mend.now) }
+    ensures { IfOk result (λ text. text.items ≡ flat_map (mend_text (map string_bytes names.now) (bytes_of files.now) file) mends.now) }
 {
-    match mend {
-        Some(mend) => mend_text(alloc, names, files, file, mend),
-        None => Ok(Vec::new(alloc)),
+    let mut text = Vec::new(alloc);
+    for mend in mends {
+        text.extend_from_slice(&mend_text(alloc, names, files, file, mend)?)?;
     }
+    Ok(text)
 }
 
 /// The file of this number, or none of its bytes.

@@ -4,3 +4,5 @@ pub mod MendsTold
 pub mod FaultsPassed
 pub mod NoticesTold
 pub mod MethodsTold
+pub mod EditsMade
+pub mod NewFaults

@@ -1,5 +1,5 @@
 -- If the edits of the explanations so far fix their compile-time errors, and the edit of the next explanation fixes the next error, then all of them do.
-use Rattle.std.proofs.Common.{◌≡◌, ℕ, ◌+◌, ◌<◌, suc, List, [], ◌∷◌, ◌++◌, length, get_or, map, take, IfSome, arith, subst, sym, ap, ◌∙◌}
+use Rattle.std.proofs.Common.{◌≡◌, ℕ, ◌+◌, ◌<◌, suc, List, [], ◌∷◌, ◌++◌, length, get_or, map, take, arith, subst, sym, ap, ◌∙◌}
 use Rattle.std.proofs.lemmas.List.{length-map, length-take, map_push, take_more}
 use Rattle.std.specs.List.{AllByRecursion}
 use Rattle.cool_faults.specs.declared.fault.Fault.{Fault}
@@ -8,14 +8,14 @@ use Rattle.cool_mend.specs.Explanations.{AreMends, IsMend}
 
 -- the next one's mend is of the fault of the next number
 pub mends_pushed : (files : List (List ℕ)) (faults : List Fault) (from next : ℕ) (xs : List Explanation) (x : Explanation) → from + length xs ≡ next
-    → AreMends files faults from xs → IfSome x.mend (IsMend files faults next) → AreMends files faults from (xs ++ x ∷ [])
-mends_pushed files faults from next [] x e are is = (subst (λ (n : ℕ). IfSome x.mend (IsMend files faults n)) (sym (omega (arith, e))) is, tt)
+    → AreMends files faults from xs → AllByRecursion (IsMend files faults next) x.mends.items → AreMends files faults from (xs ++ x ∷ [])
+mends_pushed files faults from next [] x e are is = (subst (λ (n : ℕ). AllByRecursion (IsMend files faults n) x.mends.items) (sym (omega (arith, e))) is, tt)
 mends_pushed files faults from next (y ∷ xs) x e are is =
     (are.0, mends_pushed files faults (suc from) next xs x (omega (arith, e)) are.1 is)
 
 -- the next one is that of the next fault, where those so far are of those in front of it
 pub mends_next : (files : List (List ℕ)) (faults : List Fault) (next : ℕ) (xs : List Explanation) (x : Explanation) → next < length faults → map (λ (x : Explanation). x.fault) xs ≡ take next faults
-    → AreMends files faults 0 xs → IfSome x.mend (IsMend files faults next) → AreMends files faults 0 (xs ++ x ∷ [])
+    → AreMends files faults 0 xs → AllByRecursion (IsMend files faults next) x.mends.items → AreMends files faults 0 (xs ++ x ∷ [])
 mends_next files faults next xs x within each are is =
     mends_pushed files faults 0 next xs x (omega (arith, length-map xs (λ (x : Explanation). x.fault), ap length each, length-take next faults)) are is
 

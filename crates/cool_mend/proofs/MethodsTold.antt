@@ -1,6 +1,6 @@
 -- The methods that an explanation lists for a class are collected from the class and its ancestors, one class after another, and in a class one name after
 -- another.
-use Rattle.std.proofs.Common.{◌≡◌, ℕ, suc, zero, ◌+◌, ◌-◌, ◌<◌, ◌≤◌, List, [], ◌∷◌, ◌++◌, length, get_or, take, drop, map, Bool, true, false, Option, Some, None, refl, ap, sym, ◌∙◌, append-nil, append_assoc, arith}
+use Rattle.std.proofs.Common.{◌≡◌, ℕ, suc, zero, ◌<◌, ◌≤◌, List, [], ◌∷◌, ◌++◌, length, get_or, Bool, true, false, Option, Some, None, refl, ap, sym, ◌∙◌, append_assoc, arith}
 use Rattle.std.specs.Prelude.{bytes_eq, nat_lt, not, ◌&&◌, ◌||◌, option_map, if◌then◌else◌}
 use Rattle.std.specs.List.{flat_map, list_any}
 use Rattle.std.specs.Global.{Vec}
@@ -11,7 +11,7 @@ use Rattle.cool_syntax.specs.declared.file_tree.Feature.TheVariants.{Method, Att
 use Rattle.cool_classes.specs.declared.class_id.ClassId.{ClassId}
 use Rattle.cool_classes.specs.declared.method.MethodRef.{MethodRef}
 use Rattle.cool_classes.specs.declared.method.MethodRef.TheVariants.{Basic}
-use Rattle.cool_classes.specs.Chains.{Class, class_number, features_of, nothing, parent_of}
+use Rattle.cool_classes.specs.Chains.{Class, features_of, nothing, parent_of}
 use Rattle.cool_classes.specs.ClimbedChains.{above, chain, climbed}
 use Rattle.cool_classes.specs.Features.{basic_methods, first_method, first_of, implementation, method_among, own_method, user_method}
 use Rattle.cool_classes.specs.LawfulTables.{method_names}

@@ -1,6 +1,6 @@
 -- `AreExplained` says that explanations of compile-time errors are correct: there is one for each fault of the files, in order. It tells exactly the types
 -- and methods that `Told.antt` defines, and the suggested edit mends the fault.
-use Rattle.std.specs.Prelude.{◌≡◌, ℕ, suc, List, [], ◌∷◌, map, Option, Some, None, IfSome, option_map}
+use Rattle.std.specs.Prelude.{◌≡◌, ℕ, suc, List, [], ◌∷◌, map, Option, Some, None, option_map}
 use Rattle.std.specs.List.{AllByRecursion}
 use Rattle.cool_classes.specs.Chains.{Class}
 use Rattle.cool_faults.specs.declared.fault.Fault.{Fault}
@@ -44,7 +44,7 @@ pub record IsMend (files : List (List ℕ)) (faults : List Fault) (number : ℕ)
 -- each suggested mend in these explanations is correct; the first explanation is that of the fault of this number
 abbrev pub AreMends : List (List ℕ) → List Fault → ℕ → List Explanation → Type 0
 AreMends files faults number [] = Unit {0}
-AreMends files faults number (x ∷ xs) = IfSome x.mend (IsMend files faults number) × AreMends files faults (suc number) xs
+AreMends files faults number (x ∷ xs) = AllByRecursion (IsMend files faults number) x.mends.items × AreMends files faults (suc number) xs
 
 -- There is an explanation for each fault of the fault list of the files, in order. Each tells its types and methods, and each suggested mend mends its
 -- fault.

@@ -6,3 +6,4 @@ pub mod Words
 pub mod Noticed
 pub mod Told
 pub mod Values
+pub mod AfterFixes

@@ -1,6 +1,7 @@
 -- `Mends` says when an edit mends (fixes) a fault of files: the fault is gone and no other has come, or the files pass the phase of the compiler that found
 -- it.
-use Rattle.std.specs.Prelude.{◌⊎◌, ℕ, ◌+◌, ◌-◌, ◌<◌, List, [], ◌∷◌, ◌++◌, map, length, get_or, take, drop, ◌&&◌, nat_eq, nat_le, if◌then◌else◌}
+use Rattle.std.specs.Prelude.{◌≡◌, ◌⊎◌, ℕ, ◌+◌, ◌-◌, ◌<◌, ◌≤◌, List, [], ◌∷◌, ◌++◌, map, length, get_or, take, drop, ◌&&◌, nat_eq, nat_le, if◌then◌else◌, Some}
+use Rattle.std.specs.List.{slice_get}
 use Rattle.cool_syntax.specs.declared.place.Place.{Place}
 use Rattle.cool_syntax.specs.FaultOrder.{Standing}
 use Rattle.cool_classes.specs.declared.fault.ClassKind.{ClassKind}
@@ -71,10 +72,34 @@ pub data IsPart {X : Type 0} : List X → List X → Type 0 where
 abbrev pub others : List (List ℕ) → Edit → ℕ → List Fault → List Standing
 others files e number faults = map (moved_standing e (line_ends e.text.items) (line_ends (taken e files))) (take number faults ++ drop (number + 1) faults)
 
--- The second fault list, which files have after an edit, mends the fault of this number of the first: it is that of a later phase, or empty, or
--- has no fault but the other ones, by their kinds and where they stand then.
+-- how many bytes of its file stand behind the place of a fault
+abbrev pub bytes_behind : List (List ℕ) → Fault → ℕ
+bytes_behind files f = length (get_or files (place_of f).file []) - (place_of f).byte
+
+-- A fault after an edit is the next one behind a fault before it: the same phase finds it in the same file, not in the bytes that the edit adds or in front of
+-- them, and fewer bytes stand behind it.
+pub record IsNext (files : List (List ℕ)) (e : Edit) (old new : Fault) : Type 0 where
+  pub phase : phase_of new ≡ phase_of old
+  pub file : (place_of new).file ≡ (place_of old).file
+  pub behind : (place_of new).file ≡ e.file → e.start + length e.text.items ≤ (place_of new).byte
+  pub fewer : bytes_behind (edited e files) new < bytes_behind files old
+
+-- The faults after an edit are the next one behind the fault of this number, and no fault but the other ones before the edit.
+pub record Advances (files : List (List ℕ)) (e : Edit) (before : List Fault) (number : ℕ) (after : List Fault) : Type 0 where
+  pub old : Fault
+  pub stands : slice_get before number ≡ Some old
+  pub front : List Fault
+  pub new : Fault
+  pub back : List Fault
+  pub list : after ≡ front ++ new ∷ back
+  pub next : IsNext files e old new
+  pub rest : IsPart (map standing_of (front ++ back)) (others files e number before)
+
+-- The second fault list, which files have after an edit, mends the fault of this number of the first: it is that of a later phase, or empty, or has no fault
+-- but the other ones, by their kinds and where they stand then, or but those and the next one behind the fault.
 abbrev pub IsMended : List (List ℕ) → Edit → List Fault → ℕ → List Fault → Type 0
-IsMended files e before number after = (reached before < reached after) ⊎ IsPart (map standing_of after) (others files e number before)
+IsMended files e before number after =
+    (reached before < reached after) ⊎ (IsPart (map standing_of after) (others files e number before) ⊎ Advances files e before number after)
 
 -- An edit mends the fault of this number of files that have this fault list: the edited files have one that mends it.
 pub record Mends (files : List (List ℕ)) (before : List Fault) (number : ℕ) (e : Edit) : Type 0 where

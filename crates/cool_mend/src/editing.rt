@@ -40,7 +40,11 @@ pub(crate) fn edited(
 }
 
 /// Adds copies of files. Returns `Err` only if memory runs out.
-fn append_copies(alloc: Global, all: &mut Vec<Vec<u8>>, files: &[Vec<u8>]) -> Result<(), AllocError>
+pub(crate) fn append_copies(
+    alloc: Global,
+    all: &mut Vec<Vec<u8>>,
+    files: &[Vec<u8>],
+) -> Result<(), AllocError>
     ensures { IfOk result (λ _. bytes_of all.new.items ≡ bytes_of all.old.items ++ bytes_of files.now) }
 {
     for index in 0..files.len() {

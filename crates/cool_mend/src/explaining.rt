@@ -1,25 +1,24 @@
 //! `explain` explains each compile-time error of source files, with an edit that was tried and fixes the error, if one was found.
 
-ghost use Rattle.std.specs.Prelude.{◌≡◌, ◌≢◌, ◌<◌, ◌≤◌, [], IfOk, IfSome, length, map};
+ghost use Rattle.std.specs.Prelude.{◌≡◌, ◌≢◌, ◌<◌, ◌≤◌, [], IfOk, length, map};
 ghost use Rattle.std.specs.List.{AllByRecursion};
 ghost use Rattle.cool_syntax.specs.declared.TheConstants.{MOST_FILES, MOST_SOURCE_BYTES};
 ghost use Rattle.cool_syntax.specs.TokenFacts.{IsPlaced};
 ghost use Rattle.cool_faults.specs.Files.{bytes_of, total};
 ghost use Rattle.cool_faults.specs.Verdicts.{IsAccepted, place_of};
 ghost use Rattle.cool_mend.specs.Noticed.{AreNoticed};
-ghost use Rattle.cool_mend.specs.Explanations.{AreExplained, AreMends, HaveTable, IsMend, IsTold};
+ghost use Rattle.cool_mend.specs.AfterFixes.{AreAfterFixes, ArePlaced, begun};
+ghost use Rattle.cool_mend.specs.Explanations.{AreExplained, AreMends, HaveTable, IsTold};
 
-use crate::explanation::{Explained, Explanation, Mend};
+use crate::after_fixes::after_fixes;
+use crate::explained::{explanation, sources};
+use crate::explanation::{Explained, Explanation};
+use crate::fixes::{MOST_TRIED_BYTES, fixes};
 use crate::noticing::notices;
-use crate::range::range_at;
-use crate::search::{Found, Search};
-use crate::trial::mending;
-use crate::types::{class_table, fault_methods, fault_types, word_at};
-use crate::values::fault_values;
-use crate::words::mend_of;
+use crate::search::Search;
+use crate::types::class_table;
 use cool_classes::ClassTable;
 use cool_faults::{Fault, Verdict, accept};
-use cool_guess::{Lexeme, Source, advice, index_at, other_definition, type_advice};
 use std::alloc::{AllocError, Global};
 
 /// An explanation of each fault of the files, in the order of the fault list, with an edit that was tried and mends it, if one was found. There are at
@@ -34,6 +33,10 @@ pub fn explain(alloc: Global, files: &[Vec<u8>]) -> Result<Explained, AllocError
     // The first notices that are due are told of a program, and none of other files.
     ensures noticed { IfOk result (λ told. told.explanations.items ≡ [] → AreNoticed (bytes_of files.now) told.notices.items) }
     ensures quiet { IfOk result (λ told. told.notices.items ≢ [] → told.explanations.items ≡ []) }
+    // The faults that files have after fixes are explained, too, step by step.
+    ensures after { IfOk result (λ told. AreAfterFixes (begun (bytes_of files.now) told.explanations.items) told.after_fixes.items) }
+    ensures after_placed { 0 < length (bytes_of files.now)
+        → IfOk result (λ told. AllByRecursion (ArePlaced (length (bytes_of files.now))) told.after_fixes.items) }
 {
     match accept(alloc, files)? {
         Verdict::Accepted(program) => of_program(alloc, files, program.table()),
@@ -47,10 +50,12 @@ fn of_program(alloc: Global, files: &[Vec<u8>], table: &ClassTable) -> Result<Ex
     ensures none { IfOk result (λ told. told.explanations.items ≡ []) }
     ensures explained { IfOk result (λ told. AreExplained (bytes_of files.now) told.explanations.items) }
     ensures noticed { IfOk result (λ told. AreNoticed (bytes_of files.now) told.notices.items) }
+    ensures after { IfOk result (λ told. told.after_fixes.items ≡ []) }
 {
     let notices = notices(alloc, files, table)?;
     Ok(Explained {
         explanations: Vec::new(alloc),
+        after_fixes: Vec::new(alloc),
         notices,
     })
 }
@@ -66,11 +71,17 @@ fn of_faults(alloc: Global, files: &[Vec<u8>], faults: &[Fault]) -> Result<Expla
     ensures told { IfOk result (λ all. AllByRecursion (IsTold (bytes_of files.now)) all.explanations.items) }
     ensures mends { IfOk result (λ all. AreMends (bytes_of files.now) faults.now 0 all.explanations.items) }
     ensures none { IfOk result (λ all. all.notices.items ≡ []) }
+    ensures after { IfOk result (λ all. AreAfterFixes (begun (bytes_of files.now) all.explanations.items) all.after_fixes.items) }
+    ensures after_placed { 0 < length (bytes_of files.now)
+        → IfOk result (λ all. AllByRecursion (ArePlaced (length (bytes_of files.now))) all.after_fixes.items) }
 {
     let classes = class_table(alloc, files)?;
-    let explanations = explanations(alloc, files, &classes, faults)?;
+    let mut left = MOST_TRIED_BYTES;
+    let explanations = explanations(alloc, files, &classes, faults, &mut left)?;
+    let after_fixes = after_fixes(alloc, files, &explanations, left)?;
     Ok(Explained {
         explanations,
+        after_fixes,
         notices: Vec::new(alloc),
     })
 }
@@ -81,6 +92,7 @@ fn explanations(
     files: &[Vec<u8>],
     classes: &Option<ClassTable>,
     faults: &[Fault],
+    left: &mut usize,
 ) -> Result<Vec<Explanation>, AllocError>
     requires few { length files.now ≤ MOST_FILES }
     requires small { total (bytes_of files.now) ≤ MOST_SOURCE_BYTES }
@@ -91,135 +103,10 @@ fn explanations(
 {
     let sources = sources(alloc, files)?;
     let mut search = Search::new(alloc, &sources, faults);
-    let mut left = MOST_TRIED_BYTES;
     let mut all = Vec::new(alloc);
     for number in 0..faults.len() {
-        let found = search.find(number)?;
-        let mend = tried(alloc, files, faults, number, found, &mut left)?;
-        all.push(explanation(alloc, files, &sources, classes, &faults[number], mend)?)?;
+        let mends = fixes(alloc, files, faults, number, &mut search, left)?;
+        all.push(explanation(alloc, files, &sources, classes, &faults[number], mends)?)?;
     }
     Ok(all)
-}
-
-/// The explanation of a fault, with this mend. Returns `Err` only if memory runs out.
-fn explanation(
-    alloc: Global,
-    files: &[Vec<u8>],
-    sources: &[Source<'_>],
-    classes: &Option<ClassTable>,
-    fault: &Fault,
-    mend: Option<Mend>,
-) -> Result<Explanation, AllocError>
-    requires classes { HaveTable (bytes_of files.now) classes.now }
-    ensures fault { IfOk result (λ x. x.fault ≡ fault.now) }
-    ensures told { IfOk result (IsTold (bytes_of files.now)) }
-    ensures mend { IfOk result (λ x. x.mend ≡ mend) }
-{
-    let at = fault.place();
-    let (bytes, all): (&[u8], &[Lexeme]) = match sources.get(at.file as usize) {
-        Some(source) => (source.bytes, source.lexemes.as_slice()),
-        None => (b"", &[]),
-    };
-    let index = index_at(all, at.byte as usize);
-    let here = range_at(alloc, files, at)?;
-    let word = word_at(files, fault, here);
-    let mut said = advice(alloc, bytes, all, index)?;
-    said.append(&mut type_advice(alloc, fault)?)?;
-    Ok(Explanation {
-        fault: *fault,
-        here,
-        before: lexeme_before(all, index, at.byte as usize),
-        types: fault_types(alloc, classes, fault)?,
-        methods: fault_methods(alloc, classes, fault, word)?,
-        other: other_definition(alloc, files, fault)?,
-        values: fault_values(alloc, classes, fault)?,
-        said: besides(alloc, said, &mend)?,
-        mend,
-    })
-}
-
-/// The words that are said, except those of a mend. Returns `Err` only if memory runs out.
-fn besides(
-    alloc: Global,
-    said: Vec<Vec<u8>>,
-    mend: &Option<Mend>,
-) -> Result<Vec<Vec<u8>>, AllocError> {
-    let Some(mend) = mend else {
-        return Ok(said);
-    };
-    let mut others = Vec::new(alloc);
-    for words in said {
-        if words.as_slice() != mend.words.as_slice() {
-            others.push(words)?;
-        }
-    }
-    Ok(others)
-}
-
-/// The lexeme before a byte, where the one of this number is the first that ends behind it; empty at the beginning of the file. If the byte is in the
-/// middle of that lexeme, it is the part in front of the byte.
-fn lexeme_before(lexemes: &[Lexeme], index: usize, at: usize) -> Lexeme {
-    match lexemes.get(index) {
-        Some(lexeme) if lexeme.start < at => Lexeme {
-            start: lexeme.start,
-            end: at,
-        },
-        _ => match lexemes[..index.min(lexemes.len())].last() {
-            Some(lexeme) => *lexeme,
-            None => Lexeme { start: 0, end: 0 },
-        },
-    }
-}
-
-/// The most bytes of files that are tried for all faults.
-const MOST_TRIED_BYTES: usize = 8_388_608;
-
-/// The files as sources. Returns `Err` only if memory runs out.
-fn sources<'a>(alloc: Global, files: &'a [Vec<u8>]) -> Result<Vec<Source<'a>>, AllocError> {
-    let mut all = Vec::new(alloc);
-    for file in files {
-        all.push(Source::new(alloc, file)?)?;
-    }
-    Ok(all)
-}
-
-/// The first of the edits that mends the fault of this number in all of the files. If that is their only fault, an edit that leaves none goes before one
-/// that leaves another. Returns `Err` only if memory runs out.
-fn tried(
-    alloc: Global,
-    files: &[Vec<u8>],
-    faults: &[Fault],
-    number: usize,
-    found: Vec<Found>,
-    left: &mut usize,
-) -> Result<Option<Mend>, AllocError>
-    ensures { IfOk result (λ told. IfSome told (IsMend (bytes_of files.now) faults.now number)) }
-{
-    let size = size_of(files);
-    let mut kept = None;
-    for each in found {
-        if size > *left {
-            return Ok(kept);
-        }
-        *left -= size;
-        if let Some(rest) = mending(alloc, files, faults, number, &each.edit)? {
-            let mend = mend_of(alloc, files, each)?;
-            if rest == 0 || faults.len() > 1 {
-                return Ok(Some(mend));
-            }
-            if kept.is_none() {
-                kept = Some(mend);
-            }
-        }
-    }
-    Ok(kept)
-}
-
-/// The number of bytes of files, or the greatest number if it is smaller.
-fn size_of(files: &[Vec<u8>]) -> usize {
-    let mut size: usize = 0;
-    for file in files {
-        size = size.saturating_add(file.len());
-    }
-    size
 }

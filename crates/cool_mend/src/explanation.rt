@@ -11,6 +11,8 @@ use cool_syntax::Place;
 pub struct Explained {
     /// An explanation of each fault of their fault list, in its order.
     pub explanations: Vec<Explanation>,
+    /// The faults that are found once the fixes told so far are made, step by step.
+    pub after_fixes: Vec<AfterFixes>,
     /// Warnings if the files are a program: likely mistakes, in the order of the text.
     pub notices: Vec<Notice>,
 }
@@ -33,7 +35,28 @@ pub struct Explanation {
     pub values: Vec<Place>,
     /// Further words.
     pub said: Vec<Vec<u8>>,
-    pub mend: Option<Mend>,
+    /// The edits that mend the fault, the likeliest first: none, one, or two that are as likely.
+    pub mends: Vec<Mend>,
+}
+
+/// The faults that files have after further fixes.
+#[derive(Drop)]
+pub struct AfterFixes {
+    /// Fixes that were told of the files before, one after the other.
+    pub edits: Vec<Edit>,
+    /// The files after these edits.
+    pub files: Vec<Vec<u8>>,
+    /// An explanation of each fault of these files that comes from a place where no fault was told before.
+    pub explanations: Vec<Explanation>,
+    /// The places in the given files from which these faults come.
+    pub origins: Vec<Origin>,
+}
+
+/// A byte of a file, by their numbers.
+#[derive(Clone, Copy)]
+pub struct Origin {
+    pub file: u32,
+    pub byte: usize,
 }
 
 /// The names of two types that do not fit.

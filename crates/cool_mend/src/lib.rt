@@ -5,14 +5,19 @@
 //! `specs/Explanations.antt` what an explanation tells.
 #![tactic(auto)]
 
+mod after_fixes;
 mod edit;
 mod editing;
+mod explained;
 mod explaining;
 mod explanation;
+mod fixes;
+mod fixing;
 mod mended;
 mod noticing;
 mod range;
 mod search;
+mod shift;
 mod trial;
 mod types;
 mod values;
@@ -20,5 +25,5 @@ mod words;
 
 pub use edit::Edit;
 pub use explaining::explain;
-pub use explanation::{Explained, Explanation, Mend, Methods, Notice, Types};
+pub use explanation::{AfterFixes, Explained, Explanation, Mend, Methods, Notice, Origin, Types};
 pub use trial::mends;

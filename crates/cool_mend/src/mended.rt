@@ -4,23 +4,26 @@ ghost use Rattle.std.specs.Prelude.{◌≡◌, ◌≤◌, ◌+◌, ◌++◌, ◌
 ghost use Rattle.cool_faults.specs.Files.{bytes_of};
 ghost use Rattle.cool_faults.specs.Verdicts.{rank, standing_of};
 ghost use Rattle.cool_syntax.specs.FaultOrder.{Standing};
-ghost use Rattle.cool_mend.specs.Edits.{IsEdit};
-ghost use Rattle.cool_mend.specs.Mends.{IsMended, IsPart, class_phase, line_ends, moved, moved_standing, phase_of, reached};
+ghost use Rattle.cool_mend.specs.Edits.{IsEdit, edited};
+ghost use Rattle.cool_mend.specs.Mends.{Advances, IsMended, IsNext, IsPart, bytes_behind, class_phase, line_ends, moved, moved_standing, phase_of, reached, taken};
 
 use crate::edit::Edit;
+use crate::range::file_of;
 use cool_classes::ClassKind;
 use cool_faults::Fault;
 use cool_syntax::Place;
 
-/// Whether the second fault list, which the files have after an edit, mends the fault of this number of the first.
+/// Whether the second fault list, which the edited files have, mends the fault of this number of the first.
 pub(crate) fn is_mended(
     files: &[Vec<u8>],
+    new: &[Vec<u8>],
     edit: &Edit,
     before: &[Fault],
     number: usize,
     after: &[Fault],
 ) -> bool
     requires edit { IsEdit (bytes_of files.now) edit.now }
+    requires new { bytes_of new.now ≡ edited edit.now (bytes_of files.now) }
     requires stands { number + 1 ≤ length before.now }
     ensures { result ≡ true → IsMended (bytes_of files.now) edit.now before.now number after.now }
 {
@@ -32,6 +35,7 @@ pub(crate) fn is_mended(
         less: line_ends(&files[edit.file as usize].as_slice()[edit.start..edit.end]),
     };
     are_others(edit, lines, before, number, after)
+        || advances(files, new, edit, lines, before, number, after)
 }
 
 /// Whether the faults after an edit are among the faults but the one of this number.
@@ -42,6 +46,60 @@ fn are_others(edit: &Edit, lines: Lines, before: &[Fault], number: usize, after:
 {
     let front = passed(edit, lines, &before[..number], after, 0);
     passed(edit, lines, &before[number + 1..], after, front) == after.len()
+}
+
+/// Whether the faults after an edit are the next one behind the fault of this number, and no fault but the other ones.
+fn advances(
+    files: &[Vec<u8>],
+    new: &[Vec<u8>],
+    edit: &Edit,
+    lines: Lines,
+    before: &[Fault],
+    number: usize,
+    after: &[Fault],
+) -> bool
+    requires new { bytes_of new.now ≡ edited edit.now (bytes_of files.now) }
+    requires stands { number + 1 ≤ length before.now }
+    requires more { lines.more ≡ line_ends edit.now.text.items }
+    requires less { lines.less ≡ line_ends (taken edit.now (bytes_of files.now)) }
+    ensures { result ≡ true → Advances (bytes_of files.now) edit.now before.now number after.now }
+{
+    let front = passed(edit, lines, &before[..number], after, 0);
+    if front >= after.len() {
+        return false;
+    }
+    let back = &after[front + 1..];
+    is_next(files, new, edit, &before[number], &after[front])
+        && passed(edit, lines, &before[number + 1..], back, 0) == back.len()
+}
+
+/// Whether a fault of the edited files is the next one behind this fault of the files.
+fn is_next(files: &[Vec<u8>], new: &[Vec<u8>], edit: &Edit, before: &Fault, after: &Fault) -> bool
+    requires new { bytes_of new.now ≡ edited edit.now (bytes_of files.now) }
+    ensures { result ≡ true → IsNext (bytes_of files.now) edit.now before.now after.now }
+{
+    let at = after.place();
+    phase_of(after) == phase_of(before)
+        && at.file == before.place().file
+        && (at.file != edit.file || is_behind(edit, at.byte as usize))
+        && bytes_behind(new, after) < bytes_behind(files, before)
+}
+
+/// Whether a byte of the edited file stands behind the bytes that the edit adds.
+fn is_behind(edit: &Edit, byte: usize) -> bool
+    ensures { result ≡ true → edit.now.start + length edit.now.text.items ≤ byte }
+{
+    edit.start <= byte && edit.text.len() <= byte - edit.start
+}
+
+/// The number of bytes of its file that stand behind the place of a fault of files.
+fn bytes_behind(files: &[Vec<u8>], fault: &Fault) -> usize
+    ensures { result ≡ bytes_behind (bytes_of files.now) fault.now }
+{
+    let at = fault.place();
+    file_of(files, at.file)
+        .len()
+        .saturating_sub(at.byte as usize)
 }
 
 /// The phase of the first fault of a fault list; one more than all phases if it is empty.

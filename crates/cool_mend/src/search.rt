@@ -10,7 +10,7 @@ use crate::trial::{one_file_faults, text_fault};
 use cool_check::TypeFault;
 use cool_faults::Fault;
 use cool_guess::{
-    Candidate, Excerpt, Program, Reason, Source, beside_candidates, difference, index_at,
+    Candidate, Excerpt, Lexeme, Program, Reason, Source, beside_candidates, difference, index_at,
     is_advised, meaning_candidates, spliced, text_candidates,
 };
 use cool_lexer::LexKind;
@@ -51,6 +51,8 @@ pub(crate) struct Found {
     pub(crate) reason: Reason,
     /// Whether the edit changes another feature than that of the fault.
     pub(crate) elsewhere: bool,
+    /// Whether the edit is the first of several that were found one after the other.
+    pub(crate) is_step: bool,
 }
 
 /// The files, and the number of trials that are left.
@@ -188,7 +190,7 @@ impl<'a> Search<'a> {
             return Ok(Vec::new(self.alloc));
         };
         let mut bytes = Vec::from_slice(self.alloc, source.bytes)?;
-        let mut first = None;
+        let mut first: Option<Changed> = None;
         for step in 0..MOST_STEPS {
             if self.left < FEWEST_BYTES {
                 break;
@@ -203,10 +205,9 @@ impl<'a> Search<'a> {
             match round {
                 Round::Ready(all) => return self.found(Spot::new(*told, file, source), &all, first),
                 Round::Further(changed, next) => {
-                    first = Some(first.unwrap_or(changed.reason));
                     fault = next;
-                    let Changed { text, .. } = changed;
-                    bytes = text;
+                    bytes = Vec::from_slice(self.alloc, &changed.text)?;
+                    first = Some(first.unwrap_or(changed));
                 }
                 Round::Nothing => break,
             }
@@ -214,30 +215,48 @@ impl<'a> Search<'a> {
         Ok(Vec::new(self.alloc))
     }
 
-    /// The edits that lead to these texts in the place of the file of a fault, with the first reason for them if there is one.
+    /// The edits that lead to these texts in the place of the file of a fault. If the first step to them is another text, the edit that leads to it is the
+    /// first one, and its reason is that of the others.
     fn found(
         &self,
         spot: Spot<'_>,
         all: &[Changed],
-        first: Option<Reason>,
+        first: Option<Changed>,
     ) -> Result<Vec<Found>, AllocError> {
-        let old = spot.here.bytes;
         let mut found = Vec::new(self.alloc);
+        let mut reason = None;
+        if let Some(step) = first {
+            reason = Some(step.reason);
+            found.push(self.found_by(spot, &step, step.reason, true)?)?;
+        }
         for changed in all {
-            let (start, end, text) = difference(self.alloc, old, &changed.text)?;
-            let edit = Edit {
-                file: spot.file,
-                start,
-                end,
-                text,
-            };
-            found.push(Found {
-                edit,
-                reason: first.unwrap_or(changed.reason),
-                elsewhere: spot.is_elsewhere(start) || spot.is_elsewhere(end),
-            })?;
+            let why = reason.unwrap_or(changed.reason);
+            found.push(self.found_by(spot, changed, why, false)?)?;
         }
         Ok(found)
+    }
+
+    /// The edit that leads to a text in the place of the file of a fault, with this reason.
+    fn found_by(
+        &self,
+        spot: Spot<'_>,
+        changed: &Changed,
+        reason: Reason,
+        is_step: bool,
+    ) -> Result<Found, AllocError> {
+        let (start, end, text) = difference(self.alloc, spot.here.bytes, &changed.text)?;
+        let edit = Edit {
+            file: spot.file,
+            start,
+            end,
+            text,
+        };
+        Ok(Found {
+            edit,
+            reason,
+            elsewhere: spot.is_elsewhere(start) || spot.is_elsewhere(end),
+            is_step,
+        })
     }
 
     /// Tries the candidates for a fault.
@@ -282,9 +301,10 @@ impl<'a> Search<'a> {
         let is_closed = spot.is_closed();
         let mut best = Best::new(self.alloc, excerpt, base);
         let mut more = MOST_MORE;
+        let mut place = None;
         for candidate in all {
             if !best.ready.is_empty() {
-                if more == 0 {
+                if more == 0 || is_elsewhere(candidate, place) {
                     return Ok(best);
                 }
                 more = more.saturating_sub(1);
@@ -298,8 +318,14 @@ impl<'a> Search<'a> {
             let faults = one_file_faults(self.alloc, &text)?;
             if faults.is_empty() {
                 best.ready.push(self.changed(spot, candidate)?)?;
-                if best.ready.len() >= MOST_FOUND || is_within(spot.here, candidate) {
+                if best.ready.len() >= MOST_FOUND {
                     return Ok(best);
+                }
+                if is_within(spot.here, candidate) {
+                    place = range_of(candidate);
+                    if place.is_none() {
+                        return Ok(best);
+                    }
                 }
             } else if !is_closed && !candidate.is_guess {
                 self.note(spot, excerpt, candidate, &text, &faults, &mut best)?;
@@ -345,10 +371,11 @@ impl<'a> Search<'a> {
             further,
             ..
         } = best;
-        if ready.is_empty() {
-            if let Some(changed) = tree.or(further) {
-                ready.push(changed)?;
-            }
+        if !ready.is_empty() {
+            return Ok(Round::Ready(ready));
+        }
+        if let Some(changed) = tree.or(further) {
+            ready.push(changed)?;
         }
         let Some(first) = ready.first() else {
             return Ok(Round::Nothing);
@@ -464,6 +491,26 @@ fn is_within(here: &Source<'_>, candidate: &Candidate) -> bool {
         }
     }
     true
+}
+
+/// The range in which a candidate changes bytes, if there is one alone.
+fn range_of(candidate: &Candidate) -> Option<Lexeme> {
+    match candidate.splices.as_slice() {
+        [splice] => Some(Lexeme {
+            start: splice.start,
+            end: splice.end,
+        }),
+        _ => None,
+    }
+}
+
+/// Whether a candidate changes bytes of another range than this one, if there is one.
+fn is_elsewhere(candidate: &Candidate, place: Option<Lexeme>) -> bool {
+    match (place, range_of(candidate)) {
+        (Some(place), Some(range)) => place.start != range.start || place.end != range.end,
+        (Some(_), None) => true,
+        (None, _) => false,
+    }
 }
 
 /// The number of bytes of a text behind the first of its faults.

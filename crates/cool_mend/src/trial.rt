@@ -53,7 +53,7 @@ pub(crate) fn mending(
         return Ok(None);
     };
     let after = fault_list(alloc, &new)?;
-    if is_mended(files, edit, before, number, &after) {
+    if is_mended(files, &new, edit, before, number, &after) {
         Ok(Some(after.len()))
     } else {
         Ok(None)

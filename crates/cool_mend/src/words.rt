@@ -20,6 +20,7 @@ pub(crate) fn mend_of(alloc: Global, files: &[Vec<u8>], found: Found) -> Result<
         edit,
         reason,
         elsewhere,
+        ..
     } = found;
     let words = fix_words(alloc, files, &edit, reason, elsewhere)?;
     Ok(Mend { edit, words })
@@ -45,7 +46,7 @@ fn fix_words(
 }
 
 /// The bytes that an edit takes away from a file with these bytes.
-fn taken<'a>(bytes: &'a [u8], edit: &Edit) -> &'a [u8]
+pub(crate) fn taken<'a>(bytes: &'a [u8], edit: &Edit) -> &'a [u8]
     ensures { result.now ≡ take (edit.now.end - edit.now.start) (drop edit.now.start bytes.now) }
 {
     if edit.start >= bytes.len() {

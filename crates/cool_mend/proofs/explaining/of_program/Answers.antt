@@ -1,5 +1,5 @@
 -- `of_program` returns no explanation, because accepted files have no compile-time errors.
-use Rattle.std.proofs.Common.{List, subst, sym}
+use Rattle.std.proofs.Common.{subst, sym}
 use Rattle.cool_faults.specs.Files.{bytes_of}
 use Rattle.cool_faults.proofs.AcceptedFiles.{accepted_list}
 use Rattle.cool_mend.specs.Explanations.{AreExplained}
