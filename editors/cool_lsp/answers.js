@@ -3,7 +3,7 @@
 const { toPath } = require("../node/files.js");
 const { bare } = require("../../web/logic/lexemes.js");
 const { outline } = require("../../web/logic/names.js");
-const { ERROR, isUnchecked } = require("./diagnostics.js");
+const { ERROR, LATER, isUnchecked } = require("./diagnostics.js");
 const { Text } = require("./ranges.js");
 
 // The numbers of symbol kinds in the protocol.
@@ -34,7 +34,14 @@ class Answers {
     async hover(params) {
         const range = { start: position(params.position), end: params.position };
         const [fault, note] = this.checker.explained(pathIn(params)).find(([, it]) => meets(it.range, range)) ?? [];
-        return fault && { contents: { kind: "markdown", value: [told(fault), ...(await this.reasons.broken(fault))].join("\n\n") }, range: note.range };
+        if (!fault) return this.laterHover(pathIn(params), range);
+        return { contents: { kind: "markdown", value: [told(fault), ...(await this.reasons.broken(fault))].join("\n\n") }, range: note.range };
+    }
+
+    // The text about an error that the files have only after fixes. It has no fix of its own.
+    laterHover(file, range) {
+        const [fault, note] = this.checker.explained(file, "later").find(([, it]) => meets(it.range, range)) ?? [];
+        return fault && { contents: { kind: "markdown", value: told({ ...fault, mends: [] }, LATER) }, range: note.range };
     }
 
     // A promise of the edits that mend the faults of a range, and those that the editor names.
@@ -44,9 +51,11 @@ class Answers {
         if (!(only?.length ? only : [QUICKFIX]).some((it) => it === "" || it === QUICKFIX)) return [];
         const named = (Array.isArray(diagnostics) ? diagnostics : []).map((it) => [JSON.stringify(it.range), it.code]);
         const isDue = ([, it]) => meets(it.range, range) || named.some(([at, code]) => at === JSON.stringify(it.range) && code === it.code);
-        const mends = this.checker.explained(file).filter(isDue).filter(([it]) => it.mend?.path).map(([fault, it]) => this.action(fault.mend, it));
-        for (const [fix, it] of this.checker.explained(file, "noticed").filter(isDue)) if (await this.isGood(fix)) mends.push(this.action(fix, it));
-        return mends;
+        const due = (what) => this.checker.explained(file, what).filter(isDue);
+        const mends = due("explained").flatMap(([{ mends }, it]) => mends.filter(({ path }) => path).map((mend) => this.action(mend, it, mend === mends[0])));
+        for (const [fix, it] of due("noticed")) if (await this.isGood(fix)) mends.push(this.action(fix, it));
+        const together = due("together"), programs = [...new Set(together.map(([it]) => it))];
+        return [...mends, ...programs.map((all) => this.actionOfAll(all, together.filter(([it]) => it === all).map(([, note]) => note)))];
     }
 
     // Whether the program with an edit is one without faults.
@@ -56,10 +65,23 @@ class Answers {
         return said?.faults.length === 0;
     }
 
-    action({ path, start, end, text, words }, note) {
-        const edit = { range: new Text(this.files.data(path)).range(start, end), newText: text };
-        const changes = { changes: { [this.files.uri(path)]: [edit] } };
-        return { title: words, kind: QUICKFIX, diagnostics: [note], isPreferred: true, edit: changes };
+    action(edit, note, isPreferred = true) {
+        return { title: edit.words, kind: QUICKFIX, diagnostics: [note], isPreferred, edit: this.changes([edit]) };
+    }
+
+    // All fixes of a program, as one action.
+    actionOfAll({ count, edits }, notes) {
+        return { title: `Fix all errors that have a fix (${count})`, kind: QUICKFIX, diagnostics: notes, isPreferred: false, edit: this.changes(edits) };
+    }
+
+    // Edits of files, as the editor takes them.
+    changes(edits) {
+        const changes = {};
+        for (const { path, start, end, text } of edits) {
+            const made = { range: new Text(this.files.data(path)).range(start, end), newText: text };
+            (changes[this.files.uri(path)] ??= []).push(made);
+        }
+        return { changes };
     }
 
     // The classes and features of a file that parses; of another file those of the classes before its fault. Nothing where it isn't known whether the file
@@ -78,10 +100,11 @@ class Answers {
     }
 }
 
-// An explained fault as a person reads it.
-function told({ kind, words, facts, cure, mend }) {
-    const parts = [`**${kind}: ${words}**`, facts.map((it) => `- ${it}`).join("\n"), cure ? `To fix it: ${cure}.` : ""];
-    parts.push(mend ? `Tried, as an edit (code action): ${mend.words}.` : "");
+// An explained fault as a person reads it, with a remark behind its words.
+function told({ kind, words, facts, cure, mends }, remark = "") {
+    const parts = [`**${kind}: ${words}**${remark}`, facts.map((it) => `- ${it}`).join("\n"), cure ? `To fix it: ${cure}.` : ""];
+    const form = mends.length > 1 ? "edits (code actions)" : "an edit (code action)";
+    parts.push(mends.length > 0 ? `Tried, as ${form}: ${mends.map((it) => it.words).join("; or ")}.` : "");
     return parts.filter(Boolean).join("\n\n");
 }
 

@@ -10,6 +10,10 @@ const { Ended } = require("./session.js");
 
 const ERROR = 1, WARNING = 2, INFORMATION = 3, HINT = 4;
 const UNCHECKED = "not checked: ";
+// The end of the message of an error that the files have only after fixes.
+const LATER = " (found once the other errors are fixed)";
+// The fewest fixes that are offered together.
+const FEWEST_TOGETHER = 2;
 const MAIN = "class Main { main() : Object { 0 }; };";
 
 function note(severity, message, range, more) {
@@ -35,7 +39,8 @@ function messageOf(words, fault, lexeme) {
 class Program {
     constructor(files, there) {
         Object.assign(this, { files, there, remarks: [], runs: [] });
-        this.told = undefined; // { known: what the runs were told with, found: diagnostics by path, explained: by path }
+        // { known: what the runs were told with, found: diagnostics by path; by path, too, with diagnostics: explained, later, together, noticed }
+        this.told = undefined;
     }
 
     isAs(files, there) {
@@ -73,7 +78,8 @@ class Checker {
         return found;
     }
 
-    // The explained faults of a file, and its notices, each with its diagnostic.
+    // The explanations of a file, each with its diagnostic: its faults; those that it has only after fixes (later); for each of these and those all fixes of
+    // its program (together); or its notices that have a fix (noticed).
     explained(file, what = "explained") {
         return [...this.kept.values()].flatMap((it) => it.told[what].get(file) ?? []);
     }
@@ -131,11 +137,14 @@ class Checker {
     diagnostics(program) {
         const known = program.runs.map((run) => this.explainer.of(run.key, run.files));
         if (program.told && known.every((it, i) => it === program.told.known[i])) return program.told.found;
-        const told = { known, found: new Map([...program.files.keys()].map((it) => [it, []])), explained: new Map(), noticed: new Map() };
+        const lists = { explained: new Map(), later: new Map(), together: new Map(), noticed: new Map() };
+        const told = { known, found: new Map([...program.files.keys()].map((it) => [it, []])), ...lists };
         if (known.some(Boolean)) this.columns = new Map([...this.columns].filter(([, it]) => !program.files.has(it.path)));
         for (const [it, remark] of program.remarks) told.found.get(it).push(remark);
         program.runs.forEach((run, i) => this.add(run, known[i], told));
         addHidden(program, told.found);
+        // The errors after the fix of a missing class Main are those of the second run.
+        if (known.length > 0 && known.at(-1)?.fits(program.runs.at(-1).faults)) this.addLater(known.at(-1), told);
         program.told = told;
         return told.found;
     }
@@ -149,14 +158,30 @@ class Checker {
             const [range, lexeme] = this.range(file, line, kind, words, fault);
             const shown = note(ERROR, messageOf(words, fault, lexeme), range, { code: kind, ...this.related(fault) });
             found.get(file).push(shown);
-            if (fault) explained.set(file, [...(explained.get(file) ?? []), [fault, shown]]);
+            if (fault) addTo(explained, file, [fault, shown]);
         });
         for (const notice of isFit ? explanation.notices : []) {
             if (!this.files.open.has(notice.path)) continue;
             const fix = likelyEdit(notice.words), range = this.text(notice.path).range(notice.start, notice.end);
             const shown = note(fix ? WARNING : HINT, notice.words, range);
             found.get(notice.path).push(shown);
-            if (fix) noticed.set(notice.path, [...(noticed.get(notice.path) ?? []), [{ ...notice, ...fix, run }, shown]]);
+            if (fix) addTo(noticed, notice.path, [{ ...notice, ...fix, run }, shown]);
+        }
+    }
+
+    // Adds the faults that the files have only after fixes, where they come from, and offers all fixes at each fault.
+    addLater({ later, together }, told) {
+        for (const fault of later) {
+            const { path: file, at } = fault.origin;
+            if (file === "") continue;
+            const text = this.text(file), end = Math.min(at + fault.end - fault.start, text.endOfLine(text.line(at)));
+            const shown = note(ERROR, messageOf(fault.words, fault, fault.lexeme) + LATER, text.range(at, Math.max(at, end)), { code: fault.kind });
+            told.found.get(file).push(shown);
+            addTo(told.later, file, [fault, shown]);
+        }
+        if (together.count < FEWEST_TOGETHER || together.edits.some((it) => it.path === "")) return;
+        for (const all of [told.explained, told.later]) {
+            for (const [file, faults] of all) faults.forEach(([, shown]) => addTo(told.together, file, [together, shown]));
         }
     }
 
@@ -186,6 +211,9 @@ class Checker {
     }
 }
 
+// Adds an item to the list of a file.
+const addTo = (lists, file, item) => void lists.set(file, [...(lists.get(file) ?? []), item]);
+
 const sizeOf = (files) => [...files.values()].reduce((sum, it) => sum + it.length, 0);
 
 // Adds the diagnostics of a file that are not there; `said` has those that are, as text.
@@ -209,4 +237,4 @@ function addHidden(program, found) {
     for (const it of program.there.keys()) found.get(it).push(note(INFORMATION, words, undefined, { relatedInformation: [place] }));
 }
 
-module.exports = { Checker, ERROR, MAIN, isUnchecked };
+module.exports = { Checker, ERROR, LATER, MAIN, isUnchecked };

@@ -85,7 +85,7 @@ class Explainer {
         const { status, output } = (await inquiry.answer(files)) ?? {};
         if (status !== 0 && status !== 1) return undefined;
         try {
-            return new Explanation([...files.keys()], textOf(output));
+            return new Explanation(files, textOf(output));
         } catch (error) {
             log(`cool_explain wrote lines of an unknown form: ${error.message}`);
             return undefined;

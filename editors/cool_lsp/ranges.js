@@ -32,6 +32,11 @@ class Text {
         return this.starts[line] ?? this.data.length;
     }
 
+    // The place behind a line, its end of line not included.
+    endOfLine(line) {
+        return this.begin(line) + this.data.slice(this.begin(line), this.end(line)).replace(/\r?\n$/, "").length;
+    }
+
     position(at) {
         const line = this.line(at), before = this.data.slice(this.starts[line - 1], at);
         return { line: line - 1, character: this.plain ? before.length : textOf(before).length };

@@ -10,6 +10,7 @@ from pathlib import Path
 
 HERE = Path(__file__).resolve().parent.parent
 EXAMPLES = HERE.parent / "examples"
+LATER = " (found once the other errors are fixed)"  # ends the message of an error that the files have only after fixes
 WITHIN = 60  # seconds in which the server answers, however busy the machine is
 MODULES = set()  # programs in the place of which the server asks their modules (--modules)
 
@@ -109,10 +110,17 @@ class Client:
             except AssertionError as error:
                 raise AssertionError("%s: not told (%s); told: %s" % (what, error, self.told)) from None
 
+    def shown(self, path):
+        """The diagnostics of the faults told of a file, without those that it has only after fixes."""
+        return [n for n in self.told.get(path.as_uri(), (None, []))[1] if n["severity"] == 1 and not n["message"].endswith(LATER)]
+
+    def later(self, path):
+        """The diagnostics of the faults that a file has only after fixes."""
+        return [n for n in self.told.get(path.as_uri(), (None, []))[1] if n["message"].endswith(LATER)]
+
     def faults(self, path):
-        """(line, kind, words) of each fault told of a file."""
-        notes = self.told.get(path.as_uri(), (None, []))[1]
-        return [(n["range"]["start"]["line"] + 1, n["code"], said(n)) for n in notes if n["severity"] == 1]
+        """(line, kind, words) of each fault told of a file, without those that it has only after fixes."""
+        return [(n["range"]["start"]["line"] + 1, n["code"], said(n)) for n in self.shown(path)]
 
     def notes(self, path):
         """The other diagnostics of a file."""

@@ -1,10 +1,11 @@
 """Tests explanations of errors: from a stand-in that writes what the test gives it, and from the program itself."""
+import json
 import os
 import random
 import subprocess
 import time
 
-from .client import EXAMPLES, HERE, Client, NotTried, check, due, expect, fill
+from .client import EXAMPLES, HERE, LATER, Client, NotTried, check, due, expect, fill
 from .edits import TOKEN, edit, place
 
 FAULTY = 'class Main {\n  s : String <- "ä𝒙"; t : Int <- true;\n  main() : Object { 0 };\n};\nclass Late { m : Main; };\n'
@@ -42,7 +43,9 @@ def explained_by(room):
 
 
 def real():
-    """The program that explains, or that it is not there."""
+    """The program that explains: the one that COOL_EXPLAIN names, or that of the sources. Or that it is not there."""
+    if os.environ.get("COOL_EXPLAIN"):
+        return os.environ["COOL_EXPLAIN"]
     words, environment = [HERE.parent / "release" / "program", "cool_explain"], {**os.environ, "COOL_BUILD": "no"}
     found = subprocess.run(words, env=environment, stdout=subprocess.PIPE, stderr=subprocess.DEVNULL).stdout.decode().strip()
     if not found:
@@ -171,6 +174,156 @@ def an_explanation_that_is_none(room, words):
     return "%d kinds" % (len(programs) + 1)
 
 
+# Two statements lack their semicolon. The second error is found once the first one is fixed.
+TWO = '''class Main inherits IO {
+  main() : Object { {
+    out_string("é")
+    out_string("b");
+    out_int(1)
+    out_int(2);
+  } };
+};
+'''
+TWO_FIXED = TWO.replace('("é")', '("é");').replace("(1)", "(1);")
+
+
+def byte(text, part, more=0):
+    """The offset of a part of a text in bytes."""
+    return text.encode().index(part.encode()) + more
+
+
+def lines_of_two():
+    """The lines about TWO by the rules of docs/explain.md: places of the second error are those after the first fix, and its origin is that before it."""
+    first, second = byte(TWO, 'out_string("b")'), byte(TWO, "out_int(2)")
+    one, two = byte(TWO, '("é")', 6), byte(TWO, "(1)", 3)
+    lines = ["fault 0:4:%d:%d S1: unexpected token" % (first, first + 10), "fact found `out_string`, after `)`", "mend add `;`", "edit 0:%d:%d ;" % (one, one)]
+    lines += ["apply 0:%d:%d ;" % (one, one), "origin 0:%d" % second]
+    lines += ["fault 0:6:%d:%d S1: unexpected token" % (second + 1, second + 8), "fact found `out_int`, after `)`", "mend add `;`"]
+    return "\n".join([*lines, "edit 0:%d:%d ;" % (two + 1, two + 1), ""])
+
+
+def applied(text, edits):
+    """A text after the edits of an action, none of which changes a part that another one changes."""
+    places = sorted(([place(text, it["range"][side]) for side in ("start", "end")], it["newText"]) for it in edits)
+    expect("apart", all(one[0][1] < other[0][0] for one, other in zip(places, places[1:])), True)
+    for (start, end), new in reversed(places):
+        text = text[:start] + new + text[end:]
+    return text
+
+
+def explained_later(room, words, path, text, lines, more=()):
+    """A client with an open file that these lines explain, when it has so many later diagnostics."""
+    client = Client(path.parent, words.cool, explain=stand_in(room, lines))
+    client.open(path, text)
+    client.until("explained", lambda: all(client.later(it) for it in more or [path]))
+    return client
+
+
+def errors_behind_fixes(room, words):
+    """They stand where they come from, after the errors of `check`, without a fix of their own; one action makes all fixes."""
+    path = fill(room / "one", main=TWO) / "main.cl"
+    client = explained_later(room, words, path, TWO, lines_of_two())
+    faults, (note,) = client.shown(path), client.later(path)
+    expect("as check", client.faults(path), check(words.cool, [path])[path])
+    second = byte(TWO, "out_int(2)")
+    expect("range", whole(note), {"start": at(TWO, second), "end": at(TWO, second + 7)})
+    expect("message", (note["message"], note["code"], note["severity"]), ("unexpected token: found `out_int`, after `)`" + LATER, "S1", 1))
+    expect("hover", hover(client, path, at(TWO, second)), "**S1: unexpected token**%s\n\n- found `out_int`, after `)`" % LATER)
+    both = "Fix all errors that have a fix (2)"
+    actions, later = offered(client, path, faults[0]["range"]), offered(client, path, note["range"])
+    expect("at the first", [(it["title"], it["isPreferred"], it["diagnostics"]) for it in actions], [("add `;`", True, faults), (both, False, faults)])
+    expect("at the second", [(it["title"], it["isPreferred"], it["diagnostics"]) for it in later], [(both, False, [note])])
+    expect("elsewhere", offered(client, path, {"start": at(TWO, 0), "end": at(TWO, 3)}), [])
+    expect("first alone", applied(TWO, actions[0]["edit"]["changes"][path.as_uri()]), TWO.replace('("é")', '("é");'))
+    for action in actions[1], later[0]:
+        expect("all", (list(action["edit"]["changes"]), applied(TWO, action["edit"]["changes"][path.as_uri()])), ([path.as_uri()], TWO_FIXED))
+    (room / "lines").write_text("")
+    client.change(path, TWO_FIXED)
+    client.until("no error is left", lambda: client.told[path.as_uri()][1] == [])
+    client.end()
+
+
+def errors_behind_fixes_of_files(room, words):
+    """In several files, in several steps, up to the end of a line. The names are those after the fixes; a fix of two may overlap."""
+    main, part = "class Main {\n  p : Part <- 1\n  main() : Int { p.x(ab) };\n};\n", "class Part {\r\n  a : Int\r\n  x() : Int { a };\r\n};\r\n"
+    files = fill(room / "two", main=main, part=part)
+    ends = [byte(main, "<- 1", 4), byte(part, "a : Int", 7)]
+    lines = ["fault 0:3:%d:%d S1: unexpected token" % (byte(main, "main()"), byte(main, "main()") + 4), "mend add `;`", "edit 0:%d:%d ;" % (ends[0], ends[0])]
+    lines += ["fault 1:3:%d:%d S1: unexpected token" % (byte(part, "x()"), byte(part, "x()") + 1), "mend add `;`", "edit 1:%d:%d ;" % (ends[1], ends[1])]
+    # Then a fault of the name, of which there are two fixes, and one whose range is longer than the line.
+    lines += ["apply 1:%d:%d ;" % (ends[1], ends[1]), "apply 0:%d:%d ;" % (ends[0], ends[0])]
+    name, sign, end = byte(main, "ab"), byte(main, "<- 1"), ends[1]
+    lines += ["origin 0:%d" % name, "origin 1:%d" % (end - 3), "fault 0:3:%d:%d E1: unknown name" % (name + 1, name + 3)]
+    lines += ["mend write `a`", "edit 0:%d:%d a" % (name + 1, name + 3), "mend write `b`", "edit 0:%d:%d b" % (name + 1, name + 3)]
+    lines += ["fault 1:2:%d:%d E17: initial value does not conform" % (end - 3, end + 9)]
+    lines += ["mend another", "edit 0:%d:%d + 1;\\n  q : Int;" % (ends[0], ends[0] + 1)]
+    # And one behind them, which comes from the place of an edit.
+    lines += ["apply 0:%d:%d + 1;\\n  q : Int;" % (ends[0], ends[0] + 1), "origin 0:%d" % ends[0]]
+    lines += ["fault 0:3:%d:%d E1: unknown name" % (ends[0] + 7, ends[0] + 8), "mend write `r`", "edit 0:%d:%d r" % (ends[0] + 7, ends[0] + 8)]
+    client = explained_later(room, words, files / "main.cl", main, "\n".join([*lines, ""]), [files / "main.cl", files / "part.cl"])
+    unknown, behind = client.later(files / "main.cl")
+    expect("name", (unknown["message"], whole(unknown)), ("unknown name `ab`" + LATER, {"start": at(main, name), "end": at(main, name + 2)}))
+    expect("added", (behind["message"], whole(behind)), ("unknown name `q`" + LATER, {"start": at(main, sign + 4), "end": at(main, sign + 4)}))
+    short = client.later(files / "part.cl")[0]
+    expect("up to the end of the line", whole(short), {"start": at(part, end - 3), "end": at(part, end)})
+    action = offered(client, files / "main.cl", unknown["range"])[-1]
+    expect("title", action["title"], "Fix all errors that have a fix (4)")
+    changes = action["edit"]["changes"]
+    expect("main", applied(main, changes[(files / "main.cl").as_uri()]), main.replace("<- 1", "<- 1+ 1;\n  r : Int;"))
+    expect("part", applied(part, changes[(files / "part.cl").as_uri()]), part.replace("a : Int", "a : Int;"))
+    expect("where it comes from", [it["title"] for it in offered(client, files / "main.cl", behind["range"])], [action["title"]])
+    client.end()
+
+
+def two_fixes_of_an_error(room, words):
+    """Both are offered, the first as the likelier one, and the first counts where all errors are fixed."""
+    path, text = room / "main.cl", "class Main {\n  cat : Int; car : Int;\n  main() : Int { caz };\n  more() : Int { 1 + caz };\n};\n"
+    one, two = byte(text, "caz }"), byte(text, "+ caz", 2)
+    lines = "".join("fault 0:%d:%d:%d E1: unknown name\nmend write `cat`\nedit 0:%d:%d cat\nmend write `car`\nedit 0:%d:%d car\n" % (line, *[it, it + 3] * 3)
+                    for line, it in ((3, one), (4, two)))
+    client = Client(room, words.cool, explain=stand_in(room, lines))
+    note = client.open(path, text)[0]
+    found = offered(client, path, {"start": at(text, one), "end": at(text, one + 3)})
+    wanted = [("write `cat`", True), ("write `car`", False), ("Fix all errors that have a fix (2)", False)]
+    expect("both", [(it["title"], it["isPreferred"]) for it in found], wanted)
+    expect("second", applied(text, found[1]["edit"]["changes"][path.as_uri()]), text.replace("caz };", "car };", 1))
+    expect("all", applied(text, found[2]["edit"]["changes"][path.as_uri()]), text.replace("caz", "cat"))
+    expect("hover", "Tried, as edits (code actions): write `cat`; or write `car`." in hover(client, path, at(text, one)), True)
+    expect("line", note["range"]["start"]["line"], 2)
+    client.end()
+
+
+def edits_in_turn_are_combined(room, words):
+    """Random edits, one after the other, and their combination, which `combinedEdits` computes without the text."""
+    rnd, tried = random.Random(words.seed), []
+    for _ in range(10 * words.edits):
+        texts = ["".join(rnd.choice("aé\n") for _ in range(rnd.randrange(8))) for _ in range(2)]
+        now, steps = [text.encode() for text in texts], []
+        for _ in range(rnd.randrange(1, 7)):
+            file = rnd.randrange(2)
+            start, end = sorted(len(now[file].decode()[: rnd.randrange(len(texts[file]) + 9)].encode()) for _ in range(2))
+            text = "".join(rnd.choice("xyü") for _ in range(rnd.randrange(4)))
+            now[file] = now[file][:start] + text.encode() + now[file][end:]
+            steps.append("apply %d:%d:%d %s" % (file, start, end, text))
+        tried.append((texts, now, "\n".join([*steps, "origin 0:0", "fault 0:1:0:0 E1: unknown name", ""])))
+    script = """
+        const { explanationLines } = require(%s), { allFixes, editedFiles, fixesInTurn } = require(%s), { byteLetters, textOfLetters } = require(%s);
+        const answers = JSON.parse(require("fs").readFileSync(0, "utf8")).map(([texts, lines]) => {
+            const found = explanationLines(lines), { count, edits } = allFixes(found), data = texts.map(byteLetters);
+            return [editedFiles(data, fixesInTurn(found)), editedFiles(data, [...edits].reverse())].map((it) => it.map(textOfLetters)).concat([edits, count]);
+        });
+        console.log(JSON.stringify(answers));
+    """ % tuple(json.dumps(str(HERE.parent / "web" / "logic" / name)) for name in ("explain-lines.js", "fixes.js", "bytes.js"))
+    asked = json.dumps([(texts, lines) for texts, _, lines in tried]).encode()
+    answers = json.loads(subprocess.run(["node", "-e", script], input=asked, stdout=subprocess.PIPE, check=True).stdout)
+    for (texts, now, lines), (in_turn, combined, edits, count) in zip(tried, answers):
+        expect("in turn: %r %s" % (texts, lines), in_turn, [it.decode() for it in now])
+        expect("combined: %r %s" % (texts, lines), combined, in_turn)
+        expect("count", count, lines.count("apply"))
+        expect("apart: %r %s" % (texts, lines), all((a["file"], a["end"]) < (b["file"], b["start"]) for a, b in zip(edits, edits[1:])), True)
+    return "%d lists of edits" % len(tried)
+
+
 # With the program itself.
 
 # Lines with a mistake, and what a reader of it would write.
@@ -216,7 +369,7 @@ def ranges_are_those_of_the_tokens(room, words):
         text = whole_text if rnd.random() < 0.2 else edit(rnd, text)
         for note in client.change(path, text):
             offered(client, path, note["range"])  # so that it is explained
-        for number, note in enumerate(client.told[path.as_uri()][1]):
+        for number, note in enumerate(it for it in client.told[path.as_uri()][1] if not it["message"].endswith(LATER)):
             expect("explained %s of %r" % (note, text), (hover(client, path, note["range"]["start"]) or "")[2:6].startswith(note["code"]), True)
             start, end = (place(text, note["range"][side]) for side in ("start", "end"))
             if note["severity"] == 1 and note["code"] not in ("C6", "L3") and start < end:  # of L3, a new line would end the string
@@ -226,6 +379,20 @@ def ranges_are_those_of_the_tokens(room, words):
                 compared += 1
     client.end()
     return "%d ranges" % compared
+
+
+def the_program_tells_errors_behind_fixes(room, words):
+    """Its lines are those of the rules, and with all of its fixes the program is legal."""
+    path = room / "two.cl"
+    path.write_text(TWO)
+    came = subprocess.run([real(), "--lines", path.name], cwd=room, stdout=subprocess.PIPE)
+    expect("status", came.returncode, 1)
+    expect("lines", came.stdout.decode(), lines_of_two())
+    client = explained_later(room, words, path, TWO, came.stdout.decode())
+    action = offered(client, path, client.shown(path)[0]["range"])[-1]
+    path.write_text(applied(TWO, action["edit"]["changes"][path.as_uri()]))
+    expect("with all fixes", (path.read_text(), check(words.cool, [path])[path]), (TWO_FIXED, []))
+    client.end()
 
 
 def program_of(body):
@@ -277,4 +444,5 @@ def taken_tokens_are_put_back(room, words):
 
 
 TESTS = [faults_are_explained, an_edit_of_another_file, where_only_main_is_wanting, an_answer_that_is_old, an_explanation_that_is_none,
+         errors_behind_fixes, errors_behind_fixes_of_files, two_fixes_of_an_error, edits_in_turn_are_combined, the_program_tells_errors_behind_fixes,
          faults_have_their_cures, ranges_are_those_of_the_tokens, typical_mistakes_are_mended, taken_tokens_are_put_back]
