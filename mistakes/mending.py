@@ -29,7 +29,7 @@ def processor_time():
 
 
 def edited(text, told):
-    """The text with the edit of these lines applied, or None if there is no edit."""
+    """The text with the first edit of these lines applied, or None if there is no edit."""
     for found in filter(None, map(EDIT.fullmatch, told)):
         new = re.sub(rb"\\([\\n])", lambda it: b"\n" if it[1] == b"n" else b"\\", found[3])
         return text[: int(found[1])] + new + text[int(found[2]) :]
@@ -61,8 +61,9 @@ class Tools:
             sys.exit("%s: %s ended with %d over this, and wrote %r:\n%s"
                      % (sys.argv[0], self.explain, run.returncode, run.stderr, text.decode(errors="replace")))
         lines = run.stdout.split(b"\n")[:-1]
-        faults = [at for at, line in enumerate(lines) if line.startswith(b"fault ")]
-        return lines[: faults[1] if faults[1:] else None]
+        # An `apply` line begins the errors after fixes.
+        ends = [at for at, line in enumerate(lines) if at > 0 and line.startswith((b"fault ", b"apply "))]
+        return lines[: ends[0] if ends else None]
 
     def end(self, text, meant, told):
         """The result for a program with this explanation: applies the fix of the first error, then that of the first error of the result, and so on."""

@@ -56,7 +56,7 @@ async function tryEdit(notice, turn) {
     const mend = { ...edit, from: notice.from, to: notice.to };
     const { status } = await askedToExplain(files.map((it) => (it.name === mend.from.file ? editedText(it.text, mend) : it.text)));
     if (turn !== explainTurn || status !== 0) return;
-    notice.mend = mend;
+    notice.mends = [mend];
     showExplained();
 }
 

@@ -2,6 +2,8 @@
 "use strict";
 
 const MOST_CHANGED = 8;
+// The fewest fixes that have a button together.
+const FEWEST_TOGETHER = 2;
 
 // Splits words into text, and code for the parts between grave accents.
 const spoken = (words) => words.split("`").map((part, i) => (i % 2 === 1 ? element("code", {}, part) : part));
@@ -12,13 +14,13 @@ const placeWords = ({ file, line }) => (files.length > 1 ? `${file}:${line}` : `
 const textBetween = ({ file, line, column }, to) => (linesOf(fileNamed(file)?.text ?? "")[line - 1] ?? "").slice(column, to.column);
 
 // The items below the place and the words of an error.
-function detailsOf({ facts, values, other, cure, mend }) {
+function detailsOf({ facts, values = [], other, cure, mends = [] }) {
     const items = facts.map((it) => element("div", { className: "fact" }, ...spoken(it)));
     const link = (it, words) => element("button", { className: "other", onclick: () => goTo(it.file, it.line) }, words);
     items.push(...values.map((it) => link(it, `the value comes from ${placeWords(it)}`)));
     if (other) items.push(link(other, `defined at ${placeWords(other)}, too`));
     if (cure) items.push(element("div", { className: "cure" }, "To fix it: ", ...spoken(cure)));
-    return mend ? [...items, ...mendItems(mend)] : items;
+    return [...items, ...mends.flatMap(mendItems)];
 }
 
 // The button that makes an edit, and the lines that the edit changes.
@@ -54,24 +56,61 @@ function putMend(mend) {
     else typed(mend.text);
 }
 
+// Makes several edits, in each file as one edit, which reaches from the first to the last of them, so that Ctrl+Z undoes all of them.
+function putMends(mends) {
+    for (const file of new Set(mends.map((it) => it.from.file))) {
+        const own = mends.filter((it) => it.from.file === file), parts = own.map((it, i) => [i > 0 ? textFrom(own[i - 1].to, it.from) : "", it.text]);
+        putMend({ from: own[0].from, to: own.at(-1).to, text: parts.flat().join("") });
+    }
+}
+
+// The text between two places of a file.
+function textFrom(from, to) {
+    const lines = linesOf(fileNamed(from.file)?.text ?? "").slice(from.line - 1, to.line);
+    lines.push(lines.pop().slice(0, to.column));
+    return [lines[0].slice(from.column), ...lines.slice(1)].join("\n");
+}
+
+// The heading of the errors that come after fixes, and the button that makes all fixes.
+const headItem = (words) => element("li", { className: "head" }, words);
+
+function togetherItem(count) {
+    const onclick = () => putMends(explanation.together.edits);
+    const fix = { className: "fix", disabled: !explanation, title: "Ctrl+Z takes them back, file by file", onclick };
+    return element("li", {}, element("button", fix, `Fix all errors that have a fix (${count})`));
+}
+
+function laterItem(place, words, file, line, i) {
+    const button = element("button", { className: "later", onclick: () => goTo(file, line) }, `${place}: `, ...spoken(words));
+    return element("li", {}, button, ...detailsOf(explanation.later[i]));
+}
+
 function noticeItem(place, words, file, line, i) {
-    const { mend } = explanation.notices[i], button = element("button", { onclick: () => goTo(file, line) }, `${place}: `, ...spoken(words));
-    return element("li", { className: "notice" }, button, ...(mend ? mendItems(mend) : []));
+    const { mends } = explanation.notices[i], button = element("button", { onclick: () => goTo(file, line) }, `${place}: `, ...spoken(words));
+    return element("li", { className: "notice" }, button, ...mends.flatMap(mendItems));
 }
 
 // Shows the errors with their explanations, and the notices, in the list and in the text.
 function showExplained() {
     const rows = faults.map((it, i) => [faultItem, placeWords(it), it.words, it.file, it.line, i, shownOf(explainedOf(i))]);
     const notices = (explanation?.notices ?? []).map((it, i) => [noticeItem, placeWords(it.from), it.words, it.from.file, it.from.line, i, shownOf(it)]);
-    showRows(at("faults"), [...rows, ...notices], (make, ...row) => make(...row));
+    showRows(at("faults"), [...rows, ...laterRows(), ...notices], (make, ...row) => make(...row));
     if (explanation) at("faults").querySelectorAll(".fix").forEach((it) => (it.disabled = false));
     showMarks();
     paint();
     happened("explained");
 }
 
+// The rows of the errors that come after fixes, and of the button that makes all fixes, of which there are none while the text changes.
+function laterRows() {
+    const { later = [], together } = explanation ?? {};
+    const rows = later.map((it, i) => [laterItem, placeWords(it.origin), it.words, it.origin.file, it.origin.line, i, JSON.stringify(it)]);
+    const head = rows.length > 0 ? [[headItem, "After these fixes"]] : [];
+    return [...head, ...rows, ...(together?.count >= FEWEST_TOGETHER ? [[togetherItem, together.count]] : [])];
+}
+
 // The part of a row that shows the explanation, as text, because rows are compared as text.
-const shownOf = (known) => JSON.stringify([known ?? "", known?.mend ? mendedLines(known.mend) : ""]);
+const shownOf = (known) => JSON.stringify([known ?? "", ...(known?.mends ?? []).map(mendedLines)]);
 
 function faultItem(place, words, file, line, i) {
     const known = explainedOf(i);

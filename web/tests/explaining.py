@@ -83,6 +83,62 @@ def explained(page):
     same(page.faults(), ["line 2: E17: initial value does not conform", "line 3: E1: unknown name m"])
 
 
+TWO = '''class Main inherits IO {
+  main() : Object { {
+    out_string("é")
+    out_string("b");
+    out_int(1)
+    out_int(2);
+  } };
+};
+'''
+
+
+def lines_of_two():
+    """Two statements lack their semicolon. The second error is found once the first one is fixed."""
+    first, second, one, two = (TWO.encode().index(part.encode()) for part in ('out_string("b")', "out_int(2)", "\n    out_string(\"b", "\n    out_int(2"))
+    lines = ["fault 0:4:%d:%d S1: unexpected token" % (first, first + 10), "fact found `out_string`, after `)`", "mend add `;`"]
+    lines += ["edit 0:%d:%d ;" % (one, one), "apply 0:%d:%d ;" % (one, one), "origin 0:%d" % second]
+    lines += ["fault 0:6:%d:%d S1: unexpected token" % (second + 1, second + 8), "fact found `out_int`, after `)`"]
+    return "\n".join([*lines, "mend add `;`", "edit 0:%d:%d ;" % (two + 1, two + 1), ""])
+
+
+@test("shows the errors that come after fixes below a heading, with the lines that they come from, and makes all fixes at once")
+def after_fixes(page):
+    stand_in(page, lines_of_two(), ("p.cl", TWO))
+    page.wait("explanation !== undefined")
+    same(page.faults(), ["line 4: S1: unexpected token"])
+    rows = page.run("return [...at('faults').children].map((it) => [it.className, ...[...it.children].map((part) => part.textContent)]);")
+    same([rows[0][3], *rows[1:]], ["Fix: add ;", ["head"], ["", "line 6: S1: unexpected token", "found out_int, after )"],
+                                   ["", "Fix all errors that have a fix (2)"]])
+    same(page.run("return at('faults').querySelector('.head').textContent;"), "After these fixes")
+    same(page.run("at('faults').querySelector('.later').click(); return cursorLine();"), 6)
+    page.run("window.lines = ''; [...at('faults').querySelectorAll('.fix')].at(-1).click();")
+    fixed = TWO.replace('("é")', '("é");').replace("(1)", "(1);")
+    same(page.run("return text.value;"), fixed)
+    page.checked()
+    same([page.state(), page.faults()], ["no faults", []])
+    page.press("z", 90, modifiers=2)
+    same(page.run("return text.value;"), TWO)
+
+
+@test("makes all fixes in several files, and offers two fixes of an error")
+def all_of_files(page):
+    main, part = "class Main {\n  p : Part;\n  main() : Int { p.ab() };\n};\n", "class Part {\n  a() : Int { xy };\n  b() : Int { 1 };\n};\n"
+    call, name = main.index("ab()"), part.index("xy")
+    lines = [f"fault 0:3:{call}:{call + 2} E4: unknown method", "mend write `a`", f"edit 0:{call}:{call + 2} a"]
+    lines += ["mend write `b`", f"edit 0:{call}:{call + 2} b"]
+    lines += [f"fault 1:2:{name}:{name + 2} E1: unknown name", "mend write a number", f"edit 1:{name}:{name + 2} 1", ""]
+    stand_in(page, "\n".join(lines), ("main.cl", main), ("part.cl", part))
+    page.wait("explanation !== undefined")
+    fixes = page.run("return [...at('faults').querySelectorAll('.fix')].map((it) => it.textContent);")
+    same(fixes, ["Fix: write a", "Fix: write b", "Fix: write a number", "Fix all errors that have a fix (2)"])
+    page.run("window.lines = ''; [...at('faults').querySelectorAll('.fix')].at(-1).click();")
+    page.checked()
+    same(page.run("return files.map((it) => it.text);"), [main.replace("ab", "a"), part.replace("xy", "1")])
+    same(page.state(), "no faults")
+
+
 @test("keeps what was said of a fault while other lines are edited, and offers its mend when it is said anew")
 def kept(page):
     stand_in(page, LINES, ("p.cl", PROGRAM))
@@ -91,11 +147,11 @@ def kept(page):
     page.type("-- more")
     page.checked()
     same([details(page, 0)[0], underlined(page)[0]], [["fact", "expected Int, found Bool"], ["n", "m"]])
-    same(page.run("return [...document.querySelectorAll('.fix')].map((it) => it.disabled);"), [True, True])
+    same(page.run("return [...document.querySelectorAll('.fix')].map((it) => it.disabled);"), [True, True, True])
     page.run(f"window.lines = {json.dumps(LINES)};")
     page.type(" ")
     page.wait("explanation !== undefined")
-    same(page.run("return [...document.querySelectorAll('.fix')].map((it) => it.disabled);"), [False, False])
+    same(page.run("return [...document.querySelectorAll('.fix')].map((it) => it.disabled);"), [False, False, False])
 
 
 @test("shows what is legal but likely a mistake quietly, and goes to it")
@@ -122,7 +178,7 @@ def notice_mends(page):
         raise Missing("there is no explain-module.js")
     text = "class Main {\n  n : Int;\n  main() : Object { { n = LEFT; n; } };\n};\n"
     page.start(("p.cl", text.replace("LEFT", "7")))
-    page.wait("explanation?.notices[0]?.mend")
+    page.wait("explanation?.notices[0]?.mends.length === 1")
     changes = "3 -   main() : Object { { n = 7; n; } };\n3 +   main() : Object { { n <- 7; n; } };\n"
     same(details(page, 0), [["fix", "Fix: write <- to assign"], ["changes", changes]])
     page.run("at('faults').querySelector('.fix').click();")
