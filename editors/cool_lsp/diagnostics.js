@@ -11,7 +11,7 @@ const { Ended } = require("./session.js");
 const ERROR = 1, WARNING = 2, INFORMATION = 3, HINT = 4;
 const UNCHECKED = "not checked: ";
 // The end of the message of an error that the files have only after fixes.
-const LATER = " (found once the other errors are fixed)";
+const LATER = " (appears once the other errors are fixed)";
 // The fewest fixes that are offered together.
 const FEWEST_TOGETHER = 2;
 const MAIN = "class Main { main() : Object { 0 }; };";

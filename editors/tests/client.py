@@ -10,7 +10,7 @@ from pathlib import Path
 
 HERE = Path(__file__).resolve().parent.parent
 EXAMPLES = HERE.parent / "examples"
-LATER = " (found once the other errors are fixed)"  # ends the message of an error that the files have only after fixes
+LATER = " (appears once the other errors are fixed)"  # ends the message of an error that the files have only after fixes
 WITHIN = 60  # seconds in which the server answers, however busy the machine is
 MODULES = set()  # programs in the place of which the server asks their modules (--modules)
 

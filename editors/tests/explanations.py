@@ -160,6 +160,10 @@ def an_explanation_that_is_none(room, words):
     path = room / "main.cl"
     wrong = ["fault 0:2:1:2 E17\n", "fault 7:2:1:2 E17: %s\n" % FAULT, "fault 0:3:1:2 E17: %s\n" % FAULT, "fault 0:2:-1:2 E17: %s\n" % FAULT]
     wrong += ["fact alone\n", "nonsense\n", "", LINES + LINES]
+    # Steps without an edit, without errors, and with more or fewer places than errors.
+    later = "fault 0:2:1:2 E17: %s\n" % FAULT
+    steps = ["origin 0:1\n", "apply 0:1:1 ;\n", "apply 0:1:1 ;\norigin 0:1\n", "apply 0:1:1 ;\n" + later]
+    wrong += [LINES + step for step in [*steps, "apply 0:1:1 ;\norigin 0:1\norigin 0:2\n" + later, "apply 0:1:1 ;\norigin 0:1\n" + later + later]]
     programs = [(lines, "") for lines in wrong] + [("", "exec sleep 1000"), (LINES, "exit 9"), ("", "exec cat /dev/zero"), (LINES, "exit 2")]
     for number, (lines, before) in enumerate(programs):
         client = Client(room, words.cool, "--seconds", "4", explain=stand_in(room, lines, before))
