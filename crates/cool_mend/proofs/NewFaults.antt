@@ -40,7 +40,7 @@ pub steps_more : (steps : List AfterFixes) (a : AfterFixes) (p : Progress) → A
 steps_more [] a p are is = (is, tt)
 steps_more (x ∷ xs) a p are is = (are.0, steps_more xs a (after p x) are.1 is)
 
--- what holds of all faults holds of the new ones
+-- a property of all faults is one of the new faults
 pub all_new : (P : Fault → Type 0) (told : List Origin) (shifts : List Shift) (faults : List Fault) → AllByRecursion P faults → AllByRecursion P (new_faults told shifts faults)
 all_new P told shifts [] h = tt
 all_new P told shifts (f ∷ fs) h = by (is_new told shifts f) (all_new P told shifts fs h.1) where
@@ -48,7 +48,7 @@ all_new P told shifts (f ∷ fs) h = by (is_new told shifts f) (all_new P told s
   by true rest = (h.0, rest)
   by false rest = rest
 
--- what holds of all faults holds of those that are explained
+-- a property of all faults is one of the faults that are explained
 pub all_explained : (P : Fault → Type 0) (answer : Option New) (new : New) (files : List (List ℕ)) (faults : List Fault) (shifts : List Shift) (told : List Origin) → answer ≡ Some new
     → IfSome answer (λ (n : New). AreExplainedNew files faults shifts told n.explanations.items n.origins.items) → AllByRecursion P faults → AllByRecursion (λ (x : Explanation). P x.fault) new.explanations.items
 all_explained P answer new files faults shifts told is are all =

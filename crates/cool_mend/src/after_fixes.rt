@@ -25,7 +25,7 @@ use std::alloc::{AllocError, Global};
 /// The most steps after which errors are explained.
 const MOST_STEPS: usize = 40;
 
-/// What is known of the steps so far.
+/// The state of the steps so far.
 #[derive(Drop)]
 struct Steps {
     /// The shifts by all edits that were made.
