@@ -12,7 +12,7 @@ ghost use Rattle.cool_mend.specs.AfterFixes.{AreAfterFixes, AreExplainedNew, Are
 use crate::edit::Edit;
 use crate::explained::{explanation, sources};
 use crate::explanation::{AfterFixes, Explanation, Origin};
-use crate::fixes::{fixes, size_of};
+use crate::fixes::{Budget, fixes, size_of};
 use crate::fixing::{Fixed, make_fixes};
 use crate::search::Search;
 use crate::shift::{Shift, origin_of, shift_of};
@@ -32,17 +32,16 @@ struct Steps {
     shifts: Vec<Shift>,
     /// The places in the given files of the errors that were told.
     told: Vec<Origin>,
-    /// The number of bytes of files that may still be tried.
-    left: usize,
+    budget: Budget,
 }
 
-/// The errors of the files after the fixes in these explanations of all of their errors, and so on. `left` is the number of bytes of files that may be
-/// tried. Returns `Err` only if memory runs out.
+/// The errors of the files after the fixes in these explanations of all of their errors, and so on, within this budget. Returns `Err` only if memory runs
+/// out.
 pub(crate) fn after_fixes(
     alloc: Global,
     files: &[Vec<u8>],
     explained: &[Explanation],
-    left: usize,
+    budget: Budget,
 ) -> Result<Vec<AfterFixes>, AllocError>
     requires few { length files.now ≤ MOST_FILES }
     requires small { total (bytes_of files.now) ≤ MOST_SOURCE_BYTES }
@@ -57,7 +56,7 @@ pub(crate) fn after_fixes(
     let mut steps = Steps {
         shifts: Vec::new(alloc),
         told,
-        left,
+        budget,
     };
     let mut made = make_fixes(alloc, files, explained)?;
     for _ in 0..MOST_STEPS {
@@ -99,10 +98,10 @@ fn next(alloc: Global, made: Fixed, steps: &mut Steps) -> Result<Option<AfterFix
 {
     let Fixed { edits, files } = made;
     let size = size_of(&files);
-    if edits.is_empty() || size > steps.left {
+    if edits.is_empty() || size > steps.budget.files {
         return Ok(None);
     }
-    steps.left -= size;
+    steps.budget.files -= size;
     append_shifts(&mut steps.shifts, &edits)?;
     let faults = fault_list(alloc, &files)?;
     let classes = class_table(alloc, &files)?;
@@ -167,7 +166,7 @@ fn explained_new(
     ensures told { steps.new.told.items ≡ steps.old.told.items }
 {
     let sources = sources(alloc, files)?;
-    let mut search = Search::new(alloc, &sources, faults);
+    let mut search = Search::new(alloc, &sources, faults, steps.budget.excerpts);
     let mut explanations = Vec::new(alloc);
     let mut origins = Vec::new(alloc);
     for number in 0..faults.len() {
@@ -178,10 +177,18 @@ fn explained_new(
         if is_told(&steps.told, origin) {
             continue;
         }
-        let mends = fixes(alloc, files, faults, number, &mut search, &mut steps.left)?;
+        let mends = fixes(
+            alloc,
+            files,
+            faults,
+            number,
+            &mut search,
+            &mut steps.budget.files,
+        )?;
         explanations.push(explanation(alloc, files, &sources, classes, fault, mends)?)?;
         origins.push(origin)?;
     }
+    steps.budget.excerpts = search.left();
     if explanations.is_empty() {
         return Ok(None);
     }

@@ -13,7 +13,7 @@ ghost use Rattle.cool_mend.specs.Explanations.{AreExplained, AreMends, HaveTable
 use crate::after_fixes::after_fixes;
 use crate::explained::{explanation, sources};
 use crate::explanation::{Explained, Explanation};
-use crate::fixes::{MOST_TRIED_BYTES, fixes};
+use crate::fixes::{Budget, fixes};
 use crate::noticing::notices;
 use crate::search::Search;
 use crate::types::class_table;
@@ -76,9 +76,9 @@ fn of_faults(alloc: Global, files: &[Vec<u8>], faults: &[Fault]) -> Result<Expla
         → IfOk result (λ all. AllByRecursion (ArePlaced (length (bytes_of files.now))) all.after_fixes.items) }
 {
     let classes = class_table(alloc, files)?;
-    let mut left = MOST_TRIED_BYTES;
-    let explanations = explanations(alloc, files, &classes, faults, &mut left)?;
-    let after_fixes = after_fixes(alloc, files, &explanations, left)?;
+    let mut budget = Budget::new();
+    let explanations = explanations(alloc, files, &classes, faults, &mut budget)?;
+    let after_fixes = after_fixes(alloc, files, &explanations, budget)?;
     Ok(Explained {
         explanations,
         after_fixes,
@@ -92,7 +92,7 @@ fn explanations(
     files: &[Vec<u8>],
     classes: &Option<ClassTable>,
     faults: &[Fault],
-    left: &mut usize,
+    budget: &mut Budget,
 ) -> Result<Vec<Explanation>, AllocError>
     requires few { length files.now ≤ MOST_FILES }
     requires small { total (bytes_of files.now) ≤ MOST_SOURCE_BYTES }
@@ -102,11 +102,12 @@ fn explanations(
     ensures mends { IfOk result (λ all. AreMends (bytes_of files.now) faults.now 0 all.items) }
 {
     let sources = sources(alloc, files)?;
-    let mut search = Search::new(alloc, &sources, faults);
+    let mut search = Search::new(alloc, &sources, faults, budget.excerpts);
     let mut all = Vec::new(alloc);
     for number in 0..faults.len() {
-        let mends = fixes(alloc, files, faults, number, &mut search, left)?;
+        let mends = fixes(alloc, files, faults, number, &mut search, &mut budget.files)?;
         all.push(explanation(alloc, files, &sources, classes, &faults[number], mends)?)?;
     }
+    budget.excerpts = search.left();
     Ok(all)
 }

@@ -14,8 +14,25 @@ use crate::words::{mend_of, taken};
 use cool_faults::Fault;
 use std::alloc::{AllocError, Global};
 
-/// The most bytes of files that are tried for all faults of a call.
-pub(crate) const MOST_TRIED_BYTES: usize = 8_388_608;
+/// The most bytes that are tried for all faults of a call: of files, and of excerpts.
+const MOST_TRIED_BYTES: usize = 8_388_608;
+
+/// The numbers of bytes that may still be tried.
+#[derive(Clone, Copy)]
+pub(crate) struct Budget {
+    pub(crate) files: usize,
+    pub(crate) excerpts: usize,
+}
+
+impl Budget {
+    /// The budget of a call.
+    pub(crate) fn new() -> Budget {
+        Budget {
+            files: MOST_TRIED_BYTES,
+            excerpts: MOST_TRIED_BYTES,
+        }
+    }
+}
 
 /// The edits that mend the fault of this number in all of the files: the likeliest one, and one that puts another name in the same place. `left` is the
 /// number of bytes of files that may still be tried. Returns `Err` only if memory runs out.

@@ -23,9 +23,6 @@ const FIRST_OF_TREES: u32 = 2;
 /// The most edits of a text, one after the other, that are tried for a fault.
 const MOST_STEPS: usize = 6;
 
-/// The most bytes of excerpts that are tried for all faults.
-const MOST_TRIED_BYTES: usize = 8_388_608;
-
 /// The number of bytes left below which no more edits are looked for.
 const FEWEST_BYTES: usize = 4096;
 
@@ -168,15 +165,25 @@ impl Best {
 }
 
 impl<'a> Search<'a> {
-    /// A search for faults of these files, which are all that they have.
-    pub(crate) fn new(alloc: Global, sources: &'a [Source<'a>], faults: &'a [Fault]) -> Search<'a> {
+    /// A search for faults of these files, which are all that they have, by excerpts of so many bytes in all.
+    pub(crate) fn new(
+        alloc: Global,
+        sources: &'a [Source<'a>],
+        faults: &'a [Fault],
+        left: usize,
+    ) -> Search<'a> {
         Search {
             alloc,
             sources,
             faults,
-            left: MOST_TRIED_BYTES,
+            left,
             trials: MOST_TRIALS,
         }
+    }
+
+    /// The number of bytes of excerpts that may still be tried.
+    pub(crate) fn left(&self) -> usize {
+        self.left
     }
 
     /// Edits that may mend the fault of this number, the likeliest first. Returns `Err` only if memory runs out.
