@@ -346,6 +346,7 @@ MISTAKES = [
 ]
 TAKEN = "; fi pool in then else loop of esac } ) : <- => ,".split()
 LEAST_WRITTEN, LEAST_PUT_BACK = 0.6, 0.8  # of the lines, and of the texts that are as they were
+MOST_FIXES = 6
 
 
 def faults_have_their_cures(room, words):
@@ -404,17 +405,23 @@ def program_of(body):
 
 
 def mended(client, path, text, room, words):
-    """A text with what is offered for its first fault, or None; with it the program finds fewer faults, or later ones."""
-    faults = [note for note in client.change(path, text) if note["severity"] == 1]
-    for action in offered(client, path, faults[0]["range"])[:1]:
-        for edit in action["edit"]["changes"][path.as_uri()]:
+    """A text with the first fix that is offered, and with those of the errors of the same kind that come next, or None. With them the program has fewer
+    errors, or later ones."""
+    first = None
+    for _ in range(MOST_FIXES):
+        faults = [note for note in client.change(path, text) if note["severity"] == 1 and not note["message"].endswith(LATER)]
+        first = first or faults
+        actions = offered(client, path, faults[0]["range"])
+        if not actions:
+            return None
+        for edit in actions[0]["edit"]["changes"][path.as_uri()]:
             start, end = (place(text, edit["range"][side]) for side in ("start", "end"))
             text = text[:start] + edit["newText"] + text[end:]
         (room / "mended.cl").write_text(text)
         left = check(words.cool, [room / "mended.cl"])[room / "mended.cl"]
-        expect("fewer or later faults in %r" % text, not left or len(left) < len(faults) or left[0][1][0] != faults[0]["code"][0], True)
-        return text
-    return None
+        if not left or len(left) < len(first) or left[0][1][0] != first[0]["code"][0]:
+            return text
+    raise AssertionError("no fewer and no later errors in %r" % text)
 
 
 def typical_mistakes_are_mended(room, words):
