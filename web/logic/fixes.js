@@ -3,9 +3,12 @@
 
 const LETTERS_OF_FIXES = typeof module === "object" ? require("./bytes.js") : { byteLetters, textOfLetters };
 
-// The first fixes of these errors, from the last to the first, without those that overlap another one: the choice that cool_explain makes.
+// The first fixes of these errors, from the last to the first, without those that overlap another one, and each insertion once: the choice that cool_explain
+// makes.
 function separateFixes(faults) {
-    const chosen = [], isBefore = (one, other) => one.file < other.file || (one.file === other.file && one.end <= other.start);
+    const chosen = [];
+    const isSame = (one, other) => one.start === other.start && one.text === other.text;
+    const isBefore = (one, other) => one.file < other.file || (one.file === other.file && one.end <= other.start && !isSame(one, other));
     for (const { mends: [fix] } of [...faults].reverse()) if (fix && (chosen.length === 0 || isBefore(fix, chosen.at(-1)))) chosen.push(fix);
     return chosen;
 }

@@ -19,6 +19,7 @@ use Rattle.cool_guess.specs.declared.hint.Hint.TheVariants.{NewWithoutArguments,
 use Rattle.cool_guess.specs.declared.hint.Hint.TheVariants.{ArgumentsInParentheses, ArgumentForEachFormal, AttributeAlone, NoFieldAccess, AssignByMethod}
 use Rattle.cool_guess.specs.declared.hint.Hint.TheVariants.{NoMethodEquals, CompareWithZero, NumbersOnly, JoinStrings, PrintingMethods, NoTextOfInt, NoSwitch}
 use Rattle.cool_guess.specs.declared.hint.Hint.TheVariants.{EmptyBranch, NoPower, NameAssigned, NoShift, ReadingMethods, NoTypeParameters}
+use Rattle.cool_guess.specs.declared.hint.Hint.TheVariants.{IsvoidBefore, NoArgumentNames, NoFormattedStrings}
 
 abbrev pub hint_words : Hint → List ℕ
 hint_words ByteOrderMark = codes "save the file without a byte order mark"
@@ -49,6 +50,7 @@ hint_words OneSign = codes "write `<-`, `<=` and `=>` without a blank inside"
 hint_words NoAnd = codes "Cool has no `and` or `&&`: write `if a then b else false fi`"
 hint_words NoOr = codes "Cool has no `or` or `||`: write `if a then true else b fi`"
 hint_words NotBefore = codes "write `not` before the expression that it negates"
+hint_words IsvoidBefore = codes "write `isvoid` before the expression that it tests"
 hint_words NotWord = codes "write `not` instead of `!`"
 hint_words Negative = codes "write `~` for the minus sign of a negative number"
 hint_words NoRemainder = codes "Cool has no `%` or `mod`: write `a - a / b * b` for the remainder"
@@ -137,3 +139,5 @@ hint_words JoinStrings = codes "join strings with `a.concat(b)`"
 hint_words PrintingMethods = codes "print with `out_string` or `out_int` of class IO"
 hint_words ReadingMethods = codes "read with `in_string()` or `in_int()` of class IO"
 hint_words NoTextOfInt = codes "print a number with `out_int`: Cool has no method that turns an Int into a String"
+hint_words NoArgumentNames = codes "write the arguments without names, in the order of the formals"
+hint_words NoFormattedStrings = codes "print the parts one after the other, or join them with `concat`: a string has no values in it"

@@ -52,8 +52,6 @@ pub(crate) struct Candidates<'a> {
     pub(crate) all: Vec<Candidate>,
     /// Whether what is added is a guess.
     pub(crate) is_guess: bool,
-    /// The position of a name that nothing declares.
-    pub(crate) unknown: Option<usize>,
 }
 
 impl<'a> Candidates<'a> {
@@ -65,7 +63,6 @@ impl<'a> Candidates<'a> {
             lexemes,
             all: Vec::new(alloc),
             is_guess: false,
-            unknown: None,
         }
     }
 

@@ -34,6 +34,9 @@ const MOST_MODIFIERS: usize = 4;
 
 const MOST_VARIABLES: usize = 8;
 
+/// The most arguments of a call without parentheses.
+const MOST_APPLIED: usize = 8;
+
 /// The comparisons, which are not joined.
 static COMPARISONS: [&str; 3] = ["<", "<=", "="];
 
@@ -340,13 +343,15 @@ impl<'a> Candidates<'a> {
         self.put_three(said, first, second, third)
     }
 
-    /// `let x : T <- a; ..` in a block as `let x : T <- a in { .. };`, where the semicolon stands at a position.
+    /// `let x : T <- a; ..` in a block as `let x : T <- a in { .. };`, where the semicolon stands at a position, if more than the next expression uses the
+    /// name.
     fn add_let_statement(&mut self, index: usize) -> Result<(), AllocError> {
         let close = self.block_end(index);
-        let is_one = self.word(index) == b";".as_slice()
-            && self.begins_let(index)
-            && self.word(close) == b"}".as_slice();
-        if !is_one {
+        let is_one = self.word(index) == b";".as_slice() && self.word(close) == b"}".as_slice();
+        let Some(start) = self.let_before(index) else {
+            return Ok(());
+        };
+        if !is_one || !self.is_used_later(start.saturating_add(1), index, close) {
             return Ok(());
         }
         let semicolon = self.lexeme(index);
@@ -356,16 +361,32 @@ impl<'a> Candidates<'a> {
         self.put_two(Reason::Hinted(Hint::DeclareByLet), first, second)
     }
 
-    /// Whether the statement in front of the semicolon at a position begins with `let`, and has no `in`.
-    fn begins_let(&self, index: usize) -> bool {
+    /// The position of the `let` with which the statement in front of the semicolon at a position begins, if it has no `in`.
+    fn let_before(&self, index: usize) -> Option<usize> {
         for back in 1..LOOKED_FOR_LET {
             match self.word_before(index, back) {
                 b"let" => {
                     let before = self.word_before(index, back.saturating_add(1));
-                    return is_one_of(&BEFORE_FEATURES, before);
+                    let there = index.checked_sub(back)?;
+                    return if is_one_of(&BEFORE_FEATURES, before) {
+                        Some(there)
+                    } else {
+                        None
+                    };
                 }
-                b";" | b"{" | b"in" | b"" => return false,
+                b";" | b"{" | b"in" | b"" => return None,
                 _ => {}
+            }
+        }
+        None
+    }
+
+    /// Whether the name at a position stands behind the expression that follows the semicolon at another position, in front of the end of the block.
+    fn is_used_later(&self, name: usize, semicolon: usize, close: usize) -> bool {
+        let word = self.word(name);
+        for there in self.expression_end(semicolon.saturating_add(1))..close {
+            if self.word(there) == word {
+                return true;
             }
         }
         false
@@ -447,10 +468,28 @@ impl<'a> Candidates<'a> {
         if !self.is_method(self.text(last)) {
             return Ok(());
         }
+        self.put_applied(index)?;
         let first = self.splice(last.end, here.start, b"(")?;
         let second = self.splice(end, end, b")")?;
         let said = Reason::Hinted(Hint::ArgumentsInParentheses);
         self.put_two(said, first, second)
+    }
+
+    /// `f a b` as `f(a, b)`, where the first argument stands at a position.
+    fn put_applied(&mut self, index: usize) -> Result<(), AllocError> {
+        let open = self.splice(self.before(index, 1).end, self.lexeme(index).start, b"(")?;
+        let mut splices = vec![in self.alloc; open]?;
+        let mut behind = self.operand_end(index);
+        for _ in 1..MOST_APPLIED {
+            if kind_of(self.word(behind)) != Kind::Fixed {
+                let start = self.before(behind, 1).end;
+                splices.push(self.splice(start, self.lexeme(behind).start, b", ")?)?;
+                behind = self.operand_end(behind);
+            }
+        }
+        let end = self.before(behind, 1).end;
+        splices.push(self.splice(end, end, b")")?)?;
+        self.add(Reason::Hinted(Hint::ArgumentsInParentheses), splices)
     }
 
     /// Whether a word names a method: one of a basic class, or one that the text has.

@@ -150,47 +150,6 @@ fn best<'a>(alloc: Global, found: &[Fit<'a>]) -> Result<Vec<Fit<'a>>, AllocError
     Ok(all)
 }
 
-/// The most words around a place that are told.
-const MOST_AROUND: usize = 48;
-
-/// The names and constants, or the types where these are asked for, that stand nearest to a position, each once. Returns `Err` only if memory runs out.
-pub(crate) fn words_around<'a>(
-    alloc: Global,
-    bytes: &'a [u8],
-    lexemes: &[Lexeme],
-    index: usize,
-    is_type: bool,
-) -> Result<Vec<&'a [u8]>, AllocError> {
-    let mut all: Vec<&'a [u8]> = Vec::new(alloc);
-    for apart in 1..LOOKED_AROUND {
-        if all.len() >= MOST_AROUND {
-            break;
-        }
-        add_word(&mut all, word_before(bytes, lexemes, index, apart), is_type)?;
-        add_word(
-            &mut all,
-            word_at(bytes, lexemes, index.saturating_add(apart)),
-            is_type,
-        )?;
-    }
-    Ok(all)
-}
-
-/// Adds a word that is a type, or where none is asked for another name or constant, and is not there.
-fn add_word<'a>(all: &mut Vec<&'a [u8]>, word: &'a [u8], is_type: bool) -> Result<(), AllocError> {
-    let kind = kind_of(word);
-    if kind == Kind::Fixed || (kind == Kind::Type) != is_type || all.len() >= MOST_AROUND {
-        return Ok(());
-    }
-    for known in all.as_slice() {
-        if *known == word {
-            return Ok(());
-        }
-    }
-    all.push(word)?;
-    Ok(())
-}
-
 /// Whether a word is a keyword or a number, or stands in a text.
 pub(crate) fn is_known(bytes: &[u8], lexemes: &[Lexeme], word: &[u8]) -> bool {
     if is_keyword(word) || is_number(word) {

@@ -1,6 +1,7 @@
 //! Candidate fixes replace forms of other languages, such as `a and b`, by forms of Cool that mean the same.
 
 use crate::candidate::{Candidates, Reason};
+use crate::declarations::BEFORE_FEATURES;
 use crate::hint::Hint;
 use crate::kind::{Kind, is_one_of, kind_of};
 use crate::lexeme::{line_length, part};
@@ -71,6 +72,13 @@ impl<'a> Candidates<'a> {
             [b'_', name @ ..] => {
                 let said = Reason::Hinted(Hint::NoUnderscore);
                 self.put_at(said, self.lexeme(index), without_underscores(name))?
+            }
+            b"{" => self.add_parentheses(index)?,
+            b"isvoid" if last == b".".as_slice() => self.add_void_test(index)?,
+            b"=>" | b":" if self.is_argument(index) && kind_of(next) != Kind::Type => {
+                let start = self.before(index, 1).start;
+                let value = self.lexeme(index.saturating_add(1)).start;
+                self.put(Reason::Hinted(Hint::NoArgumentNames), start, value, b"")?
             }
             b"(" if self.word_before(index, 2) == b"new".as_slice() => self.add_new(index)?,
             b"(" if self.word_before(index, 2) == b"class".as_slice() => self.add_parent(index)?,
@@ -273,6 +281,28 @@ impl<'a> Candidates<'a> {
         self.put(Reason::Hinted(Hint::DotCalls), start, end, b".")
     }
 
+    /// `f : T { .. }` as `f() : T { .. }`, where the brace stands at a position.
+    fn add_parentheses(&mut self, index: usize) -> Result<(), AllocError> {
+        let name = self.before(index, 3);
+        let is_method = self.word_before(index, 2) == b":".as_slice()
+            && kind_of(self.text(name)) == Kind::Object
+            && is_one_of(&BEFORE_FEATURES, self.word_before(index, 4));
+        if is_method {
+            self.put(Reason::Edit, name.end, name.end, b"()")?;
+        }
+        Ok(())
+    }
+
+    /// `a.isvoid()` as `isvoid a`, where the `isvoid` stands at a position.
+    fn add_void_test(&mut self, index: usize) -> Result<(), AllocError> {
+        let dot = index.saturating_sub(1);
+        let start = self.operand_start(dot);
+        let text = self.joined(&[b"isvoid ", self.between(start, dot)])?;
+        let last = self.closing(index.saturating_add(1)).unwrap_or(index);
+        let said = Reason::Hinted(Hint::IsvoidBefore);
+        self.put(said, self.lexeme(start).start, self.lexeme(last).end, &text)
+    }
+
     /// `class A(B)` as `class A inherits B`.
     fn add_parent(&mut self, index: usize) -> Result<(), AllocError> {
         let parent = self.word(index.saturating_add(1));
@@ -341,6 +371,8 @@ impl<'a> Candidates<'a> {
             Kind::String => b"String",
             _ if matches!(word, b"true" | b"false") => b"Bool",
             _ if word == b"new".as_slice() => self.word(index.saturating_add(1)),
+            _ if word == b"in_string".as_slice() => b"String",
+            _ if word == b"in_int".as_slice() => b"Int",
             _ => b"",
         }
     }

@@ -62,6 +62,8 @@ pub enum Hint {
     NoOr,
     /// `not` behind its expression.
     NotBefore,
+    /// `isvoid` as a method.
+    IsvoidBefore,
     /// `!`.
     NotWord,
     /// `-` with one operand.
@@ -238,6 +240,10 @@ pub enum Hint {
     ReadingMethods,
     /// A number where a string is due.
     NoTextOfInt,
+    /// The name of a formal in front of an argument.
+    NoArgumentNames,
+    /// A string with values in it.
+    NoFormattedStrings,
 }
 
 /// The sentence of a hint.
@@ -275,6 +281,7 @@ pub fn hint_words(hint: Hint) -> &'static str
         Hint::NoAnd => "Cool has no `and` or `&&`: write `if a then b else false fi`",
         Hint::NoOr => "Cool has no `or` or `||`: write `if a then true else b fi`",
         Hint::NotBefore => "write `not` before the expression that it negates",
+        Hint::IsvoidBefore => "write `isvoid` before the expression that it tests",
         Hint::NotWord => "write `not` instead of `!`",
         Hint::Negative => "write `~` for the minus sign of a negative number",
         Hint::NoRemainder => "Cool has no `%` or `mod`: write `a - a / b * b` for the remainder",
@@ -391,5 +398,8 @@ pub fn hint_words(hint: Hint) -> &'static str
         Hint::ReadingMethods => "read with `in_string()` or `in_int()` of class IO",
         Hint::NoTextOfInt =>
             "print a number with `out_int`: Cool has no method that turns an Int into a String",
+        Hint::NoFormattedStrings =>
+            "print the parts one after the other, or join them with `concat`: a string has no values in it",
+        Hint::NoArgumentNames => "write the arguments without names, in the order of the formals",
     }
 }

@@ -32,7 +32,7 @@ pub use definition::other_definition;
 pub use excerpt::{Excerpt, Program};
 pub use hint::{Hint, hint_words};
 pub use lexeme::{Lexeme, index_at, lexeme_length, part};
-pub use meaning_guesses::{beside_candidates, meaning_candidates};
+pub use meaning_guesses::meaning_candidates;
 pub use other_words::{advice, is_advised, type_advice};
 pub use source::{Range, Source};
 pub use telling::{difference, reason_words};

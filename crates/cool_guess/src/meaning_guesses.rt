@@ -2,7 +2,7 @@
 
 use crate::candidate::{Candidate, Candidates, Reason};
 use crate::definition::{is_class, parent_around};
-use crate::fitting::fitting;
+use crate::excerpt::Program;
 use crate::hint::Hint;
 use crate::kind::{Kind, is_constant, is_number, is_one_of, is_type_name, kind_of};
 use crate::lexeme::Lexeme;
@@ -54,46 +54,19 @@ const LOOKED_ALONG: usize = 64;
 /// The number of lexemes in front of a name among which a `let` of it is looked for.
 const LOOKED_FOR_LET: usize = 400;
 
-/// The most words that are tried for a place beside a fault of typing.
-const MOST_BESIDE: usize = 6;
-
-/// The candidates for a fault of classes, features or typing at a position of a text, the likeliest first, among them no words that were found by what
-/// stands beside them. Returns `Err` only if memory runs out.
+/// The candidates for a fault of classes, features or typing at a position of the changed file of a program, the likeliest first. Returns `Err` only if
+/// memory runs out.
 pub fn meaning_candidates(
     alloc: Global,
-    sources: &[Source<'_>],
+    program: Program<'_>,
     fault: &Fault,
-    bytes: &[u8],
-    lexemes: &[Lexeme],
     index: usize,
 ) -> Result<Vec<Candidate>, AllocError> {
-    let mut found = Candidates::new(alloc, bytes, lexemes);
+    let mut found = Candidates::new(alloc, program.here.bytes, &program.here.lexemes);
     match fault {
-        Fault::Class(fault) => found.add_for_class(sources, fault.kind, index)?,
-        Fault::Typing(fault) => found.add_for_typing(sources, fault, index)?,
+        Fault::Class(fault) => found.add_for_class(program.sources, fault.kind, index)?,
+        Fault::Typing(fault) => found.add_for_typing(program, fault, index)?,
         _ => {}
-    }
-    let Candidates { all, .. } = found;
-    Ok(all)
-}
-
-/// The candidates for a fault of typing at a position of a text by what stands beside it, which are tried if no other one will do. Returns `Err` only if
-/// memory runs out.
-pub fn beside_candidates(
-    alloc: Global,
-    fault: &Fault,
-    bytes: &[u8],
-    lexemes: &[Lexeme],
-    index: usize,
-) -> Result<Vec<Candidate>, AllocError> {
-    let mut found = Candidates::new(alloc, bytes, lexemes);
-    if let Fault::Typing(fault) = fault {
-        if matches!(fault.kind, TypeKind::E1 | TypeKind::E4) {
-            found.unknown = Some(index);
-        }
-        if !matches!(fault.kind, TypeKind::E2 | TypeKind::E13) {
-            found.add_beside(index)?;
-        }
     }
     let Candidates { all, .. } = found;
     Ok(all)
@@ -126,28 +99,31 @@ impl<'a> Candidates<'a> {
     /// Adds the candidates for a fault of typing at a position.
     fn add_for_typing(
         &mut self,
-        sources: &[Source<'_>],
+        program: Program<'_>,
         fault: &TypeFault,
         index: usize,
     ) -> Result<(), AllocError> {
+        let sources = program.sources;
         match fault.kind {
             TypeKind::E1 => {
                 self.add_unknown(index)?;
                 self.add_call(sources, index)?;
                 self.add_near(sources, index)?;
-                if self.add_body_of_let(index)? {
-                    return Ok(());
+                if !self.add_body_of_let(index)? {
+                    self.add_attribute(program, index)?;
                 }
-                self.add_attribute(sources, index)
+                self.add_parted(index, 0)
             }
             TypeKind::E4 => {
                 self.add_heir(index)?;
                 self.add_calls(index)?;
-                self.add_near(sources, index)
+                self.add_near(sources, index)?;
+                self.add_parted(index, 0)
             }
             TypeKind::E5 => self.add_arguments(index),
             TypeKind::E11 => self.add_near_after(sources, index, 1),
-            TypeKind::E7 | TypeKind::E8 | TypeKind::E12 => {
+            TypeKind::E7 | TypeKind::E12 => self.add_own_class(index),
+            TypeKind::E8 => {
                 self.add_near_after(sources, index, 1)?;
                 self.add_types(sources, self.lexeme(index))
             }
@@ -196,46 +172,6 @@ impl<'a> Candidates<'a> {
                 }
             }
         }
-        Ok(())
-    }
-
-    /// Words that fit by those beside the fault, in the place of a lexeme and between two; and each lexeme taken out.
-    fn add_beside(&mut self, index: usize) -> Result<(), AllocError> {
-        for there in [
-            index,
-            index.saturating_add(1),
-            index.saturating_sub(1),
-            index.saturating_sub(2),
-        ] {
-            self.add_fitting(there)?;
-            self.add_parted(there, 0)?;
-        }
-        self.add_around(index, 0)?;
-        self.is_guess = true;
-        for there in [index, index.saturating_sub(1), index.saturating_add(1)] {
-            self.add_extra(there, 0)?;
-        }
-        self.is_guess = false;
-        Ok(())
-    }
-
-    /// Words that fit in the place of the lexeme at a position, and in front of it.
-    fn add_fitting(&mut self, index: usize) -> Result<(), AllocError> {
-        let here = self.lexeme(index);
-        let others = fitting(self.alloc, self.bytes, self.lexemes, index, true)?;
-        self.is_guess = true;
-        for fit in others.iter().take(MOST_BESIDE) {
-            if !is_constant(fit.word) {
-                self.put_at(Reason::Edit, here, fit.word)?;
-            }
-        }
-        let more = fitting(self.alloc, self.bytes, self.lexemes, index, false)?;
-        for fit in more.iter().take(MOST_BESIDE) {
-            if !is_constant(fit.word) {
-                self.insert(index, fit.word)?;
-            }
-        }
-        self.is_guess = false;
         Ok(())
     }
 
@@ -317,32 +253,52 @@ impl<'a> Candidates<'a> {
         Ok(())
     }
 
-    /// Whether several features of the class use the name at a position, and no other language has a word like it.
-    fn is_shared(&self, index: usize) -> Result<bool, AllocError> {
+    /// Whether several features of the class use the name at a position of a file and do not declare it, and no other language has a word like it.
+    fn is_shared(&self, here: &Source<'_>, index: usize) -> bool {
         let word = self.word(index);
         if is_foreign_word(word) {
-            return Ok(false);
+            return false;
         }
         let Some(class) = self.class_before(index) else {
-            return Ok(false);
+            return false;
         };
-        let here = Source::new(self.alloc, self.bytes)?;
         let at = self.lexeme(index).start;
         for there in class.saturating_add(1)..self.lexemes.len() {
             if is_class(self.word(there)) {
-                return Ok(false);
+                return false;
             }
             let is_it = self.word(there) == word && self.word_before(there, 1) != b".".as_slice();
-            if is_it && here.are_in_different_features(at, self.lexeme(there).start) {
-                return Ok(true);
+            let is_other = here.are_in_different_features(at, self.lexeme(there).start);
+            if is_it && is_other && !self.is_declared_in(here, there) {
+                return true;
             }
         }
-        Ok(false)
+        false
+    }
+
+    /// Whether the feature of a file in which a name stands at a position declares it, in front of that position or there.
+    fn is_declared_in(&self, here: &Source<'_>, index: usize) -> bool {
+        let at = self.lexeme(index).start;
+        for back in 0..index.saturating_add(1) {
+            let there = index.saturating_sub(back);
+            if is_class(self.word(there)) {
+                return false;
+            }
+            if here.are_in_different_features(at, self.lexeme(there).start) {
+                return false;
+            }
+            let is_it = self.word(there) == self.word(index)
+                && self.word(there.saturating_add(1)) == b":".as_slice();
+            if is_it {
+                return true;
+            }
+        }
+        false
     }
 
     /// An attribute of this name, in front of the features of the class.
-    fn add_attribute(&mut self, sources: &[Source<'_>], index: usize) -> Result<(), AllocError> {
-        if !self.is_shared(index)? {
+    fn add_attribute(&mut self, program: Program<'_>, index: usize) -> Result<(), AllocError> {
+        if !self.is_shared(program.here, index) {
             return Ok(());
         }
         let Some(class) = self.class_before(index) else {
@@ -350,7 +306,8 @@ impl<'a> Candidates<'a> {
         };
         for open in [class.saturating_add(2), class.saturating_add(4)] {
             if self.word(open) == b"{".as_slice() {
-                return self.put_attribute(sources, self.lexeme(open).end, self.word(index));
+                let at = self.lexeme(open).end;
+                return self.put_attribute(program.sources, at, self.word(index));
             }
         }
         Ok(())
@@ -405,28 +362,28 @@ impl<'a> Candidates<'a> {
         Ok(())
     }
 
-    /// Other arguments of the call at a position: one more that fits, at each place; or fewer, if those that go do nothing.
+    /// Fewer arguments of the call at a position, if those that go do nothing: without the last ones, without the first, and none.
     fn add_arguments(&mut self, index: usize) -> Result<(), AllocError> {
         let open = index.saturating_add(1);
         let Some(close) = self.closing(open) else {
             return Ok(());
         };
         let start = self.lexeme(open).end;
-        let said = Reason::Hinted(Hint::ArgumentForEachFormal);
-        for there in [open.saturating_add(1), close] {
-            let fits = fitting(self.alloc, self.bytes, self.lexemes, there, false)?;
-            self.is_guess = true;
-            for fit in fits.as_slice() {
-                self.insert(there, fit.word)?;
-            }
-            self.add_around(there, 0)?;
-        }
         let end = self.lexeme(close).start;
+        let said = Reason::Hinted(Hint::ArgumentForEachFormal);
+        let mut first = close;
         for back in 1..close.saturating_sub(open) {
             let comma = close.saturating_sub(back);
-            if self.word(comma) == b",".as_slice() && !self.may_act(comma, close) {
-                self.put(said, self.lexeme(comma).start, end, b"")?;
+            if self.word(comma) == b",".as_slice() {
+                first = comma;
+                if !self.may_act(comma, close) {
+                    self.put(said, self.lexeme(comma).start, end, b"")?;
+                }
             }
+        }
+        if first < close && !self.may_act(open, first) {
+            let second = self.lexeme(first.saturating_add(1)).start;
+            self.put(said, start, second, b"")?;
         }
         if self.may_act(open, close) {
             return Ok(());

@@ -33,7 +33,7 @@ pub(crate) static PAIRS: [(&str, &str, &str, Hint); 25] = [
 ];
 
 /// A lexeme at the fault or before it, what stands in its place, and what is said of it. The likeliest come first.
-pub(crate) static WORDS: [(&str, &str, Hint); 45] = [
+pub(crate) static WORDS: [(&str, &str, Hint); 50] = [
     ("=", "<-", Hint::ArrowAssigns),
     ("<-", "=>", Hint::BranchArrow),
     ("<-", "=", Hint::EqualsCompares),
@@ -44,6 +44,8 @@ pub(crate) static WORDS: [(&str, &str, Hint); 45] = [
     ("extends", "inherits", Hint::InheritsWord),
     (":", "inherits", Hint::InheritsWord),
     ("do", "loop", Hint::LoopWord),
+    ("begin", "{", Hint::BlockOfSeveral),
+    ("end", "}", Hint::BlockOfSeveral),
     ("end", "pool", Hint::PoolEnds),
     ("end", "fi", Hint::FiEnds),
     ("end", "esac", Hint::EsacEnds),
@@ -71,8 +73,11 @@ pub(crate) static WORDS: [(&str, &str, Hint); 45] = [
     ("protected", "", Hint::NoAccessModifiers),
     ("static", "", Hint::NoModifiers),
     ("override", "", Hint::NoOverride),
+    ("final", "let", Hint::DeclareByLet),
     ("final", "", Hint::NoModifiers),
+    ("const", "let", Hint::DeclareByLet),
     ("const", "", Hint::NoModifiers),
+    ("mut", "", Hint::NoModifiers),
     ("void", "", Hint::ResultType),
     ("let", "", Hint::AttributeWithoutLet),
     ("True", "true", Hint::TruthInSmallLetters),
@@ -112,7 +117,7 @@ pub(crate) static TYPES: [(&str, &str); 17] = [
 ];
 
 /// Names that other languages have for methods and variables, and those of Cool.
-pub(crate) static NAMES: [(&str, &str); 17] = [
+pub(crate) static NAMES: [(&str, &str); 21] = [
     ("this", "self"),
     ("print", "out_string"),
     ("println", "out_string"),
@@ -128,6 +133,10 @@ pub(crate) static NAMES: [(&str, &str); 17] = [
     ("append", "concat"),
     ("readLine", "in_string"),
     ("read", "in_int"),
+    ("input", "in_string"),
+    ("input", "in_int"),
+    ("nextLine", "in_string"),
+    ("nextInt", "in_int"),
     ("exit", "abort"),
     ("clone", "copy"),
 ];

@@ -2,31 +2,35 @@
 
 use crate::candidate::{Candidate, Candidates, Reason, Splice, begins_word, ends_word};
 use crate::declarations::BEFORE_FEATURES;
+use crate::extents::{begins_expression, closes};
 use crate::hint::Hint;
-use crate::kind::{Kind, is_constant, is_number, is_one_of, kind_of};
+use crate::kind::{Kind, is_constant, is_name, is_number, is_one_of, kind_of};
 use crate::lexeme::{index_at, part};
 use crate::nearness::are_near;
 use crate::signs::{ADVICE, HEADS, TYPES};
-
-/// Words that stand in front of an expression, and `self`: no name is meant for them unless it is near.
-static UNLIKE_NAMES: [&str; 5] = ["isvoid", "not", "new", "~", "self"];
 
 /// Signs that other languages join to longer ones, as `<<` and `**`.
 static JOINED: [&str; 14] = [
     "+", "-", "*", "/", "<", ">", "=", "!", "&", "|", "?", "^", "%", ":",
 ];
 
-/// Signs whose operands are not the same.
-static DIFFERING: [&str; 6] = ["<-", "-", "/", "=", "<", "<="];
+/// The constants of Bool.
+static TRUTHS: [&str; 2] = ["true", "false"];
+
+/// Operators and signs that join two parts of an expression.
+static JOINING: [&str; 9] = ["+", "-", "*", "/", "<", "<=", "=", ".", "@"];
+
+/// Operators: which one is missing, cannot be told.
+static OPERATORS: [&str; 10] = ["+", "-", "*", "/", "<", "<=", "=", "isvoid", "not", "~"];
+
+/// Signs of other languages right beside their operand.
+static OPERATING: [&str; 6] = ["#", "&", "!", "^", "?", "%"];
+
+/// The letters right in front of a string with values in it, in other languages.
+static BEFORE_STRINGS: [&str; 3] = ["f", "s", "$"];
 
 /// The words in front of a branch or body.
 static BEFORE_BRANCHES: [&str; 3] = ["then", "else", "loop"];
-
-/// The words behind a branch or body.
-static BEHIND_BRANCHES: [&str; 3] = ["else", "fi", "pool"];
-
-/// The most letters of a short name, for which another one is meant more often.
-const LETTERS_OF_SHORT: usize = 2;
 
 /// The number of lexemes in front of a `fi` among which its `else` is looked for.
 const LOOKED_FOR_ELSE: usize = 400;
@@ -35,30 +39,33 @@ const LOOKED_FOR_ELSE: usize = 400;
 const LOOKED_FOR_HEAD: usize = 60;
 
 impl<'a> Candidates<'a> {
-    /// Whether a candidate that has no hint takes away a call, a type or a constant, parts a sign of another language, makes a comment, or makes up a
-    /// branch: the rest may be legal, but is not meant. Nor are parts of such a sign exchanged.
+    /// Whether a candidate that has no hint takes away a call, a type, a constant or an operator, parts a sign of another language, makes a comment, or makes
+    /// up a name, a type or a value: the rest may be legal, but is not meant. Nor are parts of such a sign exchanged.
     pub(crate) fn is_silly(&self, candidate: &Candidate) -> bool {
         let is_exchange = matches!(candidate.reason, Reason::Hinted(Hint::Exchanged));
         if matches!(candidate.reason, Reason::Hinted(_)) && !is_exchange {
             return false;
         }
         for splice in candidate.splices.as_slice() {
-            if self.parts_sign(splice) || (!is_exchange && self.is_other_name(splice)) {
-                return true;
-            }
-            let is_made_up = self.makes_comment(splice)
-                || self.makes_branch(splice)
-                || self.makes_class(splice)
-                || self.makes_word(splice)
-                || self.makes_same(splice);
-            if !is_exchange && is_made_up {
-                return true;
-            }
-            if !is_exchange && splice.start < splice.end && self.takes_meaning(splice) {
+            if self.parts_sign(splice) || (!is_exchange && self.is_unmeant(splice)) {
                 return true;
             }
         }
         false
+    }
+
+    /// Whether a splice makes up a name, a type, a value, an operator or a comment, joins what stands apart, or takes away what has a meaning.
+    fn is_unmeant(&self, splice: &Splice) -> bool {
+        self.makes_up(splice)
+            || self.makes_operator(splice)
+            || self.makes_comment(splice)
+            || self.makes_class(splice)
+            || self.makes_type(splice)
+            || self.makes_lone_name(splice)
+            || self.makes_word(splice)
+            || self.joins_words(splice)
+            || self.joins_lines(splice)
+            || (splice.start < splice.end && self.takes_meaning(splice))
     }
 
     /// Whether a splice changes one part of a sign of another language, and not the other, or puts something between both.
@@ -91,14 +98,66 @@ impl<'a> Candidates<'a> {
             && begins_word(behind)
     }
 
-    /// Whether a splice makes up the second operand of a sign that gives nothing new of two that are the same, as `x <- x` and `x - x`.
-    fn makes_same(&self, splice: &Splice) -> bool {
-        let index = index_at(self.lexemes, splice.start);
+    /// Whether a splice makes up a name, a type or a constant: where nothing stands, or in the place of a keyword or a sign.
+    fn makes_up(&self, splice: &Splice) -> bool {
         let word = splice.text.trim_ascii();
-        splice.start == splice.end
-            && kind_of(word) != Kind::Fixed
-            && word == self.word_before(index, 2)
-            && is_one_of(&DIFFERING, self.word_before(index, 1))
+        let old = part(self.bytes, splice.start, splice.end);
+        let is_value = is_name(word) || is_constant(word) || is_one_of(&TRUTHS, word);
+        is_value && !has_blank(word) && kind_of(old) == Kind::Fixed
+    }
+
+    /// Whether a splice makes an assignment to what no declaration names, or of a block; or a call of a method of what none names, in the next line, or of
+    /// a block.
+    fn joins_words(&self, splice: &Splice) -> bool {
+        let index = index_at(self.lexemes, splice.start);
+        let name = self.word_before(index, 1);
+        let next = self.lexeme(index);
+        let is_unknown = kind_of(name) == Kind::Object
+            && name != b"self".as_slice()
+            && !self.is_declared(name);
+        if splice.start < splice.end {
+            return false;
+        }
+        match splice.text.trim_ascii() {
+            b"<-" => is_unknown || self.text(next) == b"{".as_slice(),
+            b"." => is_unknown || part(self.bytes, splice.start, next.start).contains(&b'\n'),
+            b"}" => self.text(next) == b".".as_slice(),
+            _ => false,
+        }
+    }
+
+    /// Whether a declaration of a variable, a formal or an attribute names a word.
+    fn is_declared(&self, name: &[u8]) -> bool {
+        for index in 0..self.lexemes.len() {
+            if self.word(index) == name && self.word(index.saturating_add(1)) == b":".as_slice() {
+                return true;
+            }
+        }
+        false
+    }
+
+    /// Whether a splice makes a statement of a lone name, with the next statement in the same line.
+    fn makes_lone_name(&self, splice: &Splice) -> bool {
+        let index = index_at(self.lexemes, splice.start);
+        let next = self.lexeme(index);
+        let between = part(self.bytes, splice.start, next.start);
+        splice.text.trim_ascii() == b";".as_slice()
+            && kind_of(self.text(next)) != Kind::Fixed
+            && !between.contains(&b'\n')
+            && is_name(self.word_before(index, 1))
+            && is_one_of(&BEFORE_FEATURES, self.word_before(index, 2))
+    }
+
+    /// Whether a splice makes up the type of a branch of `case`, or makes a declaration of an assignment to what is declared already.
+    fn makes_type(&self, splice: &Splice) -> bool {
+        let index = index_at(self.lexemes, splice.start);
+        let is_statement = is_one_of(&BEFORE_FEATURES, self.word_before(index, 2));
+        let is_typed = match self.word(index) {
+            b"=>" => true,
+            b"<-" => is_statement && self.is_declared(self.word_before(index, 1)),
+            _ => false,
+        };
+        is_typed && matches!(splice.text.trim_ascii(), [b':', ..])
     }
 
     /// Whether a splice puts `new` in front of a name that no type has in the text.
@@ -107,32 +166,6 @@ impl<'a> Candidates<'a> {
         splice.text.trim_ascii() == b"new".as_slice()
             && kind_of(word) == Kind::Type
             && !self.is_used_as_type(word)
-    }
-
-    /// Whether a splice puts a name that is not like it in the place of one that nothing declares.
-    fn is_other_name(&self, splice: &Splice) -> bool {
-        let Some(index) = self.unknown else {
-            return false;
-        };
-        let here = self.lexeme(index);
-        let name = self.text(here);
-        let word = splice.text.trim_ascii();
-        splice.start == here.start
-            && splice.end == here.end
-            && kind_of(word) == Kind::Object
-            && !are_near(name, word)
-            && (name.len() > LETTERS_OF_SHORT || word.len() > LETTERS_OF_SHORT)
-    }
-
-    /// Whether a splice makes up a name or a constant as a branch of an `if`, or as the body of a `while`.
-    fn makes_branch(&self, splice: &Splice) -> bool {
-        let index = index_at(self.lexemes, splice.start);
-        let word = splice.text.trim_ascii();
-        let is_value = kind_of(word) != Kind::Fixed || matches!(word, b"true" | b"false");
-        splice.start == splice.end
-            && is_value
-            && is_one_of(&BEFORE_BRANCHES, self.word_before(index, 1))
-            && is_one_of(&BEHIND_BRANCHES, self.word(index))
     }
 
     /// Whether a splice puts a `-` beside another one, so that a comment begins.
@@ -146,44 +179,104 @@ impl<'a> Candidates<'a> {
         }
     }
 
-    /// Whether a splice takes away a call or a type and puts no other name in its place, or takes away a constant, or puts another word in the place of a
-    /// name.
+    /// Whether a splice takes away a name, a constant or an operator, or puts something in the place of a name that is not like it.
     fn takes_meaning(&self, splice: &Splice) -> bool {
         let text = splice.text.trim_ascii();
-        let new = kind_of(text);
         for index in index_at(self.lexemes, splice.start)..self.lexemes.len() {
             let lexeme = self.lexeme(index);
             if lexeme.start >= splice.end {
                 return false;
             }
-            let old = self.text(lexeme);
             let is_whole = lexeme.start >= splice.start && lexeme.end <= splice.end;
-            if is_whole && self.has_meaning(index) && new != kind_of(old) {
-                return true;
-            }
-            let is_lone = self.is_lone_constant(index)
-                || (old == b"<-".as_slice() && !self.is_doubled(index));
-            if is_whole && text.is_empty() && is_lone {
-                return true;
-            }
-            if is_whole && (is_unlike(old, text) || (is_foreign_word(old) && new != Kind::Type)) {
+            if is_whole && self.loses(index, text) {
                 return true;
             }
         }
         false
     }
 
-    /// Whether the name of a call or a type stands at a position, and does not stand twice.
-    fn has_meaning(&self, index: usize) -> bool {
-        let word = self.word(index);
-        let next = self.word(index.saturating_add(1));
-        let is_call = kind_of(word) == Kind::Object && next == b"(".as_slice();
-        (is_call || kind_of(word) == Kind::Type) && !self.is_doubled(index)
+    /// Whether the program loses what the lexeme at a position means if a text stands in its place.
+    fn loses(&self, index: usize, text: &[u8]) -> bool {
+        let old = self.word(index);
+        if text.is_empty() {
+            return self.is_lone_operator(index)
+                || self.is_operating(index)
+                || self.begins_part(index)
+                || (kind_of(old) != Kind::Fixed && !self.may_go(index));
+        }
+        let is_self = old == b"this".as_slice() && text == b"self".as_slice();
+        let is_call = self.is_call(index) || kind_of(old) == Kind::Type;
+        let is_kept = kind_of(text) != Kind::Fixed && (!is_call || kind_of(text) == kind_of(old));
+        let is_sign = old == b"<-".as_slice() || is_one_of(&OPERATORS, old);
+        let has_meaning = kind_of(old) != Kind::Fixed || is_sign;
+        has_meaning && !is_kept && !is_self && !are_near(old, text)
     }
 
-    /// Whether a constant stands at a position, and does not stand twice.
-    fn is_lone_constant(&self, index: usize) -> bool {
-        is_constant(self.word(index)) && !self.is_doubled(index)
+    /// Whether the begin of a part of a class that has none without it stands at a position: `inherits`, `<-`, or the brace of a method's body.
+    fn begins_part(&self, index: usize) -> bool {
+        let last = self.word_before(index, 1);
+        match self.word(index) {
+            b"inherits" | b"<-" => !self.is_doubled(index),
+            b"{" => kind_of(last) == Kind::Type && self.word_before(index, 2) == b":".as_slice(),
+            _ => false,
+        }
+    }
+
+    /// Whether an operator stands at a position, no `+` in front of a lone operand, and no other operator beside it.
+    fn is_lone_operator(&self, index: usize) -> bool {
+        let word = self.word(index);
+        let last = self.word_before(index, 1);
+        let is_operator = is_one_of(&JOINING, word) || is_one_of(&OPERATORS, word);
+        is_operator
+            && (word != b"+".as_slice() || ends_operand(last))
+            && !is_one_of(&JOINING, last)
+            && !is_one_of(&JOINING, self.word(index.saturating_add(1)))
+            && !self.is_doubled(index)
+    }
+
+    /// Whether a sign of another language stands at a position, right beside its operand.
+    fn is_operating(&self, index: usize) -> bool {
+        let here = self.lexeme(index);
+        let next = self.lexeme(index.saturating_add(1));
+        let last = self.before(index, 1);
+        is_one_of(&OPERATING, self.text(here))
+            && ((kind_of(self.text(next)) != Kind::Fixed && next.start == here.end)
+                || (ends_operand(self.text(last)) && last.end == here.start))
+    }
+
+    /// Whether a word that may be one too many stands at a position: one that stands twice, or one in front of a definition, as `virtual f() : T`.
+    fn may_go(&self, index: usize) -> bool {
+        let next = index.saturating_add(1);
+        let behind = index.saturating_add(2);
+        let is_definition = self.word(behind) == b":".as_slice()
+            || self.closing(behind).is_some_and(|close| self.word(close.saturating_add(1))
+                == b":".as_slice());
+        self.is_doubled(index)
+            || (kind_of(self.word(index)) == Kind::Object
+                && is_one_of(&BEFORE_FEATURES, self.word_before(index, 1))
+                && kind_of(self.word(next)) == Kind::Object
+                && is_definition)
+    }
+
+    /// Whether a splice makes up an operator that is not like what stands in its place, and completes no `<-`.
+    fn makes_operator(&self, splice: &Splice) -> bool {
+        let word = splice.text.trim_ascii();
+        let old = part(self.bytes, splice.start, splice.end);
+        let in_front = part(self.bytes, splice.start.saturating_sub(1), splice.start);
+        let is_arrow = splice.text.as_slice() == b"-".as_slice() && in_front == b"<".as_slice();
+        is_one_of(&OPERATORS, word) && !is_arrow && !are_near(old, word)
+    }
+
+    /// Whether a splice joins two lines by taking away the semicolon between them, or by another text in its place than one of a `let`.
+    fn joins_lines(&self, splice: &Splice) -> bool {
+        let old = part(self.bytes, splice.start, splice.end);
+        let next = self.lexeme(index_at(self.lexemes, splice.end));
+        let last = self.word_before(index_at(self.lexemes, splice.start), 1);
+        !matches!(splice.text.trim_ascii(), b"in" | b",")
+            && old.trim_ascii() == b";".as_slice()
+            && !begins_expression(last)
+            && part(self.bytes, splice.end, next.start).contains(&b'\n')
+            && !closes(self.text(next))
     }
 
     /// Whether the lexeme at a position stands twice.
@@ -221,6 +314,9 @@ impl<'a> Candidates<'a> {
         if is_other_number(self.word(index)) {
             return Some(Hint::DigitsOnly);
         }
+        if self.is_formatted(index) {
+            return Some(Hint::NoFormattedStrings);
+        }
         let is_decimal = self.word_before(index, 1) == b".".as_slice()
             && is_number(self.word(index))
             && is_number(self.word_before(index, 2));
@@ -228,6 +324,14 @@ impl<'a> Candidates<'a> {
             return Some(Hint::NoDecimals);
         }
         None
+    }
+
+    /// Whether a string with a letter right in front of it stands at a position, as `f"n = {n}"`.
+    fn is_formatted(&self, index: usize) -> bool {
+        let last = self.before(index, 1);
+        kind_of(self.word(index)) == Kind::String
+            && is_one_of(&BEFORE_STRINGS, self.text(last))
+            && last.end == self.lexeme(index).start
     }
 
     /// The hint on a statement of another language whose head in parentheses stands around a position or in front of it, as `for (..)`.
@@ -352,8 +456,14 @@ impl<'a> Candidates<'a> {
             || is_return
             || is_let
             || is_foreign
+            || self.lacks_type(index.saturating_sub(1))
             || self.is_declaration(index)
             || self.is_value_assigned(index)
+    }
+
+    /// Whether a variable is declared at a position without a type, and with a value whose type cannot be seen, as `var x <- f();`.
+    fn lacks_type(&self, index: usize) -> bool {
+        self.is_untyped(index) && self.type_of_value(index.saturating_add(3)).is_empty()
     }
 
     /// Whether a statement begins with a value in front of the `<-` at a position, as `5 <- x;`.
@@ -397,12 +507,9 @@ fn is_other_number(word: &[u8]) -> bool {
     false
 }
 
-/// Whether a text in the place of a name is one that no such name is meant for.
-fn is_unlike(name: &[u8], text: &[u8]) -> bool {
-    kind_of(name) == Kind::Object
-        && name != b"this".as_slice()
-        && is_one_of(&UNLIKE_NAMES, text)
-        && !are_near(name, text)
+/// Whether an operand may end with a word.
+fn ends_operand(word: &[u8]) -> bool {
+    kind_of(word) != Kind::Fixed || closes(word)
 }
 
 /// Whether a word or sign of another language has a hint, and so is meant; `this` is `self`.
@@ -423,6 +530,11 @@ fn is_statement_word(word: &[u8]) -> bool {
         }
     }
     is_foreign_word(word)
+}
+
+/// Whether a blank stands in a word.
+fn has_blank(word: &[u8]) -> bool {
+    kind_of(word) != Kind::String && word.contains(&b' ')
 }
 
 /// Whether a word is a byte that begins no lexeme of Cool.

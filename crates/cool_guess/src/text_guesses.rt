@@ -2,7 +2,7 @@
 
 use crate::candidate::{Candidate, Candidates, Reason, ends_word, is_blank};
 use crate::extents::{begins_expression, closes, opens};
-use crate::fitting::{fitting, is_known, words_around};
+use crate::fitting::{fitting, is_known};
 use crate::forms::wants_type;
 use crate::hint::Hint;
 use crate::kind::{KEYWORDS, Kind, is_constant, is_one_of, kind_of};
@@ -25,9 +25,8 @@ static PIECES: [&str; 18] = [
 ];
 
 /// The words that are tried after these: such an edit is told only if it makes the files a program.
-static GUESSES: [&str; 24] = [
-    "=", "+", "<", "-", "*", "/", "<=", "@", "let", "if", "while", "case", "new", "not", "isvoid",
-    "~", "inherits", "class", "self", "Int", "String", "Bool", "Object", "IO",
+static GUESSES: [&str; 8] = [
+    "@", "let", "if", "while", "case", "new", "inherits", "class",
 ];
 
 /// Several at once.
@@ -62,10 +61,13 @@ const LOOKED_BACK: usize = 4;
 const LOOKED_FAR: usize = 40;
 
 /// The signs that may be missing in the middle of a word that is two.
-static PARTING: [&str; 10] = [" ", "(", ".", ", ", " : ", "; ", ") ", " + ", " - ", " = "];
+static PARTING: [&str; 4] = [" ", "(", ".", ", "];
 
 /// The longest words that are parted.
 const MOST_LETTERS: usize = 40;
+
+/// The most lines of a comment at whose end its end is looked for.
+const MOST_COMMENT_LINES: usize = 24;
 
 /// The most braces, words and signs of a line that a string may have swallowed.
 const MOST_SWALLOWED: usize = 6;
@@ -117,8 +119,6 @@ impl<'a> Candidates<'a> {
         for back in 0..LOOKED_BACK {
             self.add_parted(index, back)?;
         }
-        self.add_around(index, 0)?;
-        self.add_around(index, 1)?;
         self.add_phrases(index)?;
         for back in 1..LOOKED_BACK {
             self.add_extra(index, back)?;
@@ -191,7 +191,7 @@ impl<'a> Candidates<'a> {
     }
 
     /// Whether a name in front of the sign at a position is the begin of an argument.
-    fn is_argument(&self, index: usize) -> bool {
+    pub(crate) fn is_argument(&self, index: usize) -> bool {
         kind_of(self.word_before(index, 1)) == Kind::Object
             && is_one_of(&BEFORE_ARGUMENTS, self.word_before(index, 2))
     }
@@ -206,12 +206,7 @@ impl<'a> Candidates<'a> {
                 self.add_comment(index.saturating_add(1))
             }
             (_, b"(") if self.word(index.saturating_add(1)) == b"*".as_slice() => {
-                let line = line_length(part(self.bytes, here.start, self.bytes.len()));
-                let stop = here.start.saturating_add(line);
-                let said = Reason::Hinted(Hint::CommentNotClosed);
-                self.put(said, stop, stop, b" *)")?;
-                let end = self.bytes.len();
-                self.put(said, end, end, b" *)\n")
+                self.add_comment_end(here.start)
             }
             (_, b"*") if self.word(index.saturating_add(1)) == b")".as_slice() => {
                 let said = Reason::Hinted(Hint::CommentNotOpen);
@@ -219,6 +214,35 @@ impl<'a> Candidates<'a> {
             }
             _ => Ok(()),
         }
+    }
+
+    /// The end of a comment that begins at a byte: at the end of its line, or of one of the next lines up to a class; if no class is behind it, at the
+    /// end of the file.
+    fn add_comment_end(&mut self, start: usize) -> Result<(), AllocError> {
+        let said = Reason::Hinted(Hint::CommentNotClosed);
+        let mut stop = start;
+        for _ in 0..MOST_COMMENT_LINES {
+            let line = part(self.bytes, stop, self.bytes.len());
+            let end = stop.saturating_add(line_length(line));
+            self.put(said, end, end, b" *)")?;
+            stop = end.saturating_add(1);
+            match part(self.bytes, stop, self.bytes.len()) {
+                [
+                    b'c' | b'C',
+                    b'l' | b'L',
+                    b'a' | b'A',
+                    b's' | b'S',
+                    b's' | b'S',
+                    b' ',
+                    ..
+                ] => {
+                    return Ok(());
+                }
+                [] => return Ok(()),
+                _ => {}
+            }
+        }
+        Ok(())
     }
 
     /// `/* .. */` as `(* .. *)`.
@@ -271,7 +295,7 @@ impl<'a> Candidates<'a> {
         self.put_ours(here, &TYPES)?;
         let mut text = Vec::from_slice(self.alloc, word)?;
         let said = match (kind_of(word), text.first_mut()) {
-            (Kind::Object, Some(first)) => {
+            (Kind::Object, Some(first)) if !self.is_call(index) => {
                 *first = first.to_ascii_uppercase();
                 Reason::Hinted(Hint::CapitalLetter)
             }
@@ -282,17 +306,26 @@ impl<'a> Candidates<'a> {
             _ => return Ok(()),
         };
         let next = self.word(index.saturating_add(1));
-        let is_defined = matches!(next, b":" | b"(") || kind_of(word) == Kind::Object;
+        let is_defined = next == b":".as_slice()
+            || kind_of(word) == Kind::Object
+            || (next == b"(".as_slice() && !self.is_used_as_type(word));
         if is_defined || self.has_word(&text) {
             self.put_at(said, here, &text)?;
         }
         Ok(())
     }
 
-    /// Keywords near to the lexeme at the fault and to the one before it, and `new C()`.
+    /// Keywords near to the lexeme at the fault and to the one before it, and `letx :` as `let x :`.
     fn add_keywords(&mut self, index: usize) -> Result<(), AllocError> {
         self.put_near(self.lexeme(index), &KEYWORDS)?;
-        self.put_near(self.before(index, 1), &KEYWORDS)
+        self.put_near(self.before(index, 1), &KEYWORDS)?;
+        if self.word(index) == b":".as_slice() {
+            if let [b'l', b'e', b't', b'a'..=b'z', ..] = self.word_before(index, 1) {
+                let at = self.before(index, 1).start.saturating_add(3);
+                self.put(Reason::Edit, at, at, b" ")?;
+            }
+        }
+        Ok(())
     }
 
     /// The words of a table that are near to a lexeme.
@@ -409,19 +442,15 @@ impl<'a> Candidates<'a> {
         Ok(text)
     }
 
-    /// Words that may be missing in front of the lexeme so many before the fault.
+    /// Keywords and signs that may be missing in front of the lexeme so many before the fault.
     fn add_missing(&mut self, index: usize, back: usize) -> Result<(), AllocError> {
         let Some(there) = index.checked_sub(back) else {
             return Ok(());
         };
         let fits = fitting(self.alloc, self.bytes, self.lexemes, there, false)?;
         for fit in fits.as_slice() {
-            self.is_guess = kind_of(fit.word) != Kind::Fixed;
-            if !is_value(fit.word) {
-                self.insert(there, fit.word)?;
-            }
+            self.insert(there, fit.word)?;
         }
-        self.is_guess = false;
         self.insert_each(there, &PIECES)?;
         self.is_guess = true;
         self.insert_each(there, &GUESSES)?;
@@ -482,7 +511,7 @@ impl<'a> Candidates<'a> {
         Ok(())
     }
 
-    /// Words that may be meant in the place of the lexeme so many before the fault.
+    /// Keywords and signs that may be meant in the place of the lexeme so many before the fault.
     fn add_others(&mut self, index: usize, back: usize) -> Result<(), AllocError> {
         let Some(there) = index.checked_sub(back) else {
             return Ok(());
@@ -493,37 +522,11 @@ impl<'a> Candidates<'a> {
         }
         let fits = fitting(self.alloc, self.bytes, self.lexemes, there, true)?;
         self.is_guess = true;
-        let is_free = kind_of(self.text(here)) != Kind::Fixed;
         for fit in fits.as_slice() {
-            if is_free || !is_constant(fit.word) {
-                self.put_at(Reason::Edit, here, fit.word)?;
-            }
+            self.put_at(Reason::Edit, here, fit.word)?;
         }
         self.put_each(Reason::Edit, here, &PIECES)?;
         self.put_each(Reason::Edit, here, &GUESSES)?;
-        self.is_guess = false;
-        Ok(())
-    }
-
-    /// Names and constants that stand nearby, in front of the lexeme so many before the fault, and in its place.
-    pub(crate) fn add_around(&mut self, index: usize, back: usize) -> Result<(), AllocError> {
-        let Some(there) = index.checked_sub(back) else {
-            return Ok(());
-        };
-        let here = self.lexeme(there);
-        let is_type = wants_type(self.word_before(there, 1));
-        let words = words_around(self.alloc, self.bytes, self.lexemes, there, is_type)?;
-        self.is_guess = true;
-        for word in words.as_slice() {
-            if !is_value(word) {
-                self.insert(there, word)?;
-            }
-        }
-        for word in words.as_slice() {
-            if !is_constant(word) {
-                self.put_at(Reason::Edit, here, word)?;
-            }
-        }
         self.is_guess = false;
         Ok(())
     }
@@ -532,28 +535,20 @@ impl<'a> Candidates<'a> {
     pub(crate) fn add_parted(&mut self, index: usize, back: usize) -> Result<(), AllocError> {
         let here = self.before(index, back);
         let word = self.text(here);
+        self.is_guess = true;
         for length in 1..word.len().min(MOST_LETTERS) {
             let (front, behind) = word.split_at(length);
             if is_known(self.bytes, self.lexemes, front)
                 && is_known(self.bytes, self.lexemes, behind)
             {
                 let place = here.start.saturating_add(length);
-                self.put_parts(place, here.end)?;
+                let middle = Lexeme {
+                    start: place,
+                    end: place,
+                };
+                self.put_each(Reason::Edit, middle, &PARTING)?;
             }
         }
-        Ok(())
-    }
-
-    /// Signs that may be missing at a byte in the middle of a word, or be meant in the place of the rest of it.
-    fn put_parts(&mut self, place: usize, end: usize) -> Result<(), AllocError> {
-        self.is_guess = true;
-        let middle = Lexeme {
-            start: place,
-            end: place,
-        };
-        self.put_each(Reason::Edit, middle, &PARTING)?;
-        let rest = Lexeme { start: place, end };
-        self.put_each(Reason::Edit, rest, &PARTING)?;
         self.is_guess = false;
         Ok(())
     }
@@ -577,11 +572,6 @@ impl<'a> Candidates<'a> {
 /// Whether a word belongs to what stands behind it.
 fn is_opener(word: &[u8]) -> bool {
     is_one_of(&OPENERS, word)
-}
-
-/// Whether a word is a constant: no value is made up where one is missing.
-fn is_value(word: &[u8]) -> bool {
-    is_constant(word) || matches!(word, b"true" | b"false" | b"self")
 }
 
 /// Whether a byte is a sign that stands right behind a word.

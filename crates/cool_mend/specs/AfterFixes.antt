@@ -50,13 +50,13 @@ origin_of shifts f = let at = place_of f in record { file = at.file; byte = firs
 
 -- Faults that are told after fixes
 
--- the faults that come from other places than these
 abbrev pub is_same : Origin → Origin → Bool
 is_same a b = nat_eq a.file b.file && nat_eq a.byte b.byte
 
 abbrev pub is_new : List Origin → List Shift → Fault → Bool
 is_new told shifts f = not (list_any (is_same (origin_of shifts f)) told)
 
+-- the faults that come from other places than these
 abbrev pub new_faults : List Origin → List Shift → List Fault → List Fault
 new_faults told shifts = filter (is_new told shifts)
 

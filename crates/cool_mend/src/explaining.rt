@@ -76,7 +76,7 @@ fn of_faults(alloc: Global, files: &[Vec<u8>], faults: &[Fault]) -> Result<Expla
         → IfOk result (λ all. AllByRecursion (ArePlaced (length (bytes_of files.now))) all.after_fixes.items) }
 {
     let classes = class_table(alloc, files)?;
-    let mut budget = Budget::new();
+    let mut budget = Budget::new(files);
     let explanations = explanations(alloc, files, &classes, faults, &mut budget)?;
     let after_fixes = after_fixes(alloc, files, &explanations, budget)?;
     Ok(Explained {

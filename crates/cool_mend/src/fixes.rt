@@ -14,7 +14,12 @@ use crate::words::{mend_of, taken};
 use cool_faults::Fault;
 use std::alloc::{AllocError, Global};
 
-/// The most bytes that are tried for all faults of a call: of files, and of excerpts.
+/// The most bytes that are tried for all faults of a call, of files and of excerpts each: so many times the bytes of the files, but at least and at most these
+/// numbers of bytes.
+const TRIED_TIMES: usize = 64;
+
+const FEWEST_TRIED_BYTES: usize = 1_048_576;
+
 const MOST_TRIED_BYTES: usize = 8_388_608;
 
 /// The numbers of bytes that may still be tried.
@@ -25,11 +30,15 @@ pub(crate) struct Budget {
 }
 
 impl Budget {
-    /// The budget of a call.
-    pub(crate) fn new() -> Budget {
+    /// The budget of a call for these files.
+    pub(crate) fn new(files: &[Vec<u8>]) -> Budget {
+        let bytes = size_of(files)
+            .saturating_mul(TRIED_TIMES)
+            .max(FEWEST_TRIED_BYTES)
+            .min(MOST_TRIED_BYTES);
         Budget {
-            files: MOST_TRIED_BYTES,
-            excerpts: MOST_TRIED_BYTES,
+            files: bytes,
+            excerpts: bytes,
         }
     }
 }
@@ -53,8 +62,8 @@ pub(crate) fn fixes(
     tried(alloc, files, faults, number, found, left)
 }
 
-/// Those of the edits that mend the fault of this number in all of the files. If that is their only fault, an edit that leaves none goes before one that
-/// leaves another. Returns `Err` only if memory runs out.
+/// Those of the edits that mend the fault of this number in all of the files, and bring no other fault that the fault cannot have hidden. If that is their
+/// only fault, an edit that leaves none goes before one that leaves another. Returns `Err` only if memory runs out.
 fn tried(
     alloc: Global,
     files: &[Vec<u8>],
@@ -77,6 +86,9 @@ fn tried(
         }
         *left -= size;
         if let Some(rest) = mending(alloc, files, faults, number, &each.edit)? {
+            if rest >= faults.len() && !each.may_show_more {
+                continue;
+            }
             let is_good = rest == 0 || faults.len() > 1 || each.is_step;
             let mend = mend_of(alloc, files, each)?;
             if is_sure {

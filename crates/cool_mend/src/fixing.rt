@@ -48,11 +48,12 @@ pub(crate) fn make_fixes(
     Ok(Fixed { edits, files: all })
 }
 
-/// Whether an edit ends in front of the last of these.
+/// Whether an edit ends in front of the last of these, and is not the same insertion.
 fn is_in_front(edit: &Edit, edits: &[Edit]) -> bool {
     match edits.last() {
         Some(last) => {
-            edit.file < last.file || (edit.file == last.file && edit.end <= last.start)
+            let is_same = edit.start == last.start && edit.text.as_slice() == last.text.as_slice();
+            edit.file < last.file || (edit.file == last.file && edit.end <= last.start && !is_same)
         }
         None => true,
     }

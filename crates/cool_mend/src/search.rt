@@ -10,7 +10,7 @@ use crate::trial::{one_file_faults, text_fault};
 use cool_check::TypeFault;
 use cool_faults::Fault;
 use cool_guess::{
-    Candidate, Excerpt, Lexeme, Program, Reason, Source, beside_candidates, difference, index_at,
+    Candidate, Excerpt, Hint, Lexeme, Program, Range, Reason, Source, difference, index_at,
     is_advised, meaning_candidates, spliced, text_candidates,
 };
 use cool_lexer::LexKind;
@@ -38,6 +38,9 @@ const TRIALS_FOR_ALL: usize = 6000;
 /// The most edits that are found for a fault.
 const MOST_FOUND: usize = 8;
 
+/// The number of lexemes behind a feature that a parser must have passed if a brace was not just put in front of them.
+const FEWEST_BEHIND: usize = 4;
+
 /// The number of excerpts that are tried once an edit is found on which other features may depend.
 const MOST_MORE: usize = 40;
 
@@ -50,6 +53,8 @@ pub(crate) struct Found {
     pub(crate) elsewhere: bool,
     /// Whether the edit is the first of several that were found one after the other.
     pub(crate) is_step: bool,
+    /// Whether the fault may have hidden others: it is not one of typing, or the edit changes the body of a feature.
+    pub(crate) may_show_more: bool,
 }
 
 /// The files, and the number of trials that are left.
@@ -69,6 +74,13 @@ pub(crate) struct Search<'a> {
 struct Changed {
     text: Vec<u8>,
     reason: Reason,
+}
+
+/// An excerpt, and the faults that it has.
+#[derive(Drop)]
+struct Shown {
+    excerpt: Excerpt,
+    faults: Vec<Fault>,
 }
 
 /// The result of a round of trials.
@@ -141,26 +153,30 @@ struct Best {
     further: Option<Changed>,
     next: Option<Fault>,
     rest: usize,
+    /// The number of bytes of the excerpt behind the feature in which a fault of syntax stands, and the begin of the next one.
+    behind: usize,
 }
 
 impl Best {
-    /// No text yet, for an excerpt with these faults.
-    fn new(alloc: Global, excerpt: &Excerpt, base: &[Fault]) -> Best {
+    /// No text yet, for an excerpt that shows a spot.
+    fn new(alloc: Global, spot: Spot<'_>, shown: &Shown) -> Best {
+        let Shown { excerpt, faults } = shown;
         Best {
-            phase: reached(base),
-            many: base.len(),
+            phase: reached(faults),
+            many: faults.len(),
             ready: Vec::new(alloc),
             tree: None,
-            rank: rank_of(base),
+            rank: rank_of(faults),
             further: None,
             next: None,
-            rest: rest_of(&excerpt.text, base).saturating_sub(2),
+            rest: rest_of(&excerpt.text, faults).saturating_sub(2),
+            behind: bytes_behind(spot, excerpt),
         }
     }
 
-    /// Whether there is no text.
-    fn is_nothing(&self) -> bool {
-        self.ready.is_empty() && self.tree.is_none() && self.further.is_none()
+    /// Whether there is a text without the fault: one without faults in the excerpt, or one whose next fault of syntax stands behind the feature.
+    fn is_found(&self) -> bool {
+        !self.ready.is_empty() || (self.further.is_some() && self.rest <= self.behind)
     }
 }
 
@@ -263,54 +279,42 @@ impl<'a> Search<'a> {
             reason,
             elsewhere: spot.is_elsewhere(start) || spot.is_elsewhere(end),
             is_step,
+            may_show_more: !matches!(spot.fault, Fault::Typing(_)) || spot.here.is_in_body(start),
         })
     }
 
     /// Tries the candidates for a fault.
     fn round(&mut self, spot: Spot<'_>) -> Result<Round, AllocError> {
-        let (bytes, lexemes) = (spot.here.bytes, spot.here.lexemes.as_slice());
         let all = if spot.is_text() {
-            text_candidates(self.alloc, bytes, lexemes, spot.index)?
+            text_candidates(self.alloc, spot.here.bytes, &spot.here.lexemes, spot.index)?
         } else {
-            meaning_candidates(
-                self.alloc,
-                self.sources,
-                &spot.fault,
-                bytes,
-                lexemes,
-                spot.index,
-            )?
+            let program = self.program(spot);
+            meaning_candidates(self.alloc, program, &spot.fault, spot.index)?
         };
-        let excerpt = self.excerpt(spot, &all)?;
-        if !self.may_try(&excerpt.text) {
+        let Some(shown) = self.shown(spot, &all)? else {
             return Ok(Round::Nothing);
-        }
-        let base = one_file_faults(self.alloc, &excerpt.text)?;
-        let mut best = self.best(spot, &all, &excerpt, &base)?;
+        };
+        let best = self.best(spot, &all, &shown)?;
         if spot.is_text() {
             return self.judged_text(spot, best);
-        }
-        if best.is_nothing() {
-            let guesses = beside_candidates(self.alloc, &spot.fault, bytes, lexemes, spot.index)?;
-            best = self.best(spot, &guesses, &excerpt, &base)?;
         }
         judged_meaning(best)
     }
 
-    /// The best of the candidates in an excerpt that has these faults.
+    /// The best of the candidates in an excerpt.
     fn best(
         &mut self,
         spot: Spot<'_>,
         all: &[Candidate],
-        excerpt: &Excerpt,
-        base: &[Fault],
+        shown: &Shown,
     ) -> Result<Best, AllocError> {
+        let excerpt = &shown.excerpt;
         let is_closed = spot.is_closed();
-        let mut best = Best::new(self.alloc, excerpt, base);
+        let mut best = Best::new(self.alloc, spot, shown);
         let mut more = MOST_MORE;
         let mut place = None;
         for candidate in all {
-            if !best.ready.is_empty() {
+            if best.is_found() {
                 if more == 0 || is_elsewhere(candidate, place) {
                     return Ok(best);
                 }
@@ -334,8 +338,12 @@ impl<'a> Search<'a> {
                         return Ok(best);
                     }
                 }
-            } else if !is_closed && !candidate.is_guess {
+            } else if !is_closed && !must_mend_all(candidate) {
+                let was_found = best.is_found();
                 self.note(spot, excerpt, candidate, &text, &faults, &mut best)?;
+                if best.is_found() && !was_found {
+                    place = range_of(candidate);
+                }
             }
         }
         Ok(best)
@@ -405,31 +413,40 @@ impl<'a> Search<'a> {
         Ok(Round::Further(changed, fault))
     }
 
-    /// The excerpt for a fault, or all of the files if the excerpt has another fault.
-    fn excerpt(&mut self, spot: Spot<'_>, all: &[Candidate]) -> Result<Excerpt, AllocError> {
-        let program = Program {
+    /// The files with a spot's text in the place of one of them.
+    fn program<'s>(&self, spot: Spot<'s>) -> Program<'s>
+    where
+        'a: 's,
+    {
+        Program {
             sources: self.sources,
             number: spot.file as usize,
             here: spot.here,
-        };
-        let range = match spot.fault {
-            // A comment is not closed: its end may be missing anywhere behind it.
-            Fault::Lex(fault) if fault.kind == LexKind::L5 => {
-                return Excerpt::whole(self.alloc, program);
-            }
-            Fault::Lex(_) | Fault::Syntax(_) => spot.here.stretch_around(spot.at()),
-            Fault::Class(_) => spot.here.class_around(spot.at()),
-            _ => spot.here.feature_around(spot.at()),
-        };
-        let is_all = matches!(spot.fault, Fault::Class(_));
-        let excerpt = Excerpt::around(self.alloc, program, range, all, is_all)?;
-        if self.may_try(&excerpt.text) {
-            let found = one_file_faults(self.alloc, &excerpt.text)?;
-            if is_same(&excerpt, &found, spot) {
-                return Ok(excerpt);
+        }
+    }
+
+    /// The excerpt for a fault, or all of the files if the excerpt has another fault; none if no more may be tried.
+    fn shown(&mut self, spot: Spot<'_>, all: &[Candidate]) -> Result<Option<Shown>, AllocError> {
+        if let Some(range) = shown_range(spot) {
+            let is_all = matches!(spot.fault, Fault::Class(_));
+            let excerpt = Excerpt::around(self.alloc, self.program(spot), range, all, is_all)?;
+            if let Some(shown) = self.checked(excerpt)? {
+                if is_same(&shown.excerpt, &shown.faults, spot) {
+                    return Ok(Some(shown));
+                }
             }
         }
-        Excerpt::whole(self.alloc, program)
+        let whole = Excerpt::whole(self.alloc, self.program(spot))?;
+        self.checked(whole)
+    }
+
+    /// An excerpt with its faults; none if it may not be tried.
+    fn checked(&mut self, excerpt: Excerpt) -> Result<Option<Shown>, AllocError> {
+        if !self.may_try(&excerpt.text) {
+            return Ok(None);
+        }
+        let faults = one_file_faults(self.alloc, &excerpt.text)?;
+        Ok(Some(Shown { excerpt, faults }))
     }
 
     /// The text of a spot with a candidate.
@@ -476,6 +493,32 @@ fn judged_meaning(best: Best) -> Result<Round, AllocError> {
     }
 }
 
+/// The range that an excerpt shows as it is; none for a comment that is not closed, whose end may be missing anywhere behind it.
+fn shown_range(spot: Spot<'_>) -> Option<Range> {
+    match spot.fault {
+        Fault::Lex(fault) if fault.kind == LexKind::L5 => None,
+        Fault::Lex(_) | Fault::Syntax(_) => Some(spot.here.stretch_around(spot.at())),
+        Fault::Class(_) => Some(spot.here.class_around(spot.at())),
+        _ => Some(spot.here.feature_around(spot.at())),
+    }
+}
+
+/// The number of bytes of an excerpt behind the feature in which a spot's fault of lexemes or syntax stands and some lexemes of the next one; 0 for other
+/// faults, and where the excerpt does not show these.
+fn bytes_behind(spot: Spot<'_>, excerpt: &Excerpt) -> usize {
+    let end = spot.here.feature_around(spot.at()).end;
+    let next = index_at(&spot.here.lexemes, end).saturating_add(FEWEST_BEHIND);
+    match spot.here.lexemes.get(next) {
+        Some(lexeme) if spot.is_text() && spot.at() < end => {
+            match excerpt.place(lexeme.start, lexeme.start) {
+                Some(place) => excerpt.text.len().saturating_sub(place),
+                None => 0,
+            }
+        }
+        _ => 0,
+    }
+}
+
 /// Whether the first fault of an excerpt is that of a spot.
 fn is_same(excerpt: &Excerpt, found: &[Fault], spot: Spot<'_>) -> bool {
     let Some(first) = found.first() else {
@@ -498,6 +541,11 @@ fn is_within(here: &Source<'_>, candidate: &Candidate) -> bool {
         }
     }
     true
+}
+
+/// Whether a candidate is told only if no fault is left in the excerpt: a guess, or an exchange of two tokens.
+fn must_mend_all(candidate: &Candidate) -> bool {
+    candidate.is_guess || matches!(candidate.reason, Reason::Hinted(Hint::Exchanged))
 }
 
 /// The range in which a candidate changes bytes, if there is one alone.
