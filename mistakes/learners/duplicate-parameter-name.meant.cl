@@ -1,0 +1,10 @@
+class Segment {
+  length(from : Int, to : Int) : Int {
+    to - from
+  };
+};
+class Main inherits IO {
+  main() : Object {
+    let s : Segment <- new Segment in out_int(s.length(12, 40))
+  };
+};

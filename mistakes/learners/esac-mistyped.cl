@@ -1,0 +1,13 @@
+class Shape { };
+class Circle inherits Shape { };
+class Square inherits Shape { };
+class Main inherits IO {
+  describe(s : Shape) : String {
+    case s of
+      c : Circle => "round";
+      q : Square => "angular";
+      o : Shape => "unknown";
+    easc
+  };
+  main() : Object { out_string(describe(new Circle)) };
+};

@@ -1,0 +1,12 @@
+class Creature {
+  legs() : Int { 4 };
+  name() : String { "creature" };
+};
+class Spider inherits Creature {
+  legs() : Int { 8 };
+  name() : String { "spider" };
+};
+class Main inherits IO {
+  c : Creature <- new Spider;
+  main() : Object { { out_string(c.name()); out_int(c.legs()); } };
+};

@@ -1,0 +1,12 @@
+class Abs {
+  of_int(n : Int) : Int { n < 0 ? ~n : n };
+  distance(a : Int, b : Int) : Int { of_int(a - b) };
+};
+class Main inherits IO {
+  main() : Object {
+    {
+      out_int((new Abs).distance(3, 19));
+      out_string("\n");
+    }
+  };
+};
